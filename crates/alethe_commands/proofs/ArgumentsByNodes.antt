@@ -11,10 +11,11 @@ use Rattle.text_items.specs.Spelling.{is_list_item}
 use Rattle.text_items.specs.Stepping.{IsItemNode}
 use Rattle.text_items.proofs.ItemsAtLemmas.{items_are, first_and_others, no_items_are}
 use Rattle.text_items.proofs.ShapeLemmas.{list_is}
+use Rattle.term_model.proofs.Basics.{or_none}
 use Rattle.alethe_text.specs.Commands.{Argument, variable_alone, assigned, variable_fault, assigned_fault, argument_fault, each_argument_fault, assigned_to, argument_of, arguments_in}
 use Rattle.alethe_commands.specs.declared.arguments.AnchorArgument.{AnchorArgument}
 use Rattle.alethe_commands.specs.CommandNodes.{AreArgumentsAt, IsArgumentAt, HasFirstArgument}
-use Rattle.alethe_commands.proofs.ShapesByNodes.{argument_inside, argument_by, or_none}
+use Rattle.alethe_commands.proofs.ShapesByNodes.{argument_inside, argument_by}
 
 -- the argument by what stands in it
 abbrev argument_in : ℕ → Items → Argument

@@ -11,12 +11,12 @@ use Rattle.text_items.specs.ItemsAt.{ItemsView, end_at, item_at, items_at}
 use Rattle.text_items.specs.Keywords.{is_spelled, keyword_of, after_known, after_keyword, after_item, next_fault, wanted_fault, misplaced, at_end, is_value, symbols_fault}
 use Rattle.text_items.specs.Stepping.{EndBy}
 use Rattle.text_items.proofs.ItemsAtLemmas.{items_are, no_items_are, ends_behind, ends_inside, end_by_rest}
+use Rattle.term_model.proofs.Basics.{choice, or_none, unless_so}
 use Rattle.alethe_text.specs.Commands.{Attribute, rule, premises, arguments, discharge, names_in, step_keywords, attribute_of, attribute_with, attributes_of}
 use Rattle.alethe_commands.specs.declared.attributes.AttributeWord.{AttributeWord}
 use Rattle.alethe_commands.specs.CommandNodes.{AreAttributesAt, attribute_said, IsAttributeThere, HasFirstAttribute, LiesWithin}
 use Rattle.alethe_commands.specs.CommandShapes.{attribute_word, attribute_nodes, IsPassed}
 use Rattle.alethe_commands.specs.UsualAttributes.{wants}
-use Rattle.alethe_commands.proofs.ShapesByNodes.{or_none, choice, unless_so}
 
 -- the attribute of a word and its value
 abbrev attribute_with_word : AttributeWord → Item → Attribute

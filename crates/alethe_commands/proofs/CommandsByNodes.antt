@@ -1,4 +1,4 @@
--- The commands of a proof by their words, and by the nodes of their items.
+-- Cited by crates above. The commands of a proof by their words, and by the nodes of their items.
 use Rattle.std.proofs.Common.{◌≡◌, ℕ, ◌+◌, ◌<◌, ◌≤◌, ◌∙◌, Bool, true, false, ◌||◌, List, length, Option, Some, None, Result, Ok, Err, refl, sym, ap, arith}
 use Rattle.std.specs.Prelude.{⊤, if◌then◌else◌, codes, bytes_eq, nat_le, nat_lt, slice_get}
 use Rattle.std.proofs.lemmas.Bool.Decides.{nat_tests}
@@ -17,14 +17,14 @@ use Rattle.text_items.specs.Keywords.{Known, list_fault, earlier, is_value, at_e
 use Rattle.text_items.specs.Spelling.{is_list_item}
 use Rattle.text_items.specs.Stepping.{HasTaken, HasSecond, has_two, head_word}
 use Rattle.text_items.proofs.ItemsAtLemmas.{item_is, items_are, no_items_are, ends_inside, end_by_all}
+use Rattle.term_model.proofs.Basics.{choice, or_none}
 use Rattle.problem_text.specs.Commands.{refused}
 use Rattle.alethe_text.specs.Commands.{Command as Shape, step, shaped, step_keywords, clause_fault, behind_first, attributes_of, word_fault, each_argument_fault, arguments_fault, argument_items, step_shape, command_named, headed_command, command_of}
 use Rattle.alethe_commands.specs.declared.commands.CommandWord.{CommandWord}
 use Rattle.alethe_commands.specs.CommandNodes.{IsStepThere}
 use Rattle.alethe_commands.specs.CommandShapes.{without_fault, word_named, command_so, HasLiterals, HasArguments}
-use Rattle.alethe_commands.proofs.ShapesByNodes.{choice, or_none}
 
-turned : (a b : List ℕ) → bytes_eq a b ≡ bytes_eq b a
+pub turned : (a b : List ℕ) → bytes_eq a b ≡ bytes_eq b a
 turned a b = go (bytes_eq a b) (bytes_eq b a) refl refl
   where
     go : (p q : Bool) → bytes_eq a b ≡ p → bytes_eq b a ≡ q → bytes_eq a b ≡ bytes_eq b a

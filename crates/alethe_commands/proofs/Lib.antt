@@ -2,4 +2,4 @@ mod ShapesByNodes
 mod AttributesByNodes
 mod UsualAttributes
 mod ArgumentsByNodes
-mod CommandsByNodes
+pub mod CommandsByNodes

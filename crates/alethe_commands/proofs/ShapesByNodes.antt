@@ -1,7 +1,6 @@
 -- The shapes of commands by the nodes of their items.
 use Rattle.std.proofs.Common.{◌≡◌, ℕ, ◌+◌, ◌≢◌, Bool, true, false, Option, Some, None, is_some, if◌then◌else◌, refl, sym, ap, ◌∙◌, arith}
 use Rattle.std.specs.Prelude.{codes}
-use Rattle.std.specs.Option.{option_or}
 use Rattle.sexpr.specs.Items.{Item, word, quoted, string, list, Items, no_items, item, place_of, symbol_name}
 use Rattle.text_items.specs.declared.nodes.Node.{Node}
 use Rattle.text_items.specs.ItemShapes.{items_of}
@@ -12,20 +11,6 @@ use Rattle.text_items.specs.Stepping.{IsItemNode}
 use Rattle.text_items.proofs.ItemsAtLemmas.{no_items_are, first_and_others, end_by_rest}
 use Rattle.alethe_text.specs.Commands.{is_symbol_of, clause_fault, behind_first, assigned_fault, alone_fault, argument_fault}
 use Rattle.alethe_commands.specs.CommandShapes.{HasLiterals}
-
--- f of a choice, where each side is f of its own
-pub choice : {A B : Type 0} (f : A → B) (b : Bool) (x y : A) (u v : B) → u ≡ f x → v ≡ f y → (if b then u else v) ≡ f (if b then x else y)
-choice f true x y u v p q = p
-choice f false x y u v p q = q
-
--- places that are none
-pub or_none : {A : Type 0} (a b : Option A) → option_or a b ≡ None → (a ≡ None) × (b ≡ None)
-or_none None b e = (refl, e)
-or_none (Some x) b e = cc
-
-pub unless_so : (b : Bool) (place : ℕ) → (if b then None else Some place) ≡ None → b ≡ true
-unless_so true place e = refl
-unless_so false place e = cc
 
 -- the clause and the argument by what stands in them
 abbrev clause_inside : ℕ → Items → Option ℕ

@@ -1,5 +1,5 @@
 -- Attributes as most steps have them, a rule and at most one list behind it, have no fault.
-use Rattle.std.proofs.Common.{◌≡◌, ◌<◌, ◌≤◌, ℕ, ◌∙◌, Bool, true, false, not, cond, List, length, Option, Some, None, refl, sym, ap, subst}
+use Rattle.std.proofs.Common.{◌≡◌, ◌<◌, ◌≤◌, ℕ, ◌∙◌, Bool, true, false, cond, List, length, Option, Some, None, refl, sym, ap, subst}
 use Rattle.std.specs.Prelude.{codes, bytes_eq}
 use Rattle.std.proofs.lemmas.Slice.Eq.{bytes_eq-Decides}
 use Rattle.sexpr.specs.Items.{Item, Items, no_items, item}
@@ -68,10 +68,6 @@ rule_with_list place r v rest h l =
     subst (λ xs. attributes_fault step_keywords place (item r (item v xs)) ≡ None) (sym l.split)
     (with_list place r v l.keyword l.value l.word l.other (spelled (keyword_of r) AttributeWord.Rule h.word) (value_plain AttributeWord.Rule v h.fits) h.fits
     (spelled (keyword_of l.keyword) l.word l.is.word) (value_plain l.word l.value l.is.fits) l.is.fits)
-
-pub denied : (b : Bool) → not b ≡ true → b ≡ false
-denied true e = cc
-denied false e = refl
 
 -- the first two items by their nodes, and what stands behind them
 pub two_items : (items : ItemsView) (k m : ℕ) (first second : Node) → IsItemNode items k first → IsItemNode items first.next second → k < m → first.next < m → m ≤ length items.nodes

@@ -14,7 +14,7 @@ use Rattle.text_items.specs.Lexers.{GoesOnWith}
 use Rattle.text_items.specs.Nesting.{AreItsNodes}
 use Rattle.text_items.specs.Spelling.{is_list_item}
 use Rattle.text_items.specs.declared.nodes.Node.{Node}
-use Rattle.text_items.proofs.TokensLeft.{Begins, begins, not_faulty}
+use Rattle.text_items.proofs.TokensLeft.{Begins, begins, not_faulty, no_token}
 use Rattle.alethe_text.specs.Commands.{is_symbol_of}
 use Rattle.alethe_text.specs.ProofTexts.{behind_answer, unwrapped_commands, is_list_of_commands}
 use Rattle.alethe_items.specs.TextItems.{HasCommandItems, IsListEnd, IsFirst, behind_list}
@@ -26,13 +26,6 @@ no_fault text at in_list items behind r is h = not_faulty h.tokens r (subst (λ 
 -- another name for the text and the place
 pub moved : (text more : List ℕ) (at to : ℕ) {items : Items} → more ≡ text → to ≡ at → HasCommandItems text false at items no_items → HasCommandItems more false to items no_items
 moved text more at to {items} e f h = subst (λ (x : List ℕ). HasCommandItems x false to items no_items) (sym e) (subst (λ (n : ℕ). HasCommandItems text false n items no_items) (sym f) h)
-
--- no item begins without a token, nor with a closing bracket
-no_token : (text : List ℕ) (i : Item) (rest : List Token) → IsItem text [] i rest → ⊥
-no_token text (word place spelling) rest h = cc h.first
-no_token text (quoted place spelling) rest h = cc h.first
-no_token text (string place spelling) rest h = cc h.first
-no_token text (list place items) rest (open_bracket, inside, after, close_bracket, h, _, _, _) = cc h.first
 
 -- the kind of the first token of an item
 abbrev kind_of : Item → TokenKind

@@ -1,5 +1,5 @@
 -- Public. A proof's text that is being read, item by item: its commands stand by themselves or in one list.
-use Rattle.std.specs.Prelude.{◌≡◌, ℕ, Bool, true, false, if◌then◌else◌, List, [], length}
+use Rattle.std.specs.Prelude.{◌≡◌, ℕ, Bool, true, false, if◌then◌else◌, List, []}
 use Rattle.sexpr.specs.declared.lexing.Token.{Token}
 use Rattle.sexpr.specs.declared.lexing.TokenKind.TheVariants.{Close}
 use Rattle.sexpr.specs.Items.{Item, Items, no_items, item, IsBracket, AreItems}

@@ -19,6 +19,7 @@ use Rattle.alethe_text.specs.Ids.{assumes_seen, Standing, closes_scope}
 use Rattle.alethe_text.specs.ProofTerms.{place_in}
 use Rattle.alethe_text.specs.States.{ProofSettings, ProofState}
 use Rattle.alethe_text.specs.Steps as steps
+use Rattle.alethe_text.proofs.Formed.{none_of}
 use Rattle.term_reader.specs.ProblemViews.{IsReaderOf}
 use Rattle.alethe_reader.specs.declared.ids.Role.TheVariants as role
 use Rattle.alethe_reader.specs.declared.session.OpenAnchor.{OpenAnchor}
@@ -45,10 +46,6 @@ assumes_indices nesting (with_assume items id t) =
     ∙ ap (λ l. l ++ (first_index nesting + commands_in items) ∷ []) (assumes_indices nesting items)
 assumes_indices nesting (with_step items s) = assumes_indices nesting items
 assumes_indices nesting (with_subproof items bindings proof s) = assumes_indices nesting items
-
-none_of : (xs : List ℕ) → All (Contains []) xs → xs ≡ []
-none_of [] h = refl
-none_of (x ∷ xs) h = let none = h 0 x (omega arith) in absurd (omega (arith, none.1))
 
 no_pair : {A B : Type 0} (R : A → B → Type 0) (xs : List A) (ys : List B) → ys ≡ [] → AllZip R xs ys → xs ≡ []
 no_pair R [] ys e h = refl

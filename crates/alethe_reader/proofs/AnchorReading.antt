@@ -5,10 +5,12 @@ use Rattle.std.specs.List.{AllByRecursion, AllZip}
 use Rattle.std.proofs.lemmas.List.{map-append}
 use Rattle.std.proofs.lemmas.List.Elements.{All-from_recursion}
 use Rattle.std.proofs.lemmas.List.Kept.{AllPairs-cons}
+use Rattle.std.proofs.lemmas.Bool.{or_parts}
 use Rattle.sexpr.specs.declared.causes.Cause.TheVariants.{Repeated}
 use Rattle.sexpr.specs.declared.causes.Refusal.{Refusal}
 use Rattle.sym_table.specs.Table.{Table}
 use Rattle.term_model.specs.Terms.{Var, Term}
+use Rattle.term_model.proofs.Zips.{zip_append}
 use Rattle.term_pool.specs.Views.{TermsView, KeepsTerms}
 use Rattle.rule_model.specs.RuleNames.{IsSymbolName}
 use Rattle.rule_model.specs.Scopes.{Nesting, outermost, inside, Scope, next_scope}
@@ -16,6 +18,7 @@ use Rattle.rule_model.specs.Visibility.{open_bindings}
 use Rattle.rule_model.specs.WellFormed.{MayOpen}
 use Rattle.rule_model.specs.Writing.{open_anchor}
 use Rattle.term_pool.specs.Bindings.{IsBindingOf}
+use Rattle.term_pool.proofs.Keeping.{terms-refl}
 use Rattle.proof_store.specs.Meaning.{no_items_stand}
 use Rattle.proof_store.specs.Steps.{anchor_with}
 use Rattle.text_items.specs.ItemShapes.{Name}
@@ -27,8 +30,7 @@ use Rattle.term_names.specs.Standing.{AddsNoSymbols}
 use Rattle.term_names.specs.declared.faults.ReadFault.{ReadFault}
 use Rattle.term_reader.specs.ProblemViews.{ReaderView, IsReaderOf}
 use Rattle.term_reader.proofs.Coming.{answers, refuses, no_memory, same_outcome}
-use Rattle.term_reader.proofs.Staying.{adds_none, keeps_none}
-use Rattle.alethe_text.proofs.Lists.{or_parts}
+use Rattle.term_reader.proofs.Staying.{adds_none}
 use Rattle.alethe_text.specs.Anchors.{bound_names, arguments_read, with_anchor, anchor_read}
 use Rattle.alethe_text.specs.Commands.{Argument}
 use Rattle.alethe_text.specs.Ids.{id_judged}
@@ -49,7 +51,6 @@ use Rattle.alethe_reader.specs.Judging.{is_named}
 use Rattle.alethe_reader.specs.Opening.{AreFresh, AreArgumentsRead, entered}
 use Rattle.alethe_reader.specs.Sessions.{StandForNesting, starts, counts, IsProofSession, IsWritten, StandsAfter}
 use Rattle.alethe_reader.proofs.Answering.{stops, goes}
-use Rattle.alethe_reader.proofs.BoundLemmas.{zip_joined}
 use Rattle.alethe_reader.proofs.IdsInUse.{ids_open, unused_new}
 use Rattle.alethe_reader.proofs.OpenedNames.{among_joined, fresh_apart, unbound_leaf}
 use Rattle.alethe_reader.proofs.ScopeReading.{reader_inside}
@@ -64,7 +65,7 @@ module _ (s : Table) (v : TermsView) where
   open_stand outermost (inside around before anchor) h = absurd h
   open_stand (inside around before anchor) outermost h = absurd h
   open_stand (inside around before anchor) (inside outer behind other) h =
-      zip_joined (IsBindingOf s v) (open_bindings around) anchor.bindings (open_bindings outer) other.bindings (open_stand around outer h.0) h.3
+      zip_append (IsBindingOf s v) (open_bindings around) (open_bindings outer) anchor.bindings other.bindings (open_stand around outer h.0) h.3
 
   unbound_leaves : (n : Nesting ℕ ℕ) (m : Nesting Var Term) → StandForNesting (both s v) n m → (bs : List (ℕ × ℕ)) (cs : List (Var × Term)) → AllZip (IsBindingOf s v) bs cs
       → AllByRecursion (λ c. is_among (bound_names m) c.0.name ≡ false) cs → AllByRecursion (λ x. ¬ Contains (map (λ b. b.0) (open_bindings n)) x) (map (λ b. b.0) bs)
@@ -127,7 +128,7 @@ module _ {s : Table} {v : TermsView} {settings : ProofSettings} {e : Session} {p
       h = read settings p session.reader session.written.bound
 
       pub no_room : {N : ⊤ → ⊤ → ProofState → Type 0} → AnswersAs v (both z w) N (anchor_read settings place n others p) (Err ReadFault.Memory)
-      no_room = same_outcome (judged (Ok tt) new_id) (goes opened keeps_opened h (adds_none z).keeps (keeps_none w) (λ bs q k. no_memory refl))
+      no_room = same_outcome (judged (Ok tt) new_id) (goes opened keeps_opened h (adds_none z).keeps (terms-refl w) (λ bs q k. no_memory refl))
 
       module _ (table : AddsNoSymbols s z) (terms : KeepsTerms v w) (slice : List (ℕ × ℕ)) (sliced : slice ≡ b.opened.items) where
         before : IsWritten (both z w) e p
@@ -159,7 +160,7 @@ module _ {s : Table} {v : TermsView} {settings : ProofSettings} {e : Session} {p
             → AnswersAs v (both z w) (StandsAfter (both z w) settings d) (anchor_read settings place n others p) (Ok tt)
         is_opened d ids variables number ids_are variables_are enters building numbering using anchors bound =
             same_outcome (judged (Ok tt) new_id)
-            (goes opened keeps_opened h (adds_none z).keeps (keeps_none w) (λ bs q k. answers tt (with_anchor place n.name bs q) refl refl (record { session = after bs q k })))
+            (goes opened keeps_opened h (adds_none z).keeps (terms-refl w) (λ bs q k. answers tt (with_anchor place n.name bs q) refl refl (record { session = after bs q k })))
           where
             built : d.builder ≡ open_anchor e.builder (anchor_with n.name b.opened.items)
             built = rw (sym name, sym sliced) building

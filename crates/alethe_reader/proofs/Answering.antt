@@ -1,15 +1,15 @@
--- Cited by crates above. Answers of one part of the reader after another.
+-- Answers of one part of the reader after another.
 use Rattle.std.proofs.Common.{◌≡◌, Result, Ok, Err, refl, ap, subst}
 use Rattle.sym_table.specs.Table.{Table, Keeps}
 use Rattle.term_pool.specs.Views.{TermsView, KeepsTerms}
 use Rattle.problem_text.specs.Outcomes.{Outcome, and_then}
 use Rattle.term_expansion.specs.SymbolsAndTerms.{both}
-use Rattle.term_names.specs.Making.{PlacesCellsOf}
+use Rattle.term_pool.specs.Placing.{PlacesCellsOf}
+use Rattle.term_pool.proofs.PlacedCells.{places_then, places_more}
 use Rattle.term_names.specs.declared.faults.ReadFault.{ReadFault}
 use Rattle.term_reader.specs.Reading.{Comes}
 use Rattle.term_reader.proofs.Coming as coming
 use Rattle.term_reader.proofs.Coming.{IsPartOf, part_then, same_outcome}
-use Rattle.term_reader.proofs.Staying.{places_more, places_then}
 use Rattle.alethe_text.specs.States.{ProofState, Reading}
 use Rattle.alethe_reader.specs.Answers.{terms_in, WasRead, AnswersAs}
 use Rattle.alethe_reader.specs.KeptReads.{KeepsRead}

@@ -1,22 +1,23 @@
 -- The arguments of an anchor, one after another.
-use Rattle.std.proofs.Common.{◌≡◌, ◌<◌, ℕ, List, [], ◌∷◌, ◌++◌, map, length, Option, Some, None, Ok, Err, refl, sym, ap, subst, ◌∙◌}
+use Rattle.std.proofs.Common.{◌≡◌, ◌<◌, ℕ, List, [], ◌∷◌, ◌++◌, map, length, None, Ok, Err, refl, sym, ap, subst, ◌∙◌}
 use Rattle.std.specs.List.{AllZip}
-use Rattle.std.specs.Option.{option_or}
 use Rattle.std.proofs.lemmas.List.{append_assoc, append-nil}
 use Rattle.sym_table.specs.Table.{Table}
 use Rattle.term_model.specs.Terms.{Var, Term}
+use Rattle.term_model.proofs.Basics.{or_none}
 use Rattle.term_pool.specs.Views.{TermsView, KeepsTerms}
 use Rattle.term_pool.specs.Bindings.{IsBindingOf}
 use Rattle.text_items.specs.ItemsAt.{ItemsView, end_at, item_at, items_at}
 use Rattle.text_items.proofs.ItemsAtLemmas.{items_are}
 use Rattle.problem_text.specs.Outcomes.{Outcome, done, and_then}
 use Rattle.problem_text.specs.Words.{is_among}
-use Rattle.term_names.specs.Making.{PlacesCellsOf}
+use Rattle.term_pool.specs.Placing.{PlacesCellsOf}
+use Rattle.term_pool.proofs.PlacedCells.{places_none}
 use Rattle.term_names.specs.Standing.{AddsNoSymbols}
 use Rattle.term_names.specs.declared.faults.ReadFault.{ReadFault}
 use Rattle.term_reader.specs.ProblemViews.{ReaderView, IsReaderOf}
 use Rattle.term_reader.proofs.Coming.{IsPartOf}
-use Rattle.term_reader.proofs.Staying.{adds_then, places_none}
+use Rattle.term_reader.proofs.Staying.{adds_then}
 use Rattle.alethe_commands.specs.CommandNodes.{AreArgumentsAt}
 use Rattle.alethe_text.specs.Anchors.{bound_names, argument_read, arguments_read}
 use Rattle.alethe_text.specs.Commands.{Argument, argument_fault, each_argument_fault, argument_of, arguments_in}
@@ -33,10 +34,6 @@ use Rattle.alethe_reader.proofs.LeftToRead.{and_then_then, and_then_same, and_th
 use Rattle.alethe_reader.proofs.StillRead.{keeps_give, keeps_then as keeps_both}
 use Rattle.alethe_reader.proofs.StillReadCommands.{keeps_each_argument}
 use Rattle.term_expansion.specs.SymbolsAndTerms.{both}
-
-or_none : (a b : Option ℕ) → option_or a b ≡ None → (a ≡ None) × (b ≡ None)
-or_none None b e = (refl, e)
-or_none (Some a) b e = absurd (cc)
 
 -- the first of the arguments that are left, and the others
 module _ (items : ItemsView) (k : ℕ) (h : AreArgumentsAt items k (length items.nodes)) (less : k < length items.nodes) where

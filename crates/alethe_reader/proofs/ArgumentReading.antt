@@ -16,6 +16,8 @@ use Rattle.rule_model.specs.Contexts.{put_in_each, images}
 use Rattle.rule_model.specs.Judged.{open_anchors}
 use Rattle.rule_model.specs.Scopes.{Nesting}
 use Rattle.term_pool.specs.Bindings.{IsBindingOf}
+use Rattle.term_pool.proofs.Keeping.{keeps-refl, terms-refl}
+use Rattle.term_pool.proofs.PlacedCells.{places_none, places_then}
 use Rattle.text_items.specs.ItemShapes.{Name}
 use Rattle.problem_text.specs.Names.{Place}
 use Rattle.problem_text.specs.Outcomes.{Outcome, and_then}
@@ -30,7 +32,7 @@ use Rattle.term_names.specs.Standing.{AddsNoSymbols}
 use Rattle.term_names.specs.declared.faults.ReadFault.{ReadFault}
 use Rattle.term_reader.specs.ProblemViews.{ReaderView, IsReaderOf, ReadsValue}
 use Rattle.term_reader.proofs.Coming.{answers_more, same_outcome}
-use Rattle.term_reader.proofs.Staying.{adds_none, adds_then, keeps_none, refers_stays, places_none, places_then, pass_keeps_none}
+use Rattle.term_reader.proofs.Staying.{adds_none, adds_then, refers_stays}
 use Rattle.term_reader.proofs.ViewsStay.{reader_stays}
 use Rattle.alethe_text.specs.Anchors.{bound_names, sort_given, image_of, script_changed, argument_read}
 use Rattle.alethe_text.specs.Commands.{Argument, variable_alone, assigned}
@@ -60,13 +62,13 @@ pub ends_so : {A T U : Type 0} {s z : Table} {v w : TermsView} {M : T → A → 
     → ((a : A) (p : ProofState) → M t a p → N u a p) → AnswersAs v (both z w) N o (Ok u)
 ends_so {A} {T} {U} {s} {z} {v} {w} {M} N {o} {t} u keeps h more = record {
   answer = record { value = h.answer.value; state = h.answer.state; is = h.answer.is; after = more h.answer.value h.answer.state h.answer.after };
-  placed = places_then s z v.pass w.pass w.pass (WasRead o) keeps (pass_keeps_none w.pass) h.placed (places_none z w.pass w.pass (WasRead o) refl);
+  placed = places_then s z v.pass w.pass w.pass (WasRead o) keeps (keeps-refl w.pass) h.placed (places_none z w.pass w.pass (WasRead o) refl);
 }
 
 pub lacks_memory : {A T U : Type 0} {s z : Table} {v w : TermsView} {M : T → A → ProofState → Type 0} (N : U → A → ProofState → Type 0) {o : Outcome ProofState A} {t : T} → Keeps s z → AnswersAs v (both s w) M o (Ok t) → AnswersAs v (both z w) N o (Err ReadFault.Memory)
 lacks_memory {A} {T} {U} {s} {z} {v} {w} {M} N {o} {t} keeps h = record {
   answer = tt;
-  placed = places_then s z v.pass w.pass w.pass (WasRead o) keeps (pass_keeps_none w.pass) h.placed (places_none z w.pass w.pass (WasRead o) refl);
+  placed = places_then s z v.pass w.pass w.pass (WasRead o) keeps (keeps-refl w.pass) h.placed (places_none z w.pass w.pass (WasRead o) refl);
 }
 
 -- the name
@@ -193,8 +195,8 @@ module _ (s z y : Table) (v w : TermsView) (settings : ProofSettings) (earlier :
       joined : (b : Var × Term) (q : ProofState) → IsVariableRead z w settings t name c p image b q → IsOpening (both y w) settings t e (b.0.name ∷ earlier) (bs ++ b ∷ []) q
       joined b q k =
           opens_more s y v w settings (adds_then s z y symbols added) terms earlier bs p q d e r t opening k.same b n leaf c.term image
-          (reader_stays z y w w added (keeps_none w) t q.script (place_in settings p.scope.nesting) k.reader) (k.named ∙ sym same) free (leaf_is b (k.named ∙ sym same) k.sort)
-          (refers_stays z y w w added.keeps (keeps_none w) c.term b.1 k.term) (refers_stays z y w w added.keeps (keeps_none w) image (image_of p.scope.nesting b.1) k.image_there)
+          (reader_stays z y w w added (terms-refl w) t q.script (place_in settings p.scope.nesting) k.reader) (k.named ∙ sym same) free (leaf_is b (k.named ∙ sym same) k.sort)
+          (refers_stays z y w w added.keeps (terms-refl w) c.term b.1 k.term) (refers_stays z y w w added.keeps (terms-refl w) image (image_of p.scope.nesting b.1) k.image_there)
           names images opened
 
 -- how many images there are around the anchor

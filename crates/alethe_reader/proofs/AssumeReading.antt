@@ -7,6 +7,7 @@ use Rattle.sexpr.specs.Items.{Item}
 use Rattle.sym_table.specs.Table.{Table, Keeps}
 use Rattle.term_model.specs.Terms.{Term}
 use Rattle.term_pool.specs.Views.{TermsView, KeepsTerms}
+use Rattle.term_pool.proofs.Keeping.{terms-refl}
 use Rattle.rule_model.specs.Scopes.{next_index}
 use Rattle.rule_model.specs.Writing.{add_assume}
 use Rattle.proof_store.specs.Meaning.{assume_stands}
@@ -14,7 +15,7 @@ use Rattle.text_items.specs.ItemShapes.{Name}
 use Rattle.problem_text.specs.Outcomes.{Outcome, given, and_then}
 use Rattle.term_names.specs.declared.faults.ReadFault.{ReadFault}
 use Rattle.term_reader.proofs.Coming.{answers, refuses, no_memory, same_outcome}
-use Rattle.term_reader.proofs.Staying.{adds_none, keeps_none}
+use Rattle.term_reader.proofs.Staying.{adds_none}
 use Rattle.alethe_text.specs.Ids.{id_judged}
 use Rattle.alethe_text.specs.ProofTerms.{formula_in}
 use Rattle.alethe_text.specs.States.{ProofSettings, ProofState, Reading, ◌>>=◌, changed}
@@ -61,7 +62,7 @@ module _ (settings : ProofSettings) (n : Name) (i : Item) (p : ProofState) where
 
     module _ (z : Table) (v w : TermsView) (d : Session) (c : ℕ) (h : AnswersAs v (both z w) (IsReadFormula (both z w) settings p.scope.nesting d.reader p) (formula_in settings p.scope.nesting i p) (Ok c)) where
       pub no_room : (e : Session) → AnswersAs v (both z w) (StandsAfter (both z w) settings e) (assume_read settings n i p) (Err ReadFault.Memory)
-      no_room e = same_outcome (judged (Ok tt) new_id) (goes assumed keeps_assumed h (adds_none z).keeps (keeps_none w) (λ t q k. no_memory refl))
+      no_room e = same_outcome (judged (Ok tt) new_id) (goes assumed keeps_assumed h (adds_none z).keeps (terms-refl w) (λ t q k. no_memory refl))
 
       -- the assume is added, and its id put in use
       pub is_assumed : (s : Table) (e : Session) → IsProofSession (both s v) settings e p → Keeps s z → KeepsTerms v w
@@ -70,7 +71,7 @@ module _ (settings : ProofSettings) (n : Name) (i : Item) (p : ProofState) where
           → AnswersAs v (both z w) (StandsAfter (both z w) settings d) (assume_read settings n i p) (Ok tt)
       is_assumed s e session table terms built used anchors bound =
           same_outcome (judged (Ok tt) new_id)
-          (goes assumed keeps_assumed h (adds_none z).keeps (keeps_none w) (λ t q k. answers tt (record q { scope = add_assume q.scope n.name t }) refl refl (record { session = after t q k })))
+          (goes assumed keeps_assumed h (adds_none z).keeps (terms-refl w) (λ t q k. answers tt (record q { scope = add_assume q.scope n.name t }) refl refl (record { session = after t q k })))
         where
           before : IsWritten (both z w) e p
           before = written_stays s z v w table terms e p session.written

@@ -8,6 +8,8 @@ use Rattle.sexpr.specs.Items.{Items}
 use Rattle.sym_table.specs.Table.{Table, Keeps}
 use Rattle.term_model.specs.Terms.{Term}
 use Rattle.term_pool.specs.Views.{TermsView, KeepsTerms}
+use Rattle.term_pool.proofs.Keeping.{terms-refl}
+use Rattle.term_pool.proofs.PlacedCells.{places_none}
 use Rattle.rule_model.specs.Proofs.{Step, Fraction}
 use Rattle.rule_model.specs.RuleNames.{left_out_rules}
 use Rattle.rule_model.specs.declared.rules.Rule.{Rule}
@@ -17,12 +19,12 @@ use Rattle.proof_store.specs.Ratios.{fraction_of_ratio}
 use Rattle.text_items.specs.ItemShapes.{Name}
 use Rattle.problem_text.specs.Outcomes.{Outcome, done, going_on, and_then}
 use Rattle.problem_text.specs.Words.{is_among}
-use Rattle.term_names.specs.Making.{PlacesCellsOf}
+use Rattle.term_pool.specs.Placing.{PlacesCellsOf}
 use Rattle.term_names.specs.Standing.{AddsNoSymbols}
 use Rattle.term_names.specs.declared.faults.ReadFault.{ReadFault}
 use Rattle.term_reader.specs.ProblemViews.{ReaderView, IsReaderOf}
 use Rattle.term_reader.proofs.Coming.{IsPartOf, answers, refuses, no_memory, same_outcome}
-use Rattle.term_reader.proofs.Staying.{adds_none, adds_then, keeps_none, places_none}
+use Rattle.term_reader.proofs.Staying.{adds_none, adds_then}
 use Rattle.alethe_commands.specs.CommandNodes.{LiesWithin}
 use Rattle.alethe_commands.specs.declared.attributes.StepAttribute.{StepAttribute}
 use Rattle.alethe_text.specs.Arguments.{takes_coefficients, takes_pivots, named_among, pivots_from, arguments_from}
@@ -152,7 +154,7 @@ module _ {s : Table} {v : TermsView} {settings : ProofSettings} {at : text.Stand
         unfolding ◌>>=◌
         pivots_answer {z} {w} takes (Ok _) h listed others has ratios =
             same_outcome (by_pivots true takes)
-            (goes put (λ of. keeps_give (record before { pivots = unwrap_or of [] })) h (adds_none z).keeps (keeps_none w)
+            (goes put (λ of. keeps_give (record before { pivots = unwrap_or of [] })) h (adds_none z).keeps (terms-refl w)
             (λ of q k. answers (record before { pivots = unwrap_or of [] }) q refl refl (record {
               parts = record { premises = rw listed parts.premises; discharged = rw others parts.discharged; pivots = k.stand; ratios = rw (has, ratios) parts.ratios };
               id = refl;
@@ -169,7 +171,7 @@ module _ {s : Table} {v : TermsView} {settings : ProofSettings} {at : text.Stand
         unfolding ◌>>=◌
         names_answer {z} {w} takes (Ok _) h table terms still =
             same_outcome (by_pivots false takes)
-            (goes (λ _. give before) (λ _. keeps_give before) h (adds_none z).keeps (keeps_none w)
+            (goes (λ _. give before) (λ _. keeps_give before) h (adds_none z).keeps (terms-refl w)
             (λ t q k. answers before q refl refl (record { parts = rw still (parts_stay s z v w table terms d.parts before parts); id = refl; rule = refl; rule_name = refl; clause = refl; behind = k.behind })))
         names_answer {z} {w} takes (Err fault) h table terms still = same_outcome (by_pivots false takes) (stops (λ _. give before) (λ _. keeps_give before) h)
 

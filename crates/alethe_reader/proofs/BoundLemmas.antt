@@ -1,4 +1,4 @@
--- Cited by crates above. The names and the images of the variables that open anchors bind.
+-- The names and the images of the variables that open anchors bind.
 use Rattle.std.proofs.Common.{◌≡◌, ◌≤◌, ◌+◌, ◌-◌, ℕ, zero, suc, List, [], ◌∷◌, ◌++◌, map, length, take, slice_get, Bool, true, false, ◌||◌, Option, Some, None, is_some, refl, sym, ap, subst, ◌∙◌, arith}
 use Rattle.std.specs.Str.{bytes_eq}
 use Rattle.std.specs.List.{AllZip}
@@ -53,12 +53,6 @@ found_among us name (Some f) h = sym (used_among us name f.place _ h.here refl)
 
 -- lists in step
 module _ {A B : Type 0} (R : A → B → Type 0) where
-  pub zip_joined : (xs us : List A) (ys vs : List B) → AllZip R xs ys → AllZip R us vs → AllZip R (xs ++ us) (ys ++ vs)
-  zip_joined [] us [] vs h k = k
-  zip_joined [] us (y ∷ ys) vs h k = absurd h
-  zip_joined (x ∷ xs) us [] vs h k = absurd h
-  zip_joined (x ∷ xs) us (y ∷ ys) vs h k = (h.0, zip_joined xs us ys vs h.1 k)
-
   pub zip_front : (xs : List A) (ys vs : List B) (n : ℕ) → n ≡ length ys → AllZip R xs (ys ++ vs) → AllZip R (take n xs) ys
   zip_front xs ys vs n e h = subst (λ k. AllZip R (take k xs) ys) (sym e) (go xs ys h)
     where

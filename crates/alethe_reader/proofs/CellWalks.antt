@@ -4,7 +4,7 @@ use Rattle.std.proofs.lemmas.List.Elements.{Contains-push, Contains-push_cases, 
 use Rattle.pair_pool.specs.Trees.{Tree, leaf, cell}
 use Rattle.pair_pool.specs.Views.{PassView, Knows, IsKnown, IsOneToOne, HasPartsOfTrees}
 use Rattle.term_pool.specs.Views.{IsKnownCell}
-use Rattle.contexts.proofs.References.{cell_of}
+use Rattle.term_pool.proofs.Depth.{is_cell}
 use Rattle.alethe_reader.specs.NeededImages.{HasLeavesAmong, IsMet}
 
 -- a reference of the tree was met or is left
@@ -31,7 +31,7 @@ module _ (p : PassView) (r : ℕ) (met rest : List ℕ) (q : ℕ) (h : IsWalk p 
   walked_to = h.known q (Contains-push rest q)
 
   pub walked_cell : HasPartsOfTrees p → 2 ^ 30 ≤ q → IsKnownCell p q
-  walked_cell parts high = cell_of p parts q walked_to.tree walked_to.stands high
+  walked_cell parts high = is_cell p parts q walked_to.tree walked_to.stands high
 
   module _ (new left : List ℕ) (more_met : (x : ℕ) → Contains met x → Contains new x) (more_left : (x : ℕ) → Contains rest x → Contains left x) (now : Contains new q) where
     moved : (x : ℕ) → Contains met x ⊎ Contains (rest ++ q ∷ []) x → Contains new x ⊎ Contains left x

@@ -1,11 +1,14 @@
 -- Ids in use by the numbers of their names.
-use Rattle.std.proofs.Common.{◌≡◌, ◌≢◌, ◌⊎◌, inl, inr, ℕ, zero, suc, ◌+◌, ◌<◌, List, [], ◌∷◌, ◌++◌, length, take, set, position, slice_get, slice_index_or, get_or, Option, Some, None, option_map, refl, sym, ◌∙◌, ap, subst, arith}
+use Rattle.std.proofs.Common.{◌≡◌, ◌≢◌, inl, inr, ℕ, zero, suc, ◌+◌, ◌<◌, List, [], ◌∷◌, ◌++◌, length, take, set, position, slice_get, slice_index_or, get_or, Option, Some, None, option_map, refl, sym, ◌∙◌, ap, subst, arith}
 use Rattle.std.specs.Str.{bytes_eq}
 use Rattle.std.proofs.lemmas.List.{length-set, length_push, get_or_append_left, get_or-set_same, get_or-set_other}
 use Rattle.std.proofs.lemmas.Option.{slice_get-map, slice_get_within, slice_get-get_or, get_or_from_slice_get}
 use Rattle.term_names.specs.NameNumbers.{IsNumbered}
 use Rattle.name_set.specs.Names.{StandOnce}
-use Rattle.term_names.proofs.HeldVariables.{at_place}
+use Rattle.name_set.proofs.Positions.{slice_get-push_cases}
+use Rattle.sym_table.proofs.Places.{position-there}
+use Rattle.term_model.proofs.Lists.{slice_get-left}
+use Rattle.rule_model.proofs.Standing.{slice_get_taken}
 use Rattle.alethe_reader.specs.declared.ids.Held.{Held}
 use Rattle.alethe_reader.specs.declared.ids.Found.{Found}
 use Rattle.alethe_reader.specs.Ids.{Used, IsUnused, IsUsedAt, IsIdFound}
@@ -55,7 +58,7 @@ module _ (names : List (List ℕ)) (latest : List ℕ) (held : List Held) (id : 
 
   pub latest_read : (n place : ℕ) → position (bytes_eq id) names ≡ Some n → place ≡ get_or latest n place → slice_get latest n ≡ Some place
   latest_read n place numbered e =
-      read_at latest n place (subst (λ m. n < m) inv.one_each (slice_get_within names n id (at_place names n id numbered))) e
+      read_at latest n place (subst (λ m. n < m) inv.one_each (slice_get_within names n id (position-there names id n numbered))) e
 
   same_name : (f : Found) (n : ℕ) (h : Held) → position (bytes_eq id) names ≡ Some n → slice_get latest n ≡ Some f.place → slice_get held f.place ≡ Some h → h.name ≡ n → f.role ≡ h.role → f.number ≡ h.number → IsUsedAt (used names held) id f
   same_name f n h numbered at there equal role number = record {
@@ -67,7 +70,7 @@ module _ (names : List (List ℕ)) (latest : List ℕ) (held : List Held) (id : 
   }
     where
       name : slice_index_or names h.name [] ≡ id
-      name = ap (λ m. slice_index_or names m []) equal ∙ get_or_from_slice_get names n id [] (at_place names n id numbered)
+      name = ap (λ m. slice_index_or names m []) equal ∙ get_or_from_slice_get names n id [] (position-there names id n numbered)
 
       whole : used_by names h ≡ record { id = id; role = f.role; number = f.number }
       whole = let e = name in let g = role in let i = number in cc
@@ -82,25 +85,12 @@ module _ (names : List (List ℕ)) (latest : List ℕ) (held : List Held) (id : 
   held_found n place (Some f) numbered at h =
       same_name f n (record { name = n; role = f.role; number = f.number }) numbered (at ∙ ap Some (sym h.0)) (ap (slice_get held) h.0 ∙ h.1) refl refl refl
 
--- leaving: the first of the ids in use stay
-slice_get_taken : {X : Type 0} (n : ℕ) (xs : List X) (k : ℕ) (x : X) → slice_get (take n xs) k ≡ Some x → slice_get xs k ≡ Some x
-slice_get_taken zero xs k x e = absurd (cc)
-slice_get_taken (suc n) [] k x e = absurd (cc)
-slice_get_taken (suc n) (y ∷ xs) zero x e = e
-slice_get_taken (suc n) (y ∷ xs) (suc k) x e = slice_get_taken n xs k x e
-
 pub latest_taken : (names : List (List ℕ)) (latest : List ℕ) (held : List Held) (n : ℕ) → IsLatest names latest held → IsLatest names latest (take n held)
 latest_taken names latest held n h = record {
   one_each = h.one_each;
   within = λ k x e. h.within k x (slice_get_taken n held k x e);
   places = λ k x e. h.places k x (slice_get_taken n held k x e);
 }
-
--- a name gets a number, and what is held stays
-slice_get_wider : {X : Type 0} (xs ys : List X) (k : ℕ) (x : X) → slice_get xs k ≡ Some x → slice_get (xs ++ ys) k ≡ Some x
-slice_get_wider [] ys k x e = absurd (cc)
-slice_get_wider (y ∷ xs) ys zero x e = e
-slice_get_wider (y ∷ xs) ys (suc k) x e = slice_get_wider xs ys k x e
 
 pub latest_numbered : (names more : List (List ℕ)) (latest more_latest : List ℕ) (held : List Held) (id : List ℕ) (n : ℕ) → IsNumbered names more latest more_latest id n → IsLatest names latest held → IsLatest more more_latest held
 latest_numbered names more latest more_latest held id n new h = elim new.others [ inl a ↦ same a.0 a.1 | inr a ↦ longer a.0 a.1 ]
@@ -112,7 +102,7 @@ latest_numbered names more latest more_latest held id n new h = elim new.others 
     longer a b = rw (a, b) (record {
       one_each = length_push names id ∙ ap (λ m. m + 1) h.one_each ∙ sym (length_push latest 0);
       within = λ k x e. (let l = h.within k x e in omega (arith, l, length_push names id));
-      places = λ k x e. slice_get_wider latest (0 ∷ []) x.name k (h.places k x e);
+      places = λ k x e. slice_get-left latest (0 ∷ []) x.name k (h.places k x e);
     })
 
 used_wider : (names : List (List ℕ)) (id : List ℕ) (held : List Held) → ((k : ℕ) (h : Held) → slice_get held k ≡ Some h → h.name < length names) → used (names ++ id ∷ []) held ≡ used names held
@@ -127,16 +117,6 @@ used_numbered names more latest more_latest held id n new h = elim new.others [
   | inl a ↦ ap (λ ns. used ns held) a.0
   | inr a ↦ ap (λ ns. used ns held) a.0 ∙ used_wider names id held h.within
 ]
-
--- what stands in a list with one more behind
-pushed_place : {X : Type 0} (xs : List X) (x : X) (k : ℕ) (y : X) → slice_get (xs ++ x ∷ []) k ≡ Some y → (slice_get xs k ≡ Some y) ⊎ ((k ≡ length xs) × (x ≡ y))
-pushed_place [] x zero y e = inr (refl, inside e)
-  where
-    inside : {X : Type 0} {a b : X} → Some a ≡ Some b → a ≡ b
-    inside e = cc
-pushed_place [] x (suc k) y e = absurd (cc)
-pushed_place (z ∷ xs) x zero y e = inl e
-pushed_place (z ∷ xs) x (suc k) y e = elim (pushed_place xs x k y e) [ inl a ↦ inl a | inr a ↦ inr (ap suc a.0, a.1) ]
 
 slice_get_set_same : (xs : List ℕ) (n v : ℕ) → n < length xs → slice_get (set xs n v) n ≡ Some v
 slice_get_set_same [] n v h = absurd (omega (arith, h))
@@ -154,8 +134,8 @@ slice_get_set_other (x ∷ xs) (suc n) (suc m) v h = slice_get_set_other xs n m 
 pub latest_pushed : (names : List (List ℕ)) (latest : List ℕ) (held : List Held) (h : Held) (id : List ℕ) → IsLatest names latest held → slice_get names h.name ≡ Some id → IsUnused (used names held) id → IsLatest names (set latest h.name (length held)) (held ++ h ∷ [])
 latest_pushed names latest held h id inv numbered unused = record {
   one_each = inv.one_each ∙ sym (length-set latest h.name (length held));
-  within = λ k x e. elim (pushed_place held h k x e) [ inl a ↦ inv.within k x a | inr a ↦ subst (λ (y : Held). y.name < length names) a.1 named ];
-  places = λ k x e. elim (pushed_place held h k x e) [
+  within = λ k x e. elim (slice_get-push_cases held h k x e) [ inl a ↦ inv.within k x a | inr a ↦ subst (λ (y : Held). y.name < length names) a.1 named ];
+  places = λ k x e. elim (slice_get-push_cases held h k x e) [
     | inl a ↦ slice_get_set_other latest h.name x.name (length held) (λ same. differs k x a same) ∙ inv.places k x a
     | inr a ↦ subst (λ (y : Held). slice_get (set latest h.name (length held)) y.name ≡ Some k) a.1 (slice_get_set_same latest h.name (length held) (subst (λ n. h.name < n) inv.one_each named) ∙ ap Some (sym a.0))
   ];

@@ -1,10 +1,11 @@
--- Cited by crates above. The ids in use are those of the visible commands and of the open anchors.
+-- The ids in use are those of the visible commands and of the open anchors.
 use Rattle.std.proofs.Common.{◌≡◌, ◌≢◌, ◌<◌, ◌≤◌, ◌+◌, ◌-◌, ℕ, zero, suc, List, [], ◌∷◌, ◌++◌, map, length, take, slice_index_or, Contains, Bool, true, false, ◌||◌, Option, Some, None, option_map, cond, find, slice_get, refl, sym, ◌∙◌, ap, subst, arith}
 use Rattle.std.specs.Str.{bytes_eq}
 use Rattle.std.proofs.Math.Seq.{take-append_seam}
 use Rattle.std.proofs.lemmas.List.{append_assoc, append-nil, map-append}
 use Rattle.std.proofs.lemmas.Option.{slice_get-map}
 use Rattle.std.proofs.lemmas.Slice.Eq.{bytes_eq-Decides}
+use Rattle.sym_table.proofs.Lists.{slice_get-right}
 use Rattle.rule_model.specs.Proofs.{Step as ProofStep, ProofItems, no_items, with_assume, with_step, with_subproof}
 use Rattle.rule_model.specs.Scopes.{Anchor as ProofAnchor, Nesting, outermost, inside, Scope, at, first_index, scope_number, commands_in, next_index, next_scope}
 use Rattle.rule_model.specs.Visibility.{Sight, sight, direct, seen_around, seen, open_ids}
@@ -163,14 +164,6 @@ at_seen (u ∷ us) id role number (suc place) h = go u.role (at_seen us id role 
 pub found_seen : (us : List Used) (id : List ℕ) (f : Found) → IsUsedAt us id f → find (λ c. bytes_eq c.id id) (sights_of us) ≡ sight_at f.role f.number id
 found_seen us id f h = at_seen us id f.role f.number f.place (record { here = h.here; alone = h.alone })
 
--- what stands behind some items, at its place there
-behind : {X : Type 0} (xs ys : List X) (k : ℕ) → slice_get (xs ++ ys) (length xs + k) ≡ slice_get ys k
-behind [] ys k = let e : 0 + k ≡ k = omega arith in ap (slice_get ys) e
-behind (x ∷ xs) ys k = ap (slice_get (x ∷ (xs ++ ys))) (moved (length xs) k) ∙ behind xs ys k
-  where
-    moved : (n k : ℕ) → suc n + k ≡ suc (n + k)
-    moved n k = omega arith
-
 -- An id in use as one of which only assumes are commands.
 record StandsHidden (us : List Used) (k : ℕ) (v : Used) : Type 0 where
   pub u : Used
@@ -221,12 +214,12 @@ module _ {V T : Type 0} where
   -- an id that is not in use is that of no assume in the scope, and so is one that was in use where the scope was opened
   pub none_discharged : (scope : Scope V T) (id : List ℕ) → IsUnused (ids_in scope) id → find (λ c. bytes_eq c.id id) (assumes_seen scope.nesting scope.items) ≡ None
   none_discharged scope id h =
-      own_unused scope id (λ k u e. h (length (ids_around scope.nesting) + k) u (behind (ids_around scope.nesting) (own_ids scope.nesting scope.items) k ∙ e))
+      own_unused scope id (λ k u e. h (length (ids_around scope.nesting) + k) u (slice_get-right (ids_around scope.nesting) (own_ids scope.nesting scope.items) k ∙ e))
 
   pub outer_discharged : (scope : Scope V T) (id : List ℕ) (f : Found) → IsUsedAt (ids_in scope) id f → f.place < length (ids_around scope.nesting) → find (λ c. bytes_eq c.id id) (assumes_seen scope.nesting scope.items) ≡ None
   outer_discharged scope id f h before =
       own_unused scope id (λ k u e same.
-      let place = h.alone (length (ids_around scope.nesting) + k) u (behind (ids_around scope.nesting) (own_ids scope.nesting scope.items) k ∙ e) same in
+      let place = h.alone (length (ids_around scope.nesting) + k) u (slice_get-right (ids_around scope.nesting) (own_ids scope.nesting scope.items) k ∙ e) same in
       absurd (omega (arith, before, place)))
 
   -- one that was put in use in the scope is that of the assume with its number, where it is that of an assume
@@ -235,10 +228,10 @@ module _ {V T : Type 0} where
       let n = length (ids_around scope.nesting) in
       let own = own_ids scope.nesting scope.items in
       let place : n + (f.place - n) ≡ f.place = omega (arith, inside_it) in
-      let here : slice_get own (f.place - n) ≡ Some (in_use id f.role f.number) = sym (behind (ids_around scope.nesting) own (f.place - n)) ∙ (ap (slice_get (ids_in scope)) place ∙ h.here) in
+      let here : slice_get own (f.place - n) ≡ Some (in_use id f.role f.number) = sym (slice_get-right (ids_around scope.nesting) own (f.place - n)) ∙ (ap (slice_get (ids_in scope)) place ∙ h.here) in
       let there : IsAt own id f.role f.number (f.place - n) = record {
         here = here;
-        alone = λ k u e same. (let p = h.alone (n + k) u (behind (ids_around scope.nesting) own k ∙ e) same in omega (arith, p));
+        alone = λ k u e same. (let p = h.alone (n + k) u (slice_get-right (ids_around scope.nesting) own k ∙ e) same in omega (arith, p));
       } in
       subst (λ cs. find (λ c. bytes_eq c.id id) cs ≡ sight_at (hidden f.role) f.number id) (own_assumes scope.nesting scope.items)
       (at_seen (map hide own) id (hidden f.role) f.number (f.place - n) (at_hidden own id f.role f.number (f.place - n) there))

@@ -1,13 +1,14 @@
 -- The image of a variable, once its term was read.
-use Rattle.std.proofs.Common.{◌≡◌, ◌≤◌, ◌<◌, arith, ℕ, zero, suc, nat_le, Bool, true, false, List, [], ◌∷◌, ◌++◌, map, slice_get, Option, Some, take, inl, inr, Ok, Err, refl, sym, ap, subst, ◌∙◌}
+use Rattle.std.proofs.Common.{◌≡◌, ◌≤◌, ◌<◌, arith, ℕ, zero, suc, nat_le, Bool, true, false, List, [], ◌∷◌, ◌++◌, map, slice_get, Option, Some, take, Ok, Err, refl, sym, ap, subst, ◌∙◌}
 use Rattle.std.specs.List.{AllZip}
 use Rattle.std.specs.Option.{option_map}
 use Rattle.std.proofs.lemmas.Bool.{lt-leb, le-leb}
 use Rattle.std.proofs.lemmas.List.Elements.{Contains-push}
-use Rattle.pair_pool.specs.Views.{PassView, IsUnchanged}
+use Rattle.pair_pool.specs.Views.{IsUnchanged}
 use Rattle.sexpr.specs.declared.causes.Cause.TheVariants.{SortMismatch, TooHigh}
 use Rattle.sexpr.specs.declared.causes.Refusal.{Refusal}
 use Rattle.sym_table.specs.Table.{Table, IsTable}
+use Rattle.sym_table.proofs.Tables.{keeps_table}
 use Rattle.term_model.specs.declared.symbols.Sort.{Sort}
 use Rattle.term_model.specs.Terms.{Var, Term}
 use Rattle.term_pool.specs.Views.{TermsView, RefersTo, KeepsTerms}
@@ -18,7 +19,8 @@ use Rattle.rule_model.specs.Scopes.{Nesting}
 use Rattle.rule_model.specs.Substitution.{put_in}
 use Rattle.term_pool.specs.Bindings.{IsBindingOf}
 use Rattle.contexts.specs.PutIn.{StandForReplacement, AreReplacementBy}
-use Rattle.term_pool.specs.Placing.{PlacesTerm, LacksRoomFor}
+use Rattle.term_pool.specs.Placing.{PlacesTerm, LacksRoomFor, PlacesCellsOf}
+use Rattle.term_pool.proofs.PlacedCells.{places_none, places_then, places_of_term, lacks_for_term}
 use Rattle.problem_text.specs.Limits.{most_height}
 use Rattle.problem_text.specs.Outcomes.{Outcome, done}
 use Rattle.problem_text.specs.Scripts.{with_term}
@@ -27,9 +29,7 @@ use Rattle.term_expansion.specs.SymbolsAndTerms.{both}
 use Rattle.term_expansion.specs.Values.{IsValue}
 use Rattle.term_expansion.specs.declared.values.Value.{Value}
 use Rattle.term_names.specs.Faults.{fault_of}
-use Rattle.term_names.specs.Making.{PlacesCellsOf, LacksCellOf}
 use Rattle.term_names.specs.declared.faults.ReadFault.{ReadFault}
-use Rattle.term_reader.proofs.Staying.{places_none, places_then, table_keeps_none}
 use Rattle.alethe_text.specs.Anchors.{bound_names, image_of, script_changed}
 use Rattle.alethe_text.specs.States.{ProofState, ◌>>=◌, give, demand}
 use Rattle.alethe_reader.specs.Answers.{WasRead, AnswersAs}
@@ -87,13 +87,6 @@ image_high h t e high = lt-leb (height t) most_height (omega (arith, e, high))
 pub image_low : (h : ℕ) (t : Term) → h ≡ height t → h ≤ most_height → nat_le (height t) most_height ≡ true
 image_low h t e low = le-leb (height t) most_height (omega (arith, e, low))
 
-pub places_of : (s : Table) (old new : PassView) (t : Term) (P : Term → Type 0) → P t → PlacesTerm s old new t → PlacesCellsOf s old new P
-places_of s old new t P wanted h r a b e =
-    elim (h.placed r a b e) [ inl x ↦ inl x | inr y ↦ inr (record { whole = t; wanted = wanted; tree = h.tree; stands = h.stands; cell = y }) ]
-
-pub lacks_of : (s : Table) (new : PassView) (t : Term) (P : Term → Type 0) → P t → LacksRoomFor s new t → LacksCellOf s new P
-lacks_of s new t P wanted h = record { whole = t; wanted = wanted; tree = h.tree; stands = h.stands; full = h.full }
-
 module _ (place : ℕ) (name : List ℕ) (wanted : Option Sort) (nesting : Nesting Var Term) (t : Typed) where
   pub keeps_image : KeepsRead (image_read place name wanted nesting t)
   unfolding image_read
@@ -145,16 +138,16 @@ module _ (place : ℕ) (name : List ℕ) (wanted : Option Sort) (nesting : Nesti
 
       module _ (s : Table) (v w : TermsView) (placed : PlacesTerm s v.pass w.pass image) where
         cells_of : PlacesCellsOf s v.pass w.pass (WasRead (image_read place name wanted nesting t q))
-        cells_of = places_of s v.pass w.pass image (WasRead (image_read place name wanted nesting t q)) image_was_read placed
+        cells_of = places_of_term s v.pass w.pass (WasRead (image_read place name wanted nesting t q)) image image_was_read placed
 
         pub no_image : (stop : TermStop) → (stop ≡ TermStop.PoolFull → LacksRoomFor s w.pass image) → AnswersAs v (both s w) (IsImageRead (both s w) name nesting t q) (image_read place name wanted nesting t q) (Err (fault_of stop))
-        no_image TermStop.PoolFull full = record { answer = lacks_of s w.pass image (WasRead (image_read place name wanted nesting t q)) image_was_read (full refl); placed = cells_of }
+        no_image TermStop.PoolFull full = record { answer = lacks_for_term s w.pass (WasRead (image_read place name wanted nesting t q)) image image_was_read (full refl); placed = cells_of }
         no_image TermStop.Memory full = record { answer = tt; placed = cells_of }
 
         module _ (x : TermsView) (keeps : KeepsTerms w x) (unchanged : IsUnchanged w.pass x.pass) where
           cells_still : PlacesCellsOf s v.pass x.pass (WasRead (image_read place name wanted nesting t q))
           cells_still =
-              places_then s s v.pass w.pass x.pass (WasRead (image_read place name wanted nesting t q)) (table_keeps_none s) keeps.pass cells_of
+              places_then s s v.pass w.pass x.pass (WasRead (image_read place name wanted nesting t q)) (keeps_table s) keeps.pass cells_of
               (places_none s w.pass x.pass (WasRead (image_read place name wanted nesting t q)) unchanged.placed)
 
           pub no_height : AnswersAs v (both s x) (IsImageRead (both s x) name nesting t q) (image_read place name wanted nesting t q) (Err ReadFault.Memory)

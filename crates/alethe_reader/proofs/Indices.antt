@@ -1,7 +1,6 @@
 -- Names of commands, one after another.
-use Rattle.std.proofs.Common.{◌≡◌, ◌<◌, ◌≤◌, ℕ, List, [], ◌∷◌, ◌++◌, length, Option, None, Ok, Err, find, refl, sym, ◌∙◌, ap, arith}
+use Rattle.std.proofs.Common.{◌≡◌, ◌<◌, ◌≤◌, ℕ, List, [], ◌∷◌, ◌++◌, length, Option, Ok, Err, find, refl, sym, ◌∙◌, ap, arith}
 use Rattle.std.specs.Prelude.{bytes_eq}
-use Rattle.std.specs.Option.{option_or}
 use Rattle.std.proofs.lemmas.List.{append_assoc, append-nil}
 use Rattle.sexpr.specs.declared.causes.Cause.TheVariants.{NoStep}
 use Rattle.sexpr.specs.declared.causes.Refusal.{Refusal}
@@ -12,6 +11,7 @@ use Rattle.text_items.specs.ItemsAt.{ItemsView, end_at, items_at}
 use Rattle.text_items.specs.Keywords.{symbols_fault}
 use Rattle.text_items.specs.Stepping.{IsItemNode, IsSymbolAt, name_in}
 use Rattle.text_items.proofs.ItemsAtLemmas.{items_are, no_items_are, first_and_others}
+use Rattle.term_model.proofs.Basics.{or_none}
 use Rattle.problem_text.specs.Outcomes.{Outcome, done, and_then}
 use Rattle.alethe_commands.specs.CommandNodes.{AreSymbolsAt}
 use Rattle.alethe_text.specs.Commands.{names_in}
@@ -20,17 +20,13 @@ use Rattle.alethe_text.specs.States.{ProofState, Reading, ◌>>=◌, give, found
 use Rattle.alethe_reader.specs.Reach.{IsIndex}
 use Rattle.alethe_reader.proofs.LeftToRead.{and_then_then, and_then_same, and_then_give}
 
-no_faults : (one others : Option ℕ) → option_or one others ≡ None → (one ≡ None) × (others ≡ None)
-no_faults None others h = (cc, h)
-no_faults (Option.Some place) others h = absurd (cc)
-
 module _ (items : ItemsView) (k end : ℕ) (less : k < end) (are : AreSymbolsAt items k end) where
   pub symbol_here : IsSymbolAt items k
-  symbol_here = record { inside = omega (arith, less, are.inside); symbol = (no_faults _ _ (sym (ap symbols_fault (items_are items k end less are.inside)) ∙ are.symbols)).0 }
+  symbol_here = record { inside = omega (arith, less, are.inside); symbol = (or_none _ _ (sym (ap symbols_fault (items_are items k end less are.inside)) ∙ are.symbols)).0 }
 
   -- symbols stand behind the first one
   pub other_symbols : (node : Node) → IsItemNode items k node → AreSymbolsAt items node.next end
-  other_symbols node read = record { inside = are.inside; symbols = (no_faults _ _ (sym (ap symbols_fault (first_and_others items k end node read less are.inside)) ∙ are.symbols)).1 }
+  other_symbols node read = record { inside = are.inside; symbols = (or_none _ _ (sym (ap symbols_fault (first_and_others items k end node read less are.inside)) ∙ are.symbols)).1 }
 
 module _ (sights : List Sight) (p : ProofState) where
   -- these indices, and then those of the names that are left

@@ -21,6 +21,7 @@ use Rattle.alethe_reader.specs.IdsInUse.{in_use, ids_in, sight_at}
 use Rattle.alethe_reader.specs.IdSights.{anchor_id_of, anchor_ids_of}
 use Rattle.alethe_reader.specs.Judging.{cause_of}
 use Rattle.alethe_reader.proofs.IdsInUse.{found_seen, unseen, not_open, sights_seen, anchors_open}
+use Rattle.alethe_commands.proofs.CommandsByNodes.{turned}
 
 -- the role is that of an anchor, or of a command
 abbrev pub is_anchor : Role → Bool
@@ -37,13 +38,6 @@ other_bytes a b h = go (bytes_eq a b) refl
     go : (c : Bool) → bytes_eq a b ≡ c → c ≡ false
     go true e = absurd (h ((bytes_eq-Decides a b).0 e))
     go false e = refl
-
-turned : (a b : List ℕ) → bytes_eq a b ≡ bytes_eq b a
-turned a b = go (bytes_eq b a) refl
-  where
-    go : (c : Bool) → bytes_eq b a ≡ c → bytes_eq a b ≡ c
-    go true e = subst (λ x. bytes_eq a x ≡ true) (sym ((bytes_eq-Decides b a).0 e)) (same_bytes a)
-    go false e = other_bytes a b (λ f. absurd (let g = subst (λ x. bytes_eq x a ≡ false) (sym f) e in let h = same_bytes a in cc))
 
 -- the id is that of an open anchor exactly where it stands with the role of one
 open_at : (us : List Used) (id : List ℕ) (role : Role) (number place : ℕ) → slice_get us place ≡ Some (in_use id role number) → ((k : ℕ) (u : Used) → slice_get us k ≡ Some u → u.id ≡ id → k ≡ place)

@@ -6,8 +6,8 @@ use Rattle.std.proofs.lemmas.Slice.Eq.{bytes_eq-Decides}
 use Rattle.sexpr.specs.declared.causes.Cause.TheVariants.{Repeated, BadAnchor}
 use Rattle.sexpr.specs.declared.causes.Refusal.{Refusal}
 use Rattle.sym_table.specs.Words.{IsBuiltIn, built_in_words}
+use Rattle.term_model.proofs.Lists.{contains_head, contains_later}
 use Rattle.problem_text.specs.Words.{is_among, is_built_in}
-use Rattle.alethe_text.proofs.Lists.{contains_first, contains_later}
 use Rattle.alethe_reader.specs.Opening.{IsNameJudged}
 
 contains_among : (names : List (List ℕ)) (name : List ℕ) → Contains names name → is_among names name ≡ true
@@ -24,7 +24,7 @@ among_contains [] name e = absurd (cc)
 among_contains (x ∷ names) name e = go (bytes_eq name x) refl e (among_contains names name)
   where
     go : (b : Bool) → bytes_eq name x ≡ b → (b || is_among names name) ≡ true → (is_among names name ≡ true → Contains names name) → Contains (x ∷ names) name
-    go true f g k = subst (λ y. Contains (y ∷ names) name) ((bytes_eq-Decides name x).0 f) (contains_first name names)
+    go true f g k = subst (λ y. Contains (y ∷ names) name) ((bytes_eq-Decides name x).0 f) (contains_head name names)
     go false f g k = contains_later x name names (k g)
 
 pub built_is : (r : Bool) (name : List ℕ) → (IsTrue r ↔ IsBuiltIn name) → is_built_in name ≡ r

@@ -5,16 +5,18 @@ use Rattle.sexpr.specs.declared.causes.Refusal.{Refusal}
 use Rattle.sexpr.specs.Items.{Items, no_items}
 use Rattle.sym_table.specs.Table.{Table}
 use Rattle.term_pool.specs.Views.{TermsView, KeepsTerms}
+use Rattle.term_pool.proofs.Keeping.{terms-refl, terms-trans}
+use Rattle.term_pool.proofs.PlacedCells.{places_none}
 use Rattle.text_items.specs.declared.nodes.Node.{Node}
 use Rattle.text_items.specs.ItemsAt.{ItemsView, items_at}
 use Rattle.text_items.specs.Stepping.{EndBy, IsItemNode}
 use Rattle.text_items.proofs.ItemsAtLemmas.{no_items_are}
 use Rattle.problem_text.specs.Outcomes.{Outcome, done, going_on, and_then}
-use Rattle.term_names.specs.Making.{PlacesCellsOf}
+use Rattle.term_pool.specs.Placing.{PlacesCellsOf}
 use Rattle.term_names.specs.Standing.{AddsNoSymbols}
 use Rattle.term_names.specs.declared.faults.ReadFault.{ReadFault}
 use Rattle.term_reader.proofs.Coming.{IsPartOf}
-use Rattle.term_reader.proofs.Staying.{adds_none, adds_then, keeps_none, keeps_then, places_none}
+use Rattle.term_reader.proofs.Staying.{adds_none, adds_then}
 use Rattle.alethe_text.specs.States.{ProofState, Reading, give}
 use Rattle.alethe_reader.specs.Answers.{terms_in, WasRead, AnswersAs}
 use Rattle.alethe_reader.specs.KeptReads.{KeepsRead}
@@ -96,7 +98,7 @@ module _ {A B : Type 0} {s : Table} {old v : TermsView} {rest : Items → B → 
     }
 
 -- one call after another
-pub ruleset one_by_one = (adds_then, keeps_then)
+pub ruleset one_by_one = (adds_then, terms-trans)
 
 -- The nodes from the first on were gone over up to node k, and to the end at most; each leaf that was added has one of its own.
 pub record GoneOver (s z : Table) (v w : TermsView) (first k end : ℕ) : Type 0 where
@@ -107,7 +109,7 @@ pub record GoneOver (s z : Table) (v w : TermsView) (first k end : ℕ) : Type 0
   pub keeps : KeepsTerms v w
 
 pub none_gone : (s : Table) (v : TermsView) (first end : ℕ) → GoneOver s s v v first first end
-none_gone s v first end = record { ordered = omega arith; within = omega arith; spent = omega arith; adds = adds_none s; keeps = keeps_none v }
+none_gone s v first end = record { ordered = omega arith; within = omega arith; spent = omega arith; adds = adds_none s; keeps = terms-refl v }
 
 pub more_gone : {s y z : Table} {u v w : TermsView} {first k m end : ℕ} → GoneOver s y u v first k end → AddsNoSymbols y z → KeepsTerms v w → k < m → m ≤ end → length z.leaves ≤ length y.leaves + (m - k)
     → GoneOver s z u w first m end
@@ -116,7 +118,7 @@ more_gone h adds keeps later within spent = record {
   within = omega (arith, h.ordered);
   spent = omega (arith, h.ordered, h.spent);
   adds = adds_then _ _ _ h.adds adds;
-  keeps = keeps_then _ _ _ h.keeps keeps;
+  keeps = terms-trans _ _ _ h.keeps keeps;
 }
 
 -- an item of those that are gone over ends where they end at most

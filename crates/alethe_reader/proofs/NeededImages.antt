@@ -13,6 +13,8 @@ use Rattle.sym_table.specs.Table.{Table, IsLeaf, LeafMeets, IsTable}
 use Rattle.term_model.specs.FreeVariables.{IsFree}
 use Rattle.term_model.specs.Terms.{Var, var_eq, Term}
 use Rattle.term_model.proofs.Tests.{var_eq_decides}
+use Rattle.term_model.proofs.Lists.{contains_head, contains_later, get_taken}
+use Rattle.term_model.proofs.Basics.{same_some}
 use Rattle.term_pool.specs.Heights.{is_let_head}
 use Rattle.term_pool.specs.StandsFor.{variable_leaf, StandsFor}
 use Rattle.term_pool.specs.Views.{TermsView, RefersTo}
@@ -21,11 +23,11 @@ use Rattle.rule_model.specs.Substitution.{put_in, Replaces}
 use Rattle.rule_model.proofs.Substituting.{term_at-none, put_in_agrees, put_in_nothing}
 use Rattle.rule_model.proofs.Standing.{slice_get_taken}
 use Rattle.term_pool.specs.Bindings.{IsBindingOf}
-use Rattle.alethe_text.proofs.Lists.{contains_first, contains_later}
 use Rattle.contexts.specs.FreeLeaves.{IsFreeLeaf, IsFreeInLet, IsFreeInValues, IsFreeInValue}
-use Rattle.contexts.proofs.Links.{one_variable, free_is}
+use Rattle.contexts.proofs.Links.{free_is}
 use Rattle.contexts.specs.PutIn.{StandForReplacement}
 use Rattle.term_pool.specs.Placing.{PlacesTerm}
+use Rattle.term_pool.proofs.Leaves.{one_variable}
 use Rattle.contexts.specs.Shapes.{Either}
 use Rattle.alethe_reader.specs.Ids.{Used, IsUnused, IsUsedAt}
 use Rattle.alethe_reader.specs.declared.ids.Found.{Found}
@@ -59,9 +61,6 @@ mutual
 pub leaf_of_free : (s : Table) → IsTable s → (leaves : List ℕ) (k : ℕ) (x : Var) (t : Term) (tree : Tree) → IsLeaf s k (variable_leaf x) → StandsFor s tree t → HasLeavesAmong leaves tree → IsFree x t → Contains leaves k
 leaf_of_free s table leaves k x t tree here stands h free = free_among leaves k tree h ((free_is s table k x here t tree stands).1 free)
 
-some_same : {X : Type 0} {x y : X} → Some x ≡ Some y → x ≡ y
-some_same e = cc
-
 -- the leaves of a tree
 abbrev leaves_of : Tree → List ℕ
 leaves_of (leaf k) = k ∷ []
@@ -72,7 +71,7 @@ among_more leaves more wider (leaf k) h = wider k h
 among_more leaves more wider (cell s t) h = (among_more leaves more wider s h.0, among_more leaves more wider t h.1)
 
 among_own : (t : Tree) → HasLeavesAmong (leaves_of t) t
-among_own (leaf k) = contains_first k []
+among_own (leaf k) = contains_head k []
 among_own (cell s t) = (
   among_more (leaves_of s) (leaves_of s ++ leaves_of t) (λ k h. Contains-append_left (leaves_of s) (leaves_of t) k h) s (among_own s),
   among_more (leaves_of t) (leaves_of s ++ leaves_of t) (λ k h. Contains-append_right (leaves_of s) (leaves_of t) k h) t (among_own t),
@@ -127,7 +126,7 @@ module _ (s : Table) (names : List (List ℕ)) (images : List (ℕ × ℕ)) wher
       where
         one_image : (l i n : ℕ) (x : Var) → IsLeaf s l (variable_leaf x) → slice_get names n ≡ Some x.name → slice_get images n ≡ Some (l, i) → get_or leaves at d ≡ l → ◌≡◌ {A = ℕ × ℕ} (get_or leaves at d, image) (l, i)
         one_image l i n x is named here same =
-            some_same (sym found.here ∙ (ap (slice_get images) (sym (found.alone x (subst (λ j. IsLeaf s j (variable_leaf x)) (sym same) is) n named)) ∙ here))
+            same_some (sym found.here ∙ (ap (slice_get images) (sym (found.alone x (subst (λ j. IsLeaf s j (variable_leaf x)) (sym same) is) n named)) ∙ here))
 
         go : (l : ℕ) (x : Var) → IsLeaf s l (variable_leaf x) → (n i : ℕ) → slice_get names n ≡ Some x.name → slice_get images n ≡ Some (l, i) → Contains (take at leaves) l ⊎ (get_or leaves at d ≡ l) → Contains (needed ++ (get_or leaves at d, image) ∷ []) (l, i)
         go l x is n i named here (inl before) = Contains-append_left needed ((get_or leaves at d, image) ∷ []) (l, i) (h.all l before x is n i named here)
@@ -148,7 +147,7 @@ only_replaced (b ∷ q) c there alone = go (var_eq b.0 c.0) refl (λ k. only_rep
     later e (suc k, below, here) = (k, omega (arith, below), here)
 
     go : (t : Bool) → var_eq b.0 c.0 ≡ t → (Contains q c → replaced_by q c.0 ≡ c.1) → cond t b.1 (replaced_by q c.0) ≡ c.1
-    go true e others = ap (λ (d : Var × Term). d.1) (alone b (contains_first b q) ((var_eq_decides b.0 c.0).0 e))
+    go true e others = ap (λ (d : Var × Term). d.1) (alone b (contains_head b q) ((var_eq_decides b.0 c.0).0 e))
     go false e others = others (later e there)
 
 -- Some of the bindings put in the same for a variable, where they have its binding.
@@ -157,7 +156,7 @@ subset_agrees q [] each x has = sym (term_at-none q x has)
 subset_agrees q (c ∷ bs) each x has = go (var_eq c.0 x) refl (λ k. subset_agrees q bs (λ d i. each d (contains_later c d bs i)) x k)
   where
     first : IsOnly q c
-    first = each c (contains_first c bs)
+    first = each c (contains_head c bs)
 
     later : var_eq c.0 x ≡ false → (c.0 ≡ x) ⊎ Replaces bs x → Replaces bs x
     later e (inl same) = absurd (let f = (var_eq_decides c.0 x).1 same in cc)
@@ -176,7 +175,7 @@ module _ (s : Table) (v : TermsView) where
   zipped_at : (bs : List (ℕ × ℕ)) (q : Replacement) → AllZip (IsBindingOf s v) bs q → (k : ℕ) (b : ℕ × ℕ) → slice_get bs k ≡ Some b → (c : Var × Term) × (slice_get q k ≡ Some c) × IsBindingOf s v b c
   zipped_at [] q h k b e = absurd (cc)
   zipped_at (a ∷ bs) [] h k b e = absurd h
-  zipped_at (a ∷ bs) (c ∷ q) h zero b e = (c, refl, subst (λ d. IsBindingOf s v d c) (some_same e) h.0)
+  zipped_at (a ∷ bs) (c ∷ q) h zero b e = (c, refl, subst (λ d. IsBindingOf s v d c) (same_some e) h.0)
   zipped_at (a ∷ bs) (c ∷ q) h (suc k) b e = zipped_at bs q h.1 k b e
 
   zipped_replaces : (bs : List (ℕ × ℕ)) (q : Replacement) → AllZip (IsBindingOf s v) bs q → (x : Var) → Replaces q x → (k : ℕ) × (b : ℕ × ℕ) × (c : Var × Term) × (slice_get bs k ≡ Some b) × (slice_get q k ≡ Some c) × (c.0 ≡ x) × IsLeaf s b.0 (variable_leaf x)
@@ -201,13 +200,13 @@ module _ (s : Table) (v : TermsView) (names : List (List ℕ)) (images : List (�
     where
       alone : (c : Var × Term) → slice_get q h.place ≡ Some c → IsBindingOf s v b c → (d : Var × Term) → (j : ℕ) × (slice_get q j ≡ Some d) → d.0 ≡ c.0 → d ≡ c
       alone c there is d (j, at_j) e =
-          some_same (sym at_j ∙ (ap (slice_get q) (h.alone c.0 is.variable j (named j d at_j ∙ ap (λ (y : Var). Some y.name) e)) ∙ there))
+          same_some (sym at_j ∙ (ap (slice_get q) (h.alone c.0 is.variable j (named j d at_j ∙ ap (λ (y : Var). Some y.name) e)) ∙ there))
 
   -- the bindings of these images
   replacement_of : (bs : List (ℕ × ℕ)) → ((b : ℕ × ℕ) → Contains bs b → IsImageAmong s names images b) → (r : Replacement) × AllZip (IsBindingOf s v) bs r × ((c : Var × Term) → Contains r c → IsOnly q c)
   replacement_of [] each = ([], tt, λ c k. absurd (omega (arith, k.1)))
   replacement_of (b ∷ bs) each =
-      let (c, is, only) = only_at b (each b (contains_first b bs)) in
+      let (c, is, only) = only_at b (each b (contains_head b bs)) in
       let (r, are, others) = replacement_of bs (λ d k. each d (contains_later b d bs k)) in
       (c ∷ r, (is, are), λ d k. go c only r others d k)
     where
@@ -226,13 +225,6 @@ module _ (s : Table) (v : TermsView) (names : List (List ℕ)) (images : List (�
           replaces_zipped s v bs r are b
           (h.all b.0 (leaf_of_free s table leaves b.0 x t tree is stands among free) x is k b.1 (named k c means ∙ ap (λ (y : Var). Some y.name) same) there) x is
 
--- an item of the first items
-get_taken : {X : Type 0} (n : ℕ) (xs : List X) (k : ℕ) (x : X) → k < n → slice_get xs k ≡ Some x → slice_get (take n xs) k ≡ Some x
-get_taken zero xs k x below e = absurd (omega (arith, below))
-get_taken (suc n) [] k x below e = e
-get_taken (suc n) (y ∷ xs) zero x below e = e
-get_taken (suc n) (y ∷ xs) (suc k) x below e = get_taken n xs k x (omega (arith, below)) e
-
 taken_below : {X : Type 0} (n : ℕ) (xs : List X) (k : ℕ) (x : X) → slice_get (take n xs) k ≡ Some x → k < n
 taken_below zero xs k x e = absurd (cc)
 taken_below (suc n) [] k x e = absurd (cc)
@@ -248,7 +240,7 @@ used_at us k n e = go (slice_get us k) refl (sym (slice_get-map (λ u. u.id) us 
   where
     go : (o : Option Used) → slice_get us k ≡ o → option_map (λ u. u.id) o ≡ Some n → (u : Used) × (slice_get us k ≡ Some u) × (u.id ≡ n)
     go None f g = absurd (cc)
-    go (Some u) f g = (u, f, some_same g)
+    go (Some u) f g = (u, f, same_some g)
 
 -- what the look for the image of a leaf answers
 module _ (s : Table) (us : List Used) (images : List (ℕ × ℕ)) (outer k : ℕ) where
@@ -269,7 +261,7 @@ module _ (s : Table) (us : List Used) (images : List (ℕ × ℕ)) (outer k : �
       module _ (below : f.place < outer) (b : ℕ × ℕ) (there : slice_get images f.place ≡ Some b) where
         pub found_other : b.0 ≢ k → HasNoImage s (map (λ u. u.id) us) (take outer images) k
         found_other differs x is n image named here =
-            differs (ap (λ (c : ℕ × ℕ). c.0) (some_same (sym there ∙ (ap (slice_get images) (sym (place_is x is n named)) ∙ slice_get_taken outer images n (k, image) here))))
+            differs (ap (λ (c : ℕ × ℕ). c.0) (same_some (sym there ∙ (ap (slice_get images) (sym (place_is x is n named)) ∙ slice_get_taken outer images n (k, image) here))))
 
         pub image_found : b.0 ≡ k → IsImageAmong s (map (λ u. u.id) us) (take outer images) (k, b.1)
         image_found same = record {

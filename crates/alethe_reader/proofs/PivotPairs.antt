@@ -8,6 +8,7 @@ use Rattle.sexpr.specs.Items.{Item, Items, no_items, item}
 use Rattle.sym_table.specs.Table.{Table, Keeps}
 use Rattle.term_model.specs.Terms.{Var, Term}
 use Rattle.term_pool.specs.Views.{TermsView, RefersTo, KeepsTerms}
+use Rattle.term_pool.proofs.Keeping.{terms-refl}
 use Rattle.rule_model.specs.Scopes.{Nesting}
 use Rattle.proof_store.specs.Meaning.{IsPivotOf}
 use Rattle.text_items.specs.declared.nodes.Node.{Node}
@@ -20,7 +21,7 @@ use Rattle.term_expansion.specs.declared.values.Value.{Value}
 use Rattle.term_names.specs.declared.faults.ReadFault.{ReadFault}
 use Rattle.term_reader.specs.ProblemViews.{ReaderView, IsReaderOf}
 use Rattle.term_reader.proofs.Coming.{answers, same_outcome}
-use Rattle.term_reader.proofs.Staying.{adds_none, keeps_none, refers_stays}
+use Rattle.term_reader.proofs.Staying.{adds_none, refers_stays}
 use Rattle.alethe_commands.specs.CommandNodes.{AreItemsAt}
 use Rattle.alethe_text.specs.Arguments.{named_in, named_among, truth_of, with_pivot, pivots_from}
 use Rattle.alethe_text.specs.Commands.{behind_first}
@@ -114,7 +115,7 @@ module _ (settings : ProofSettings) (nesting : Nesting Var Term) (i : Item) (tru
     pivot_told b same e =
         same_outcome steps
         (goes behind_term keeps_behind h table terms
-        (λ t u k. goes (told t) (keeps_told t) (subst (λ (o : Result ⊤ ReadFault). AnswersAs w (both z x) (AreNamed (both z x) settings nesting q u) (named_among settings nesting truth u) o) e (named u k.behind.reader)) (adds_none z).keeps (keeps_none x)
+        (λ t u k. goes (told t) (keeps_told t) (subst (λ (o : Result ⊤ ReadFault). AnswersAs w (both z x) (AreNamed (both z x) settings nesting q u) (named_among settings nesting truth u) o) e (named u k.behind.reader)) (adds_none z).keeps (terms-refl x)
         (λ _ y l. answers (with_truth t.tree (truth_among truth)) y refl refl (record {
           stands =
               subst (λ o. BothOrNeither (IsPivotOf z x) (with_truth c.term b) (with_truth t.tree o)) same

@@ -1,9 +1,10 @@
 -- The commands that a step may name, by the ids in use.
-use Rattle.std.proofs.Common.{◌≡◌, ℕ, zero, suc, ◌+◌, ◌≤◌, ◌<◌, List, [], ◌∷◌, ◌++◌, length, slice_get, Bool, true, false, ◌&&◌, if◌then◌else◌, Option, Some, None, find, refl, sym, ◌∙◌, subst, arith}
+use Rattle.std.proofs.Common.{◌≡◌, ℕ, ◌+◌, ◌≤◌, ◌<◌, List, [], ◌∷◌, ◌++◌, length, Bool, true, false, ◌&&◌, if◌then◌else◌, Option, Some, None, find, refl, sym, ◌∙◌, subst, arith}
 use Rattle.std.specs.Prelude.{bytes_eq, nat_le, nat_lt}
 use Rattle.std.proofs.lemmas.Bool.{ltb-true, ltb-false, lt-ltb, le-ltb, leb-true, leb-false, le-leb}
 use Rattle.std.proofs.lemmas.List.{append_assoc, length-append}
 use Rattle.std.proofs.lemmas.Option.{slice_get_within}
+use Rattle.sym_table.proofs.Lists.{slice_get-kept}
 use Rattle.term_model.specs.Terms.{Var, Term}
 use Rattle.rule_model.specs.Proofs.{ProofItems}
 use Rattle.rule_model.specs.Scopes.{Anchor, Nesting, inside, Scope, at, scope_number}
@@ -61,26 +62,20 @@ reaches_all scope len e = record {
   unseen = λ id h. subst (λ cs. find (λ c. bytes_eq c.id id) cs ≡ None) (sights_seen scope) (unseen (ids_in scope) id h);
 }
 
--- the front of a list
-front : {X : Type 0} (xs ys : List X) (k : ℕ) → k < length xs → slice_get (xs ++ ys) k ≡ slice_get xs k
-front [] ys k h = absurd (omega (arith, h))
-front (x ∷ xs) ys zero h = refl
-front (x ∷ xs) ys (suc k) h = front xs ys k (omega (arith, h))
-
 used_front : (xs ys : List Used) (id : List ℕ) (f : Found) → IsUsedAt (xs ++ ys) id f → f.place < length xs → IsUsedAt xs id f
 used_front xs ys id f h below = record {
-  here = sym (front xs ys f.place below) ∙ h.here;
-  alone = λ k u e same. h.alone k u (front xs ys k (slice_get_within xs k u e) ∙ e) same;
+  here = sym (slice_get-kept xs ys f.place below) ∙ h.here;
+  alone = λ k u e same. h.alone k u (slice_get-kept xs ys k (slice_get_within xs k u e) ∙ e) same;
 }
 
 unused_front : (xs ys : List Used) (id : List ℕ) (f : Found) → IsUsedAt (xs ++ ys) id f → length xs ≤ f.place → IsUnused xs id
 unused_front xs ys id f h past k u e same =
     let w = slice_get_within xs k u e in
-    let place = h.alone k u (front xs ys k w ∙ e) same in
+    let place = h.alone k u (slice_get-kept xs ys k w ∙ e) same in
     omega (arith, w, past, place)
 
 none_front : (xs ys : List Used) (id : List ℕ) → IsUnused (xs ++ ys) id → IsUnused xs id
-none_front xs ys id h k u e same = h k u (front xs ys k (slice_get_within xs k u e) ∙ e) same
+none_front xs ys id h k u e same = h k u (slice_get-kept xs ys k (slice_get_within xs k u e) ∙ e) same
 
 module _ (around : Nesting Var Term) (before : ProofItems Var Term) (anchor : Anchor Var Term) (items : ProofItems Var Term) where
   abbrev outer : List Used

@@ -17,11 +17,11 @@ use Rattle.proof_store.specs.Meaning.{StandForItems, no_items_stand}
 use Rattle.text_items.specs.ItemShapes.{excess}
 use Rattle.problem_text.specs.Outcomes.{Outcome}
 use Rattle.problem_text.specs.Scripts.{Script}
-use Rattle.term_names.specs.Making.{PlacesCellsOf, LacksCellOf}
+use Rattle.term_pool.specs.Placing.{PlacesCellsOf, LacksCellOf}
+use Rattle.term_pool.proofs.PlacedCells.{places_more, lacks_more}
 use Rattle.term_names.specs.declared.faults.ReadFault.{ReadFault}
 use Rattle.term_reader.specs.ProblemViews.{IsReaderOf}
 use Rattle.term_reader.specs.Reading.{EndsWith}
-use Rattle.term_reader.proofs.Staying.{places_more, lacks_more}
 use Rattle.alethe_text.specs.ProofTerms.{place_in}
 use Rattle.alethe_text.specs.ProofTexts.{commands, behind_answer, is_list_of_commands, unwrapped_commands, excess_behind, none_behind, closed_proof, finished, proof_from, StandsForProof, IsFirstProofFault}
 use Rattle.alethe_text.specs.States.{ProofSettings, ProofState, unread, ◌>>=◌}

@@ -1,5 +1,6 @@
 -- The rule that a word names, by a list that is gone through.
 use Rattle.std.proofs.Common.{◌≡◌, ℕ, zero, suc, ◌≤◌, Bool, true, false, not, ◌&&◌, List, [], ◌∷◌, length, drop, slice_get, Some, if◌then◌else◌, refl, ap, subst, arith}
+use Rattle.std.proofs.lemmas.Bool.{and_parts}
 use Rattle.std.specs.List.{list_all}
 use Rattle.std.specs.Str.{bytes_eq}
 use Rattle.rule_model.specs.declared.rules.Rule.{Rule}
@@ -25,16 +26,11 @@ both false false e = (refl, refl)
 both false true e = absurd (cc)
 both true b e = absurd (cc)
 
-first : (a b : Bool) → (a && b) ≡ true → (a ≡ true) × (b ≡ true)
-first true true e = (refl, refl)
-first true false e = absurd (cc)
-first false b e = absurd (cc)
-
 -- a rule of a list, all of which have a word
 pub has_word_there : (rules : List Rule) (k : ℕ) (r : Rule) → list_all has_word rules ≡ true → slice_get rules k ≡ Some r → (is_assume r ≡ false) × (is_unknown r ≡ false)
 has_word_there [] k r all e = absurd (cc)
-has_word_there (x ∷ rules) zero r all e = both (is_assume r) (is_unknown r) (subst (λ y. has_word y ≡ true) (inside e) (first (has_word x) (list_all has_word rules) all).0)
+has_word_there (x ∷ rules) zero r all e = both (is_assume r) (is_unknown r) (subst (λ y. has_word y ≡ true) (inside e) (and_parts (has_word x) (list_all has_word rules) all).0)
   where
     inside : Some x ≡ Some r → x ≡ r
     inside e = cc
-has_word_there (x ∷ rules) (suc k) r all e = has_word_there rules k r (first (has_word x) (list_all has_word rules) all).1 e
+has_word_there (x ∷ rules) (suc k) r all e = has_word_there rules k r (and_parts (has_word x) (list_all has_word rules) all).1 e

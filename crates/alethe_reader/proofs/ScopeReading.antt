@@ -1,4 +1,4 @@
--- Cited by crates above. What a reader of terms stands for stays when terms and names are added to its script, and as variables of an anchor enter and leave.
+-- What a reader of terms stands for stays when terms and names are added to its script, and as variables of an anchor enter and leave.
 use Rattle.std.proofs.Common.{◌≡◌, ◌<◌, ◌≤◌, ◌+◌, ◌-◌, ℕ, zero, suc, List, [], ◌∷◌, ◌++◌, map, reverse, length, take, get_or, refl, sym, ap, subst, ◌∙◌, arith}
 use Rattle.std.proofs.lemmas.List.{map-append, reverse-append, take_all, take_more}
 use Rattle.std.specs.List.{AllZip}

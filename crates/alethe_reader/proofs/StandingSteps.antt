@@ -1,12 +1,12 @@
 -- How a step stands, by its id among those in use.
 use Rattle.std.proofs.Common.{◌≡◌, ◌≢◌, ℕ, zero, suc, ◌+◌, ◌<◌, List, [], ◌∷◌, ◌++◌, map, length, take, slice_get, Bool, true, false, if◌then◌else◌, Some, None, Err, refl, sym, ◌∙◌, ap, subst, arith}
 use Rattle.std.specs.Prelude.{⊤, bytes_eq}
-use Rattle.std.specs.List.{AllZip}
 use Rattle.std.proofs.lemmas.Slice.Eq.{bytes_eq-Decides}
 use Rattle.sexpr.specs.declared.causes.Cause.TheVariants.{BadAnchor}
 use Rattle.sexpr.specs.declared.causes.Refusal.{Refusal}
 use Rattle.sym_table.specs.Table.{Table}
 use Rattle.term_model.specs.Terms.{Var, Term}
+use Rattle.term_model.proofs.Zips.{zip_length}
 use Rattle.term_pool.specs.Views.{TermsView}
 use Rattle.rule_model.specs.Proofs.{ProofItems}
 use Rattle.rule_model.specs.RuleNames.{IsSymbolName}
@@ -109,12 +109,6 @@ module _ (around : Nesting Var Term) (before : ProofItems Var Term) (anchor : An
 not_open_id : (n : Nesting Var Term) (items : ProofItems Var Term) (id : List ℕ) → IsUnused (ids_in (at n items)) id → is_open_id n id ≡ false
 not_open_id outermost items id h = refl
 not_open_id (inside around before anchor) items id h = unused_not_open around before anchor items id h
-
-zip_length : {A B : Type 0} (R : A → B → Type 0) (xs : List A) (ys : List B) → AllZip R xs ys → length xs ≡ length ys
-zip_length R [] [] h = refl
-zip_length R [] (y ∷ ys) h = absurd h
-zip_length R (x ∷ xs) [] h = absurd h
-zip_length R (x ∷ xs) (y ∷ ys) h = ap suc (zip_length R xs ys h.1)
 
 module _ (s : Table) (v : TermsView) (d : Session) (p : ProofState) (n : Name) (h : IsWritten (both s v) d p) where
   pub same_ids : d.ids.used ≡ ids_in p.scope

@@ -1,11 +1,12 @@
 -- What a step comes to.
-use Rattle.std.proofs.Common.{◌≡◌, ℕ, List, [], ◌∷◌, length, Option, Some, None, Result, Ok, Err, refl, sym, ap, subst, ◌∙◌}
+use Rattle.std.proofs.Common.{◌≡◌, ℕ, List, length, Option, Some, None, Result, Ok, Err, refl, sym, ap, subst, ◌∙◌}
 use Rattle.std.specs.Prelude.{⊤}
 use Rattle.sexpr.specs.declared.causes.Refusal.{Refusal}
 use Rattle.sexpr.specs.Items.{Items}
-use Rattle.sym_table.specs.Table.{Table, Keeps}
+use Rattle.sym_table.specs.Table.{Table}
 use Rattle.term_model.specs.Terms.{Var, Term}
 use Rattle.term_pool.specs.Views.{TermsView, ReferToAll, KeepsTerms}
+use Rattle.term_pool.proofs.Keeping.{terms-refl, terms-trans}
 use Rattle.rule_model.specs.Proofs.{Step, ProofItems as Proof}
 use Rattle.rule_model.specs.RuleNames.{rule_named, IsSymbolName}
 use Rattle.rule_model.specs.declared.rules.Rule.{Rule}
@@ -15,7 +16,7 @@ use Rattle.problem_text.specs.Outcomes.{Outcome, done, going_on, and_then}
 use Rattle.term_names.specs.Standing.{AddsNoSymbols}
 use Rattle.term_names.specs.declared.faults.ReadFault.{ReadFault}
 use Rattle.term_reader.proofs.Coming.{answers, refuses, no_memory, same_outcome}
-use Rattle.term_reader.proofs.Staying.{adds_none, adds_then, keeps_none, keeps_then as terms_kept, refers_stays}
+use Rattle.term_reader.proofs.Staying.{adds_none, adds_then, all_stay}
 use Rattle.term_reader.specs.ProblemViews.{ReaderView, IsReaderOf}
 use Rattle.alethe_text.specs.Commands.{Attribute}
 use Rattle.alethe_text.specs.Ids.{Standing, closes_scope, standing_of}
@@ -75,13 +76,6 @@ module _ (settings : ProofSettings) (n : Name) (literals : Items) (attributes : 
   keeps_after : (at : Standing) (clause : List Term) → KeepsRead (after_clause at clause)
   unfolding ◌>>=◌
   keeps_after at clause = keeps_then (attributes_read settings at attributes (before clause)) added (keeps_attributes settings at attributes (before clause)) keeps_added
-
--- references go on standing for their terms
-clause_stays : (s z : Table) (v w : TermsView) → Keeps s z → KeepsTerms v w → (refs : List ℕ) (ts : List Term) → ReferToAll s v refs ts → ReferToAll z w refs ts
-clause_stays s z v w table terms [] [] h = tt
-clause_stays s z v w table terms [] (t ∷ ts) h = absurd h
-clause_stays s z v w table terms (r ∷ refs) [] h = absurd h
-clause_stays s z v w table terms (r ∷ refs) (t ∷ ts) h = (refers_stays s z v w table terms r t h.0, clause_stays s z v w table terms refs ts h.1)
 
 -- Nothing of what is written was changed.
 written_same : (s : Table) (v : TermsView) (d e : Session) (p q : ProofState) → e.builder ≡ d.builder → e.ids.used ≡ d.ids.used → e.anchors ≡ d.anchors → e.bound ≡ d.bound → q.scope ≡ p.scope → q.anchors ≡ p.anchors → IsWritten (both s v) d p → IsWritten (both s v) e q
@@ -207,7 +201,7 @@ module _ {s : Table} {v : TermsView} {settings : ProofSettings} {d : Session} {p
               → ReadsAttributes settings z w (record d { reader = t; parts = parts }) standing kind attributes y x e (Ok tt)
               → AnswersAs v (both y x) N (step_read settings n literals attributes p) (Err ReadFault.Memory)
           no_room read = then_attributes (λ clause q k.
-              goes (added settings n literals attributes p) (keeps_added settings n literals attributes p) (at_attributes (Ok tt) read clause q k) (adds_none y).keeps (keeps_none x) (λ step l m. no_memory refl))
+              goes (added settings n literals attributes p) (keeps_added settings n literals attributes p) (at_attributes (Ok tt) read clause q k) (adds_none y).keeps (terms-refl x) (λ step l m. no_memory refl))
 
           module _ (read : ReadsAttributes settings z w (record d { reader = t; parts = parts }) standing kind attributes y x e (Ok tt))
               (first : AddsNoSymbols s z) (old : KeepsTerms v w) (others : KeepsOthers (record d { reader = t; parts = parts }) e)
@@ -224,7 +218,7 @@ module _ {s : Table} {v : TermsView} {settings : ProofSettings} {d : Session} {p
                   reader = done.behind.reader;
                   written =
                       written_same y x d e p l others.builder same_ids others.anchors others.bound scope (done.behind.anchors ∙ k.behind.anchors)
-                      (written_stays s y v x (adds_then s z y first adds).keeps (terms_kept v w x old keeps) d p session.written);
+                      (written_stays s y v x (adds_then s z y first adds).keeps (terms-trans v w x old keeps) d p session.written);
                   id = done.id ∙ (sym (ap (λ (m : Name). m.name) same) ∙ ap (λ (m : Named). m.name.now) (sym id_is));
                   rule = done.rule ∙ sym (rule_is ∙ (ruled ∙ ap rule_named worded));
                   word = done.rule_name ∙ sym (word_is ∙ worded);
@@ -232,7 +226,7 @@ module _ {s : Table} {v : TermsView} {settings : ProofSettings} {d : Session} {p
                   named = has.1;
                   premises = has.0.premises;
                   discharged = has.0.discharged;
-                  clause = subst (ReferToAll y x e.parts.clause.items) (sym done.clause) (rw (others.clause, held) (clause_stays z y w x adds.keeps keeps refs clause k.refer));
+                  clause = subst (ReferToAll y x e.parts.clause.items) (sym done.clause) (rw (others.clause, held) (all_stay z y w x adds.keeps keeps refs clause k.refer));
                   parts = done.parts;
                 }
 
@@ -245,5 +239,5 @@ module _ {s : Table} {v : TermsView} {settings : ProofSettings} {d : Session} {p
             pub is_stepped : (f : Session) → ((s : Table) (v : TermsView) (settings : ProofSettings) (step : Step Term) (p : ProofState) → IsToAdd (both s v) settings e new step p → IsProofSession (both s v) settings f (with_step step p))
                 → AnswersAs v (both y x) (StandsAfter (both y x) settings f) (step_read settings n literals attributes p) (Ok tt)
             is_stepped f adding = then_attributes (λ clause q k.
-                goes (added settings n literals attributes p) (keeps_added settings n literals attributes p) (with_outcome (at_attributes (Ok tt) read clause q k)) (adds_none y).keeps (keeps_none x)
+                goes (added settings n literals attributes p) (keeps_added settings n literals attributes p) (with_outcome (at_attributes (Ok tt) read clause q k)) (adds_none y).keeps (terms-refl x)
                 (λ step l m. answers tt (with_step step l) refl refl (record { session = adding y x settings step l (to_be_added clause q k step l m.0 m.1) })))

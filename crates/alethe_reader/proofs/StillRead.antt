@@ -1,4 +1,4 @@
--- Cited by crates above. The terms that were read stay read.
+-- The terms that were read stay read.
 use Rattle.std.proofs.Common.{◌≡◌, ℕ, Bool, true, false, List, [], ◌∷◌, Option, Some, None, Result, sym, subst, find, if◌then◌else◌}
 use Rattle.std.specs.Prelude.{Contains, bytes_eq}
 use Rattle.sexpr.specs.declared.causes.Cause.{Cause}

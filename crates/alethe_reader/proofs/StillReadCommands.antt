@@ -1,4 +1,4 @@
--- Cited by crates above. The terms that were read stay read by the commands of a proof.
+-- The terms that were read stay read by the commands of a proof.
 use Rattle.std.proofs.Common.{refl, ℕ, List, [], ◌∷◌, Option, Some, None}
 use Rattle.std.specs.Prelude.{⊤}
 use Rattle.std.proofs.lemmas.List.Elements.{Contains-append_left}

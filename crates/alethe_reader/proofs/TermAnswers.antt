@@ -1,4 +1,4 @@
--- Cited by crates above. What the reader of terms answers is what a term in a scope comes to.
+-- What the reader of terms answers is what a term in a scope comes to.
 use Rattle.std.proofs.Common.{◌≡◌, true, false, Result, Ok, Err, refl, sym, ap, ◌∙◌}
 use Rattle.sexpr.specs.declared.causes.Cause.TheVariants.{SortMismatch}
 use Rattle.sexpr.specs.declared.causes.Refusal.{Refusal}
@@ -7,6 +7,7 @@ use Rattle.sym_table.specs.Table.{Table}
 use Rattle.term_model.specs.declared.symbols.Sort.{Sort}
 use Rattle.term_model.specs.Terms.{Var, Term, sort_eq}
 use Rattle.term_pool.specs.Views.{TermsView}
+use Rattle.term_pool.proofs.Keeping.{terms-refl}
 use Rattle.rule_model.specs.Scopes.{Nesting}
 use Rattle.problem_text.specs.Outcomes.{Outcome, done}
 use Rattle.problem_text.specs.Scripts.{Script}
@@ -16,7 +17,7 @@ use Rattle.term_expansion.specs.declared.values.Value.{Value}
 use Rattle.term_names.specs.declared.faults.ReadFault.{ReadFault}
 use Rattle.term_reader.specs.ProblemViews.{ReaderView, ReadsValue}
 use Rattle.term_reader.proofs.Coming.{answers, refuses}
-use Rattle.term_reader.proofs.Staying.{adds_none, keeps_none}
+use Rattle.term_reader.proofs.Staying.{adds_none}
 use Rattle.alethe_text.specs.ProofTerms.{place_in, term_in, formula_in}
 use Rattle.alethe_text.specs.States.{ProofSettings, ProofState, Reading, ◌>>=◌, give, demand}
 use Rattle.alethe_reader.specs.Answers.{AnswersAs}
@@ -57,14 +58,14 @@ module _ (s : Table) (old new : TermsView) (settings : ProofSettings) (nesting :
     pub other_sort : sort_eq c.sort Sort.Bool ≡ false → (refusal : Refusal) → refusal ≡ record { cause = SortMismatch; at = place_of i }
         → AnswersAs old (both s new) (IsReadFormula (both s new) settings nesting r p) (formula_in settings nesting i p) (Err (ReadFault.Text refusal))
     unfolding formula_in ◌>>=◌
-    other_sort e refusal is = goes judged keeps_judged h (adds_none s).keeps (keeps_none new) (λ t q k. refuses refl (go t q (ap (λ sort. sort_eq sort Sort.Bool) (sym k.is.sort) ∙ e)))
+    other_sort e refusal is = goes judged keeps_judged h (adds_none s).keeps (terms-refl new) (λ t q k. refuses refl (go t q (ap (λ sort. sort_eq sort Sort.Bool) (sym k.is.sort) ∙ e)))
       where
         go : (t : Typed) (q : ProofState) → sort_eq t.sort Sort.Bool ≡ false → (judged t q).result ≡ Err refusal
         go t q f = rw (f, is) refl
 
     pub is_formula : sort_eq c.sort Sort.Bool ≡ true → AnswersAs old (both s new) (IsReadFormula (both s new) settings nesting r p) (formula_in settings nesting i p) (Ok c.term)
     unfolding formula_in ◌>>=◌
-    is_formula e = goes judged keeps_judged h (adds_none s).keeps (keeps_none new) (λ t q k. answers t.tree q refl (go t q (ap (λ sort. sort_eq sort Sort.Bool) (sym k.is.sort) ∙ e)) (record { refers = k.is.refers; behind = k.behind }))
+    is_formula e = goes judged keeps_judged h (adds_none s).keeps (terms-refl new) (λ t q k. answers t.tree q refl (go t q (ap (λ sort. sort_eq sort Sort.Bool) (sym k.is.sort) ∙ e)) (record { refers = k.is.refers; behind = k.behind }))
       where
         go : (t : Typed) (q : ProofState) → sort_eq t.sort Sort.Bool ≡ true → judged t q ≡ done t.tree q
         go t q f = rw f refl

@@ -6,6 +6,7 @@ use Rattle.sexpr.specs.Items.{Item, Items, no_items, item}
 use Rattle.sym_table.specs.Table.{Table}
 use Rattle.term_model.specs.Terms.{Var, Term}
 use Rattle.term_pool.specs.Views.{TermsView}
+use Rattle.term_pool.proofs.PlacedCells.{places_none}
 use Rattle.rule_model.specs.Proofs.{ProofItems as Proof}
 use Rattle.text_items.specs.ItemsAt.{ItemsView, end_at, item_at}
 use Rattle.text_items.specs.Nesting.{AreNested}
@@ -13,7 +14,6 @@ use Rattle.text_items.specs.declared.nodes.Node.{Node}
 use Rattle.problem_text.specs.Outcomes.{Outcome, going_on, and_then}
 use Rattle.term_names.specs.declared.faults.ReadFault.{ReadFault}
 use Rattle.term_reader.proofs.Coming.{IsPartOf, fails, answers_whole, refuses}
-use Rattle.term_reader.proofs.Staying.{places_none}
 use Rattle.alethe_text.specs.Commands.{Command, command_of}
 use Rattle.alethe_text.specs.ProofTexts.{performed, commands}
 use Rattle.alethe_text.specs.States.{ProofSettings, ProofState, ◌>>=◌}

@@ -5,12 +5,14 @@ use Rattle.sexpr.specs.Source.{source, position}
 use Rattle.sym_table.specs.Table.{Table}
 use Rattle.term_model.specs.Terms.{Var, Term}
 use Rattle.term_pool.specs.Views.{TermsView, KeepsTerms}
+use Rattle.term_pool.proofs.Keeping.{terms-refl, terms-trans}
+use Rattle.term_pool.proofs.PlacedCells.{places_none, places_then}
 use Rattle.rule_model.specs.Proofs.{ProofItems as Proof}
 use Rattle.problem_text.specs.Outcomes.{Outcome}
-use Rattle.term_names.specs.Making.{PlacesCellsOf}
+use Rattle.term_pool.specs.Placing.{PlacesCellsOf}
 use Rattle.term_names.specs.Standing.{AddsNoSymbols}
 use Rattle.term_names.specs.declared.faults.ReadFault.{ReadFault}
-use Rattle.term_reader.proofs.Staying.{adds_none, adds_then, keeps_none, keeps_then, places_none, places_then}
+use Rattle.term_reader.proofs.Staying.{adds_none, adds_then}
 use Rattle.alethe_text.specs.States.{ProofState}
 use Rattle.alethe_reader.specs.Answers.{WasRead}
 use Rattle.alethe_reader.specs.Sessions.{IsProofSession}
@@ -45,7 +47,7 @@ begins how l s v d inside short = record {
   left = λ p whole left session. (p, left, session);
   placed = λ p whole left session. places_none s v.pass v.pass (WasRead whole) refl;
   symbols = adds_none s;
-  keeps = keeps_none v;
+  keeps = terms-refl v;
   same_text = refl;
   inside = inside;
   few = omega arith;
@@ -77,7 +79,7 @@ module _ {how : SessionSettings} {l : Lexer} {s : Table} {v : TermsView} {d : Se
           let (now, more, stands) = h.left p whole left session in
           placed_so_far symbols terms p whole left session (reads now whole more stands).placed;
       symbols = adds_then s z y h.symbols symbols;
-      keeps = keeps_then v w x h.keeps terms;
+      keeps = terms-trans v w x h.keeps terms;
       same_text = text ∙ h.same_text;
       inside = let same = ap (λ t. length t) h.same_text in omega arith;
       few = let a = h.few in omega arith;

@@ -1,4 +1,4 @@
--- Cited by crates above. What is written of a proof stands for the same as the table and the pool grow, and has the ids of the
+-- What is written of a proof stands for the same as the table and the pool grow, and has the ids of the
 -- proof over terms.
 use Rattle.std.proofs.Common.{◌≡◌, ℕ, List, Option, Some, None, refl, ◌∙◌, subst}
 use Rattle.std.specs.List.{AllZip}

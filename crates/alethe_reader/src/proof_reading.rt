@@ -6,7 +6,7 @@ ghost use Rattle.sexpr.specs.Source as at;
 ghost use Rattle.sym_table.specs.Table.{Table};
 ghost use Rattle.term_pool.specs.Views.{TermsView, KeepsTerms};
 ghost use Rattle.problem_text.specs.Scripts.{Script};
-ghost use Rattle.term_names.specs.Making.{PlacesCellsOf, LacksCellOf};
+ghost use Rattle.term_pool.specs.Placing.{PlacesCellsOf, LacksCellOf};
 ghost use Rattle.term_names.specs.Standing.{AddsNoSymbols};
 ghost use Rattle.term_names.specs.declared.faults.ReadFault.TheVariants as fault;
 ghost use Rattle.term_reader.specs.ProblemViews.{IsProblemOf};

@@ -10,7 +10,7 @@ use Rattle.sexpr.specs.Items.{Item, word, quoted, string, list, Items, no_items,
 use Rattle.rule_model.specs.RuleNames.{IsSymbolName}
 use Rattle.text_items.specs.ItemShapes.{name_at, items_of}
 use Rattle.text_items.specs.Keywords.{is_spelled}
-use Rattle.problem_text.proofs.Outcomes.{all_joined}
+use Rattle.term_model.proofs.Lists.{all_joined}
 use Rattle.alethe_text.specs.CommandNames.{HasNames, HaveNames, IsRuleNamed, IsNamed}
 use Rattle.alethe_text.specs.Commands.{Attribute, rule, premises, arguments, discharge, Command, is_symbol_of, shaped, names_in, attribute_of, attribute_with, attributes_of, assume_shape, step_shape, anchor_shape, command_named, command_of}
 use Rattle.alethe_text.specs.Steps.{rule_word}

@@ -66,7 +66,7 @@ assume_placed scope id t h new = record { around = h.around; here = (h.here, new
 pub anchor_placed : (scope : Scope Var Term) (anchor : Anchor Var Term) → IsPlaced scope → MayOpen scope.nesting scope.items anchor → IsPlaced (open_anchor scope anchor)
 anchor_placed scope anchor h may = record { around = (h.around, h.here, may); here = tt }
 
-none_of : (xs : List ℕ) → All (Contains []) xs → xs ≡ []
+pub none_of : (xs : List ℕ) → All (Contains []) xs → xs ≡ []
 none_of [] h = refl
 none_of (x ∷ xs) h = let none = h 0 x (omega arith) in absurd (omega (arith, none.1))
 

@@ -6,6 +6,7 @@ use Rattle.std.specs.Option.{option_map_or}
 use Rattle.std.proofs.lemmas.List.Elements.{All-from_recursion}
 use Rattle.std.proofs.lemmas.List.Kept.{AllPairs-cons}
 use Rattle.std.proofs.lemmas.Slice.Eq.{bytes_eq-Decides}
+use Rattle.std.proofs.lemmas.Bool.{not-true, or_parts}
 use Rattle.sexpr.specs.declared.causes.Cause.TheVariants.{Repeated, BadAnchor, SortMismatch, TooHigh}
 use Rattle.term_model.specs.Terms.{Var, sort_eq, Term}
 use Rattle.term_model.specs.Heights.{height}
@@ -20,9 +21,9 @@ use Rattle.alethe_text.specs.States.{ProofSettings, ProofState}
 use Rattle.alethe_text.specs.ProofTerms.{term_in}
 use Rattle.alethe_text.specs.Anchors.{bound_names, sort_given, image_of, argument_read, arguments_read, anchor_read}
 use Rattle.alethe_text.proofs.Endings.{Ends, and_next, looked, asked, given_next, changed_next, always}
-use Rattle.alethe_text.proofs.Lists.{or_parts, not_among}
+use Rattle.alethe_text.proofs.Lists.{not_among}
 use Rattle.alethe_text.proofs.Staying.{term_stays}
-use Rattle.alethe_text.proofs.FormedSteps.{not_true, id_next, Placed}
+use Rattle.alethe_text.proofs.FormedSteps.{id_next, Placed}
 use Rattle.alethe_text.proofs.Formed.{IsPlaced, IsNew, anchor_placed}
 
 -- a binding whose name is none of these, and none that an open anchor has
@@ -38,7 +39,7 @@ argument_formed P settings earlier (assigned place x sort i) s h =
     looked R (λ s. s) _ s
     (asked R (not (is_built_in x.name)) Repeated x.place _ s
     (λ _. asked R (not (is_among earlier x.name || is_among (bound_names s.scope.nesting) x.name)) BadAnchor x.place _ s
-    (λ e. let parts = or_parts (is_among earlier x.name) (is_among (bound_names s.scope.nesting) x.name) (not_true _ e) in
+    (λ e. let parts = or_parts (is_among earlier x.name) (is_among (bound_names s.scope.nesting) x.name) (not-true _ e) in
     changed_next R _ _ s
     (given_next (λ _. ⊤) R (sort_given s.script.sorts sort) _ _ (always (sort_given s.script.sorts sort))
     (λ wanted _. and_next (λ _ t. W t.scope) R (term_in settings s.scope.nesting i) _ _ (term_stays W settings s.scope.nesting i _ (h, parts.0, parts.1))

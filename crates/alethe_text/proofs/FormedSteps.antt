@@ -3,6 +3,7 @@ use Rattle.std.proofs.Common.{◌≡◌, ◌⊎◌, inl, inr, ℕ, List, [], ◌
 use Rattle.std.specs.Prelude.{⊤, unwrap_or}
 use Rattle.std.specs.List.{AllByRecursion}
 use Rattle.std.proofs.lemmas.List.Elements.{All-nil}
+use Rattle.std.proofs.lemmas.Bool.{not-true}
 use Rattle.sexpr.specs.declared.causes.Cause.{Cause}
 use Rattle.sexpr.specs.declared.causes.Cause.TheVariants.{Repeated, BadAnchor, LeftOut}
 use Rattle.sexpr.specs.declared.causes.Refusal.{Refusal}
@@ -31,10 +32,6 @@ use Rattle.alethe_text.proofs.LowestCoefficients.{coefficients_lowest}
 use Rattle.alethe_text.proofs.Staying.{formula_stays, all_stay, pivots_stay, indices_seen}
 use Rattle.alethe_text.proofs.Formed.{IsPlaced, IsNew, StandsAs, IsReadStep, assume_placed, has_rule}
 
-pub not_true : (b : Bool) → not b ≡ true → b ≡ false
-not_true false e = refl
-not_true true e = absurd (cc)
-
 -- the id is judged in the state as it is
 pub id_new : (of_anchor : Cause) (n : Name) (s : ProofState) → IsSymbolName n.name → Ends (λ _ t. (t ≡ s) × IsNew s.scope n.name) (id_judged of_anchor n s)
 id_new of_anchor n s symbol =
@@ -45,8 +42,8 @@ id_new of_anchor n s symbol =
       refl,
       record {
         symbol = symbol;
-        unseen = not_among (visible_ids s.scope.nesting s.scope.items) n.name (not_true _ f);
-        not_open = not_among (open_ids s.scope.nesting) n.name (not_true _ e);
+        unseen = not_among (visible_ids s.scope.nesting s.scope.items) n.name (not-true _ f);
+        not_open = not_among (open_ids s.scope.nesting) n.name (not-true _ e);
       },
     ))))
 
@@ -173,7 +170,7 @@ module _ (P : Scope Var Term → Type 0) (settings : ProofSettings) (p : Standin
   unfolding attribute_read
   attribute_formed (rule n) s step h read =
       asked (λ step t. StepRead P p id name step t × IsKept (rule n)) (not (is_among left_out_rules n.name)) LeftOut n.place _ s
-      (λ e. ((h, read), not_among left_out_rules n.name (not_true _ e)))
+      (λ e. ((h, read), not_among left_out_rules n.name (not-true _ e)))
   attribute_formed (premises ns) s step h read =
       and_next (λ indices t. All (Contains (map (λ c. c.index) p.sees)) indices × P t.scope) (λ step t. StepRead P p id name step t × IsKept (premises ns)) (indices_of p.sees ns) _ s (indices_seen P p.sees ns s h)
       (λ indices t k. (

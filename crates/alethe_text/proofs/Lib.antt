@@ -6,13 +6,13 @@ pub mod SymbolNames
 pub mod CommandNames
 pub mod Staying
 mod LowestCoefficients
-mod Formed
+pub mod Formed
 pub mod FormedSteps
 mod FormedAnchors
 mod WellFormed
 mod Forms
 pub mod KeptReadings
 pub mod KeptProofs
-mod SortedProofs
+pub mod SortedProofs
 mod TextLengths
 mod ShortLists

@@ -1,13 +1,11 @@
 -- Lists of names, and what they have.
-use Rattle.std.proofs.Common.{◌≡◌, ℕ, zero, suc, List, [], ◌∷◌, map, Bool, true, false, ◌||◌, Option, Some, None, IfSome, Contains, find, cond, refl, sym, arith}
+use Rattle.std.proofs.Common.{◌≡◌, ℕ, zero, suc, List, [], ◌∷◌, map, Bool, true, false, Option, Some, None, IfSome, Contains, find, cond, sym, arith}
 use Rattle.std.specs.Str.{bytes_eq}
 use Rattle.std.proofs.lemmas.Slice.Eq.{bytes_eq-Decides}
+use Rattle.std.proofs.lemmas.Bool.{or_parts}
+use Rattle.term_model.proofs.Lists.{contains_head, contains_later}
 use Rattle.rule_model.specs.Visibility.{Sight}
 use Rattle.problem_text.specs.Words.{is_among}
-
-pub or_parts : (a b : Bool) → (a || b) ≡ false → (a ≡ false) × (b ≡ false)
-or_parts false b e = (refl, e)
-or_parts true b e = absurd (cc)
 
 -- a name that is not among the names is none of them
 pub not_among : (names : List (List ℕ)) (name : List ℕ) → is_among names name ≡ false → ¬ Contains names name
@@ -18,18 +16,12 @@ not_among (x ∷ xs) name e (zero, h, f) =
 not_among (x ∷ xs) name e (suc k, h, f) =
     not_among xs name (or_parts (bytes_eq name x) (is_among xs name) e).1 (k, omega (arith, h), f)
 
-pub contains_first : {X : Type 0} (x : X) (xs : List X) → Contains (x ∷ xs) x
-contains_first x xs = (0, omega arith, refl)
-
-pub contains_later : {X : Type 0} (x y : X) (xs : List X) → Contains xs y → Contains (x ∷ xs) y
-contains_later x y xs (k, h, e) = (suc k, omega (arith, h), e)
-
 -- the index of a command that is found is one of those that are seen
 pub index_found : (test : Sight → Bool) (sights : List Sight) → IfSome (find test sights) (λ c. Contains (map (λ s. s.index) sights) c.index)
 index_found test [] = tt
 index_found test (x ∷ xs) = go (test x) (find test xs) (index_found test xs)
   where
     go : (b : Bool) (o : Option Sight) → IfSome o (λ c. Contains (map (λ s. s.index) xs) c.index) → IfSome (cond b (Some x) o) (λ c. Contains (map (λ s. s.index) (x ∷ xs)) c.index)
-    go true o h = contains_first x.index (map (λ s. s.index) xs)
+    go true o h = contains_head x.index (map (λ s. s.index) xs)
     go false None h = tt
     go false (Some c) h = contains_later x.index c.index (map (λ s. s.index) xs) h

@@ -1,21 +1,21 @@
 -- Coefficients that are read are fractions in lowest terms.
 use Rattle.std.proofs.Common.{◌≡◌, ◌<◌, ◌*◌, ◌/◌, ◌^◌, ◌==◌, ℕ, List, ◌∷◌, Bool, true, false, not, Option, Some, None, Result, Ok, Err, IfSome, IfOk, option_map, option_and_then, All, refl, arith, if◌then◌else◌}
 use Rattle.std.specs.Prelude.{codes}
-use Rattle.std.specs.Option.{option_or}
 use Rattle.std.proofs.lemmas.Bool.Decides.{nat_tests}
 use Rattle.std.proofs.lemmas.List.Elements.{All-nil, All-cons}
 use Rattle.std.proofs.Math.Nat.{mul-pos, one-le-pow, div-le_self}
+use Rattle.std.proofs.lemmas.Bool.{or_parts}
 use Rattle.sexpr.specs.declared.causes.Cause.TheVariants.{WideNumber}
 use Rattle.sexpr.specs.declared.causes.Refusal.{Refusal}
 use Rattle.sexpr.specs.Words.{is_ratio}
 use Rattle.sexpr.specs.Items.{Item, word, quoted, string, list, Items, no_items, item}
+use Rattle.term_model.proofs.Basics.{or_none}
 use Rattle.rule_model.specs.Proofs.{Fraction}
 use Rattle.rule_model.specs.WellFormed.{IsLowest}
 use Rattle.problem_text.specs.Commands.{refused}
 use Rattle.problem_text.specs.Sorts.{result_then}
 use Rattle.alethe_text.specs.Commands.{is_symbol_of}
 use Rattle.alethe_text.specs.Coefficients.{Figure, Amount, figure, ratio, quotient, Coefficient, figure_spelled, figure_of, divisor_of, opposite_of, quotient_of, numerator_spelled, denominator_spelled, amount_spelled, amount_of, coefficient_of, fraction_parts, lowest, is_negative, is_wide, figure_fault, width_fault, fraction_of, coefficient_read, coefficients_from}
-use Rattle.alethe_text.proofs.Lists.{or_parts}
 use Rattle.alethe_text.proofs.LowestTerms.{lowest_is}
 
 ten_power : (k : ℕ) → 0 < 10 ^ k
@@ -99,10 +99,6 @@ narrow_number n e = grind (arith, nat_tests)
 no_fault : (b : Bool) (place : ℕ) → (if b then Some place else None) ≡ None → b ≡ false
 no_fault true place e = absurd (cc)
 no_fault false place e = refl
-
-or_none : {A : Type 0} (a b : Option A) → option_or a b ≡ None → (a ≡ None) × (b ≡ None)
-or_none None b e = (refl, e)
-or_none (Some x) b e = absurd (cc)
 
 below : (a b n : ℕ) → a < 2 ^ 127 → a / n < 2 ^ 127
 below a b n h = let l = div-le_self a n in omega (arith, h, l)

@@ -11,6 +11,7 @@ use Rattle.sexpr.specs.Words.{is_symbol}
 use Rattle.sexpr.specs.Items.{Item, word, quoted, string, list, Items, no_items, item}
 use Rattle.term_model.specs.Terms.{Var, sort_eq, Term}
 use Rattle.term_model.specs.Heights.{height}
+use Rattle.term_model.proofs.Lists.{all_joined}
 use Rattle.rule_model.specs.RuleNames.{left_out_rules}
 use Rattle.rule_model.specs.Visibility.{Sight, visible_ids, open_ids}
 use Rattle.rule_model.specs.Commands.{Entry, entry_of, Line, lines_in}
@@ -20,7 +21,6 @@ use Rattle.rule_model.specs.Scopes.{Nesting, outermost, inside, Scope, at, inner
 use Rattle.rule_model.specs.Writing.{is_open_id, add_step, close_scope, take_step}
 use Rattle.text_items.specs.ItemShapes.{Name, name_at, items_of}
 use Rattle.text_items.specs.Keywords.{is_spelled}
-use Rattle.problem_text.proofs.Outcomes.{all_joined}
 use Rattle.problem_text.specs.Limits.{most_height}
 use Rattle.problem_text.specs.Scripts.{Script}
 use Rattle.problem_text.specs.Words.{is_among, is_built_in}

@@ -21,9 +21,9 @@ use Rattle.alethe_text.proofs.Endings.{After, Ends}
 use Rattle.alethe_text.proofs.KeptProofs.{BindingsAre, AreOf, text_keeps}
 use Rattle.alethe_text.proofs.KeptReadings.{Keeps, TermsAre}
 
-themselves : (bs : List (Var × Term)) → AreBoundSorted (map (λ b. itself b.0) bs)
-themselves [] = tt
-themselves (b ∷ bs) = (refl, themselves bs)
+pub themselves_sorted : (bs : List (Var × Term)) → AreBoundSorted (map (λ b. itself b.0) bs)
+themselves_sorted [] = tt
+themselves_sorted (b ∷ bs) = (refl, themselves_sorted bs)
 
 -- behind a sound script each term that is read is so
 module _ (settings : ProofSettings) where
@@ -33,7 +33,7 @@ module _ (settings : ProofSettings) where
   term_reads P nesting i s h = go (read_term i (place_in settings nesting) s.script).result sound.1
     where
       sound : IsSound (read_term i (place_in settings nesting) s.script).state × IfOk (read_term i (place_in settings nesting) s.script).result IsRead
-      sound = term-sound (form_of i) (place_in settings nesting) s.script (themselves (reverse (open_bindings nesting))) h.script
+      sound = term-sound (form_of i) (place_in settings nesting) s.script (themselves_sorted (reverse (open_bindings nesting))) h.script
 
       go : (r : Result Typed Refusal) → IfOk r IsRead
           → After (λ t u. IsRead t × Keeps IsSound P u) r (record s { script = (read_term i (place_in settings nesting) s.script).state })

@@ -1,9 +1,7 @@
 -- The names of a text's symbols have neither a bar nor a backslash.
-use Rattle.std.proofs.Common.{◌≡◌, ◌≢◌, ◌-◌, ℕ, take, List, [], ◌∷◌, ◌++◌, Bool, true, false, Some, None, length, sym, ◌∙◌, ap, subst, arith, if◌then◌else◌, unwrap_or}
+use Rattle.std.proofs.Common.{◌≡◌, ◌≢◌, ℕ, List, [], ◌∷◌, Bool, true, false, Some, None, sym, subst, if◌then◌else◌, unwrap_or}
 use Rattle.std.specs.Prelude.{Ok}
 use Rattle.std.specs.List.{AllByRecursion}
-use Rattle.std.proofs.Math.Seq.{take-append_seam}
-use Rattle.std.proofs.lemmas.List.{length-append}
 use Rattle.std.proofs.lemmas.List.Elements.{All-nil}
 use Rattle.sexpr.specs.declared.lexing.Token.{Token}
 use Rattle.sexpr.specs.declared.lexing.TokenKind.{TokenKind}
@@ -13,6 +11,7 @@ use Rattle.sexpr.specs.Grammar.{IsSpelling, IsSpelledNext, IsWord, IsQuoted}
 use Rattle.sexpr.specs.Tokens.{next_token, AreTokens, token_text}
 use Rattle.sexpr.specs.Words.{is_symbol, between_bars}
 use Rattle.sexpr.specs.Items.{Item, word, quoted, string, list, Items, no_items, item, IsToken, IsBracket, IsItem, AreItems, StandsForItems}
+use Rattle.sexpr.proofs.ReadingBack.{between}
 use Rattle.rule_model.specs.RuleNames.{IsSymbolName}
 use Rattle.text_items.specs.ItemShapes.{name_at}
 use Rattle.alethe_text.specs.CommandNames.{HasNames, HaveNames}
@@ -42,11 +41,6 @@ byte_between b h = (λ e. bar (subst (λ b. is_between_bars b ≡ true) e h), λ
 
 word_names : (spelling : List ℕ) → IsWord spelling → IsSymbolName spelling
 word_names spelling h = λ k d within. plain_byte _ (h.bytes k d within)
-
-between : (inside : List ℕ) → between_bars (124 ∷ (inside ++ 124 ∷ [])) ≡ inside
-between inside =
-    let n : length (124 ∷ (inside ++ 124 ∷ [])) - 2 ≡ length inside = omega (arith, length-append inside (124 ∷ [])) in
-    ap (λ k. take k (inside ++ 124 ∷ [])) n ∙ take-append_seam inside (124 ∷ [])
 
 quoted_names : (spelling : List ℕ) → IsQuoted spelling → IsSymbolName (between_bars spelling)
 quoted_names spelling h =

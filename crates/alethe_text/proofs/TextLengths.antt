@@ -1,12 +1,13 @@
 -- A text has at least as many bytes as its items have tokens.
 use Rattle.std.proofs.Common.{◌≡◌, ◌≤◌, ◌<◌, ◌+◌, ◌-◌, ℕ, List, [], ◌∷◌, length, drop, sym, ap, subst, arith}
-use Rattle.std.proofs.lemmas.List.{length-append, length-drop, length-take}
+use Rattle.std.proofs.lemmas.List.{length-drop, length-take}
 use Rattle.sexpr.specs.declared.lexing.Token.{Token}
 use Rattle.sexpr.specs.declared.lexing.TokenKind.{TokenKind}
 use Rattle.sexpr.specs.declared.lexing.TokenKind.TheVariants.{Open, Close, Text, Quoted, Word}
-use Rattle.sexpr.specs.Grammar.{SkipsTo, nothing, white, comment, IsSpelling}
+use Rattle.sexpr.specs.Grammar.{IsSpelling}
 use Rattle.sexpr.specs.Tokens.{AreTokens, token_text}
 use Rattle.sexpr.specs.Items.{Item, word, quoted, string, list, Items, no_items, item, IsItem, AreItems, StandsForItems}
+use Rattle.sexpr.proofs.Respelling.{skips_length}
 use Rattle.alethe_text.proofs.SymbolNames.{AreSpelled}
 
 -- how many tokens an item has
@@ -34,11 +35,6 @@ mutual
   items_weigh source (item i others) tokens rest (after, first, there) =
       omega (arith, item_weighs source i tokens after first, items_weigh source others after rest there)
 
-skipped : (after before : List ℕ) → SkipsTo after before → length after ≤ length before
-skipped after before (nothing) = omega arith
-skipped after before (white b rest w h) = omega (arith, skipped after rest h)
-skipped after before (comment line rest l e h) = omega (arith, skipped after rest h, length-append line rest)
-
 spelling_some : (kind : TokenKind) (spelling : List ℕ) → IsSpelling kind spelling → 0 < length spelling
 spelling_some Open spelling h = subst (λ s. 0 < length s) (sym h) (omega arith)
 spelling_some Close spelling h = subst (λ s. 0 < length s) (sym h) (omega arith)
@@ -52,7 +48,7 @@ tokens_fit law text at (t ∷ ts) h =
     let next = law text at t h.0 in
     let some = spelling_some t.kind (token_text text t) next.spelled in
     let cut = length-take (t.end - t.start) (drop t.start text) in
-    omega (arith, skipped _ _ next.before, length-drop t.start text, length-drop at text, some, cut, tokens_fit law text t.end ts h.1)
+    omega (arith, skips_length _ next.before, length-drop t.start text, length-drop at text, some, cut, tokens_fit law text t.end ts h.1)
 
 -- the items of a text have no more tokens than it has bytes
 pub text_weighs : AreSpelled → (source : List ℕ) (items : Items) → StandsForItems source items → weights items ≤ length source

@@ -1,11 +1,10 @@
 -- Proofs of assumes whose ids have numbers.
-use Rattle.std.proofs.Common.{◌≡◌, ◌<◌, ◌≤◌, ◌+◌, ℕ, suc, List, [], ◌∷◌, ◌++◌, map, refl, sym, ◌∙◌, ap, subst, arith, All, Contains}
+use Rattle.std.proofs.Common.{◌≡◌, ◌<◌, ◌+◌, ℕ, List, [], ◌∷◌, refl, sym, subst, arith, All, Contains}
 use Rattle.std.proofs.lemmas.List.{map-append}
 use Rattle.std.proofs.lemmas.List.Elements.{All-contains, All-push}
 use Rattle.rule_model.specs.RuleNames.{IsSymbolName}
-use Rattle.rule_model.specs.Proofs.{ProofItems, with_assume}
 use Rattle.rule_model.specs.Scopes.{Nesting, outermost, Scope, commands_in, first_index, next_index}
-use Rattle.rule_model.specs.Visibility.{direct, seen, sight, visible_ids, open_ids}
+use Rattle.rule_model.specs.Visibility.{direct, sight, visible_ids, open_ids}
 use Rattle.rule_model.specs.WellFormed.{IsNewId}
 use Rattle.rule_model.specs.Writing.{unwritten, add_assume}
 use Rattle.bench_parts.specs.Numbered.{number_of, IsNumberedScope}

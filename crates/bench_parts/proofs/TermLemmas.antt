@@ -5,6 +5,7 @@ use Rattle.sym_table.specs.Leaf.{Leaf, function}
 use Rattle.sym_table.specs.Table.{Table, Keeps, with_leaf}
 use Rattle.term_model.specs.declared.symbols.Sort.{Sort}
 use Rattle.term_model.specs.Terms.{Term, numeral, variable, operation, call, let_in, list_of, terms_of}
+use Rattle.term_model.proofs.Lists.{list_of-terms_of}
 use Rattle.term_pool.specs.declared.shape.Shape.{Shape}
 use Rattle.term_pool.specs.Reading.{arguments_of, list_of_bindings, IsShapeOf, HasArgument}
 use Rattle.term_pool.specs.StandsFor.{function_leaf}
@@ -33,15 +34,11 @@ means_of s v (r ∷ rs) all =
     let rest = means_of s v rs (λ k d low. all (suc k) d (omega arith)) in
     record { terms = first.means ∷ rest.terms; refer = (first.refers, rest.refer) }
 
-same_list : (ts : List Term) → list_of (terms_of ts) ≡ ts
-same_list [] = refl
-same_list (t ∷ ts) = rw (same_list ts) refl
-
 pub application_is_term : (s : Table) (old new : TermsView) (head r : ℕ) (rs : List ℕ) → IsDeclaredLeaf s head → All (IsTerm s old) rs → ((s : Table) (ts : List Term) (t : Term) → ReferToAll s old rs ts → IsAppliedLeaf s head ts t → RefersTo s new r t) → IsTerm s new r
 application_is_term s old new head r rs is_head all term =
     let all_means = means_of s old rs all in
     let t = call is_head.function (terms_of all_means.terms) in
-    record { means = t; refers = term s all_means.terms t all_means.refer (is_head.leaf, same_list all_means.terms) }
+    record { means = t; refers = term s all_means.terms t all_means.refer (is_head.leaf, list_of-terms_of all_means.terms) }
 
 pub ok_is_term : {E : Type 0} → (result : Result ℕ E) (s : Table) (old new : TermsView) (head : ℕ) (rs : List ℕ) → IsDeclaredLeaf s head → All (IsTerm s old) rs → IfOk result (λ r. (s : Table) (ts : List Term) (t : Term) → ReferToAll s old rs ts → IsAppliedLeaf s head ts t → RefersTo s new r t) → IfOk result (IsTerm s new)
 ok_is_term (Ok r) s old new head rs is_head all term = application_is_term s old new head r rs is_head all term

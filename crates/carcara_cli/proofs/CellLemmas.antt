@@ -3,23 +3,19 @@ use Rattle.std.proofs.Common.{◌≡◌, ◌⊎◌, ℕ, ◌+◌, ◌^◌, ◌<�
 use Rattle.std.proofs.lemmas.Bool.{cases_lt}
 use Rattle.pair_pool.specs.Trees.{Tree, cell}
 use Rattle.pair_pool.specs.Views.{PassView, IsListed, IsSeen, IsOneToOne, HasListsInOrder}
+use Rattle.pair_pool.proofs.StateLemmas.{not_listed}
 use Rattle.sym_table.specs.Table.{Table, IsTable, Keeps}
 use Rattle.term_model.specs.Terms.{Term}
 use Rattle.term_pool.specs.Views.{KeepsPass}
-use Rattle.term_names.specs.Making.{PlacesCellsOf, LacksCellOf, IsWantedCell}
-use Rattle.term_reader.proofs.Staying.{cell_stays, cell_more}
-use Rattle.proof_contexts.specs.Placing.{PlacesOf, LacksRoomForSome}
+use Rattle.term_pool.specs.Placing.{PlacesCellsOf, LacksCellOf, IsWantedCell}
+use Rattle.term_pool.proofs.PlacedCells.{cell_stays, cell_more}
 use Rattle.carcara_cli.specs.Cells.{IsCellOfRead, HasMoreCells}
 use Rattle.carcara_cli.specs.Pools.{HoldsOnly}
-
-none_listed : (r a b : ℕ) → IsListed [] r a b → ⊥
-unfolding IsListed
-none_listed r a b l = absurd (omega (arith, l.1))
 
 -- in a pass in which nothing stood, what was placed are cells of these terms
 pub holds_placed : (s : Table) (old new : PassView) (P Q : Term → Type 0) → ((t : Term) → P t → Q t) → old.placed ≡ [] → PlacesCellsOf s old new P → HoldsOnly s new Q
 holds_placed s old new P Q more nothing placed r a b p = elim (placed r a b p) [
-  | inl before ↦ let none : IsListed [] r a b = rw nothing at before in absurd (none_listed r a b none)
+  | inl before ↦ let none : IsListed [] r a b = rw nothing at before in absurd (not_listed r a b none)
   | inr is ↦ cell_more s new P Q more a b is
 ]
 
@@ -42,16 +38,6 @@ more_cells_of P Q n more h = record {
   are = λ i within. let is = h.are i within in record { whole = is.whole; read = more is.whole is.read; tree = is.tree; stands = is.stands; part = is.part; is_cell = is.is_cell };
   apart = h.apart;
 }
-
--- in the words of the readers, what the check placed and what lacked room there
-pub placed_cells : (s : Table) (old new : PassView) (P : Term → Type 0) → PlacesOf s old new P → PlacesCellsOf s old new P
-placed_cells s old new P placed r a b p = elim (placed r a b p) [
-  | inl before ↦ inl before
-  | inr is ↦ inr (record { whole = is.term; wanted = is.kind; tree = is.tree; stands = is.stands; cell = is.cell })
-]
-
-pub lacking_cell : (s : Table) (pass : PassView) (P : Term → Type 0) → LacksRoomForSome s pass P → LacksCellOf s pass P
-lacking_cell s pass P h = record { whole = h.term; wanted = h.kind; tree = h.lacks.tree; stands = h.lacks.stands; full = h.lacks.full }
 
 module _ (s : Table) (pass : PassView) (IsRead : Term → Type 0)
     (is_table : IsTable s) (all : pass.shares ≡ 65)

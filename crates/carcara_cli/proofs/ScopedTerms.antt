@@ -26,6 +26,7 @@ use Rattle.alethe_text.specs.ProofTerms.{variables_in, place_in, term_in}
 use Rattle.alethe_text.specs.States.{ProofSettings, ProofState}
 use Rattle.alethe_text.proofs.Endings.{After, Ends}
 use Rattle.alethe_text.proofs.KeptReadings.{Keeps, TermsAre}
+use Rattle.alethe_text.proofs.SortedProofs.{themselves_sorted}
 
 -- What the open anchors bind.
 replaced_by_bound : (bs : List (Var × Term)) (x : Var) (b : Bound) → Contains (map (λ b. itself b.0) bs) b → IsFree x b.stands_for → Replaces bs x
@@ -75,10 +76,6 @@ pub record IsTermIn (nesting : Nesting Var Term) (t : Typed) : Type 0 where
   pub sort : IsOf t.tree t.sort
   pub closed : IsClosedUnder (open_anchors nesting) t.tree
 
-sorted_scope : (bs : List (Var × Term)) → AreBoundSorted (map (λ b. itself b.0) bs)
-sorted_scope [] = tt
-sorted_scope (b ∷ bs) = (refl, sorted_scope bs)
-
 themselves : (bs : List (Var × Term)) → AllByRecursion (λ b. b.stands_for ≡ variable b.variable) (map (λ b. itself b.0) bs)
 themselves [] = tt
 themselves (b ∷ bs) = (refl, themselves bs)
@@ -94,7 +91,7 @@ module _ (settings : ProofSettings) where
       place = place_in settings nesting
 
       sound : IsSound (read_term i place s.script).state × IfOk (read_term i place s.script).result IsRead
-      sound = term-sound (form_of i) place s.script (sorted_scope (reverse (open_bindings nesting))) h.script.sound
+      sound = term-sound (form_of i) place s.script (themselves_sorted (reverse (open_bindings nesting))) h.script.sound
 
       alone : AreThemselves place
       alone _ = themselves (reverse (open_bindings nesting))

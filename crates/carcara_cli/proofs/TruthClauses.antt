@@ -6,13 +6,13 @@ use Rattle.std.proofs.lemmas.List.Elements.{All-nil, All-cons}
 use Rattle.term_model.specs.declared.symbols.Sort.{Sort}
 use Rattle.term_model.specs.Sorts.{IsOf}
 use Rattle.term_model.specs.Terms.{Var, Term}
+use Rattle.term_model.proofs.Lists.{all_joined}
 use Rattle.rule_model.specs.Commands.{Line, entry_of, lines_in}
 use Rattle.rule_model.specs.Conditions.{IsClauseOfTruths}
 use Rattle.rule_model.specs.Proofs.{ProofItems, no_items, with_assume, with_step, with_subproof}
 use Rattle.rule_model.specs.Reading.{clause_of, clause_at}
 use Rattle.rule_model.specs.Scopes.{Nesting, outermost, inner}
 use Rattle.rule_model.specs.Truth.{IsLiteralIn, AreWellSorted, IsWellSortedProof}
-use Rattle.rule_model.proofs.ReplacementLists.{all_joined}
 
 abbrev IsTruthLine : Line Var Term → Type 0
 IsTruthLine l = IsClauseOfTruths (clause_of l.command)

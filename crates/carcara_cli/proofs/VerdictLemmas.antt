@@ -3,6 +3,7 @@ use Rattle.std.proofs.Common.{◌≡◌, ℕ, zero, suc, ◌<◌, List, [], ◌�
 use Rattle.std.specs.List.{AllZip}
 use Rattle.sym_table.specs.Table.{Table}
 use Rattle.term_model.specs.Terms.{Var, Term}
+use Rattle.term_model.proofs.Zips.{zip_length}
 use Rattle.term_pool.specs.Views.{TermsView, RefersTo}
 use Rattle.rule_model.specs.declared.statuses.Status.{Status}
 use Rattle.rule_model.specs.declared.statuses.Verdict.{Verdict}
@@ -25,12 +26,6 @@ module _ {A B : Type 0} (R : A → B → Type 0) where
   nil_zip [] (y ∷ ys) h e = absurd h
   nil_zip (x ∷ xs) [] h e = absurd h
   nil_zip (x ∷ xs) (y ∷ ys) h e = absurd (cc)
-
-  pub zip_length : (xs : List A) (ys : List B) → AllZip R xs ys → length xs ≡ length ys
-  zip_length [] [] h = refl
-  zip_length [] (y ∷ ys) h = absurd h
-  zip_length (x ∷ xs) [] h = absurd h
-  zip_length (x ∷ xs) (y ∷ ys) h = let rest = zip_length xs ys h.1 in omega (arith, rest)
 
 module _ (s : Table) (v : TermsView) (refs : ProofItems ℕ ℕ) (proof : ProofItems Var Term) (same : Corresponds s v refs proof) where
   reaches : ReachesEmpty refs → ReachesEmpty proof

@@ -4,7 +4,7 @@ use Rattle.pair_pool.specs.Views.{PassView, IsPlaced}
 use Rattle.sym_table.specs.Table.{Table}
 use Rattle.term_model.specs.Terms.{Term}
 use Rattle.term_pool.specs.Views.{TermsView}
-use Rattle.term_names.specs.Making.{IsWantedCell}
+use Rattle.term_pool.specs.Placing.{IsWantedCell}
 use Rattle.term_reader.specs.ProblemViews.{ProblemView, IsProblemOf}
 use Rattle.problem_text.specs.Problems.{StandsForProblem}
 use Rattle.problem_text.specs.Scripts.{Script}

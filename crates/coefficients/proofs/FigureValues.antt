@@ -4,11 +4,9 @@ use Rattle.std.proofs.Math.Nat.{add-mul, mul_assoc, mul_comm, mul-one, pow-succ'
 use Rattle.std.proofs.lemmas.List.Sums.{fold-append}
 use Rattle.std.proofs.lemmas.Bool.Decides.{nat_tests}
 use Rattle.sexpr.specs.Words.{numeral_value}
+use Rattle.text_items.proofs.NumeralValues.{with_byte}
 use Rattle.coefficients.specs.Fractions.{IsNarrowPair}
 use Rattle.coefficients.specs.declared.fractions.Pair.{Pair}
-
-abbrev with_byte : ℕ → ℕ → ℕ
-with_byte n b = 10 * n + (b - 48)
 
 -- digits behind others: each of them moves those by one place
 fold_from : (digits : List ℕ) (n : ℕ) → fold with_byte n digits ≡ n * 10 ^ length digits + fold with_byte 0 digits

@@ -3,6 +3,7 @@ use Rattle.std.proofs.Common.{◌≡◌, ℕ, zero, suc, arith, Bool, true, fals
 use Rattle.std.specs.List.{position_or_len, prefix_len, list_all, after_first}
 use Rattle.std.specs.Char.{is_ascii_digit}
 use Rattle.std.proofs.lemmas.List.{append-nil}
+use Rattle.std.proofs.Math.Bool.{and-false}
 use Rattle.sexpr.specs.declared.words.WordKind.{WordKind}
 use Rattle.sexpr.specs.declared.words.WordKind.TheVariants.{Symbol, Keyword, BitLiteral, Numeral, Decimal, Ratio}
 use Rattle.sexpr.proofs.NumberForms.{is_digits-from_numeral, prefix_len-digits, decimal_none, ratio_none}
@@ -26,10 +27,6 @@ SaysBy numeral decimal ratio None = (ratio ≡ false) × (numeral ≡ false) × 
 abbrev pub KindSays : List ℕ → Option WordKind → Type 0
 KindSays w kind = SaysBy (is_numeral w) (is_decimal w) (is_ratio w) kind
 
-and_false : (x : Bool) → (x && false) ≡ false
-and_false true = refl
-and_false false = refl
-
 -- A numeral has no slash, and a decimal none where its digits end.
 numeral_no_ratio : (w : List ℕ) → is_numeral w ≡ true → is_ratio w ≡ false
 numeral_no_ratio w e =
@@ -51,7 +48,7 @@ decimal_no_ratio w e = go (eqb (get_or w (prefix_len is_ascii_digit w) 0) 47) re
 -- What begins with no digit is no number.
 no_numeral : (b : ℕ) (w : List ℕ) → is_ascii_digit b ≡ false → is_numeral (b ∷ w) ≡ false
 no_numeral b [] e = e
-no_numeral b (c ∷ w) e = ap (λ d. not (b == 48) && (d && list_all is_ascii_digit (c ∷ w))) e ∙ and_false (not (b == 48))
+no_numeral b (c ∷ w) e = ap (λ d. not (b == 48) && (d && list_all is_ascii_digit (c ∷ w))) e ∙ and-false (not (b == 48))
 
 no_front : (n b : ℕ) (w : List ℕ) → is_ascii_digit b ≡ false → is_numeral (take n (b ∷ w)) ≡ false
 no_front zero b w e = refl

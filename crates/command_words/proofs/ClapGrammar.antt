@@ -1,5 +1,6 @@
 -- The grammar of the words behind `check`, word by word.
 use Rattle.std.proofs.Common.{◌≡◌, ◌∙◌, ◌&&◌, ◌||◌, ◌+◌, ap, arith, refl, Bool, true, false, not, suc, List, [], ◌∷◌, Option, Some, None}
+use Rattle.std.proofs.Math.Bool.{and-false}
 use Rattle.std.specs.Prelude.{codes, if◌then◌else◌}
 use Rattle.std.specs.List.{prefix_len}
 use Rattle.std.specs.Str.{bytes_eq}
@@ -28,22 +29,18 @@ swap true false k = refl
 swap false true k = refl
 swap false false k = refl
 
-and_false : (b : Bool) → (b && false) ≡ false
-and_false true = refl
-and_false false = refl
-
 at_expand : (e i : Bool) (words : List Word) → told true i words ≡ told_if true i words → told e i (expand_lets ∷ words) ≡ told_if e i (expand_lets ∷ words)
 at_expand true i words h = refl
 at_expand false i words h =
     h ∙ ap (λ c. if c then Some (record { replaces_lets = true; ignores_unknown_rules = i || is_among ignore_unknown words }) else None) (swap (is_among expand_lets words) (i && is_among ignore_unknown words) (are_known_once words))
 
 at_ignore : (e i : Bool) (words : List Word) → told e true words ≡ told_if e true words → told e i (ignore_unknown ∷ words) ≡ told_if e i (ignore_unknown ∷ words)
-at_ignore e true words h = rw (and_false (not (e && is_among expand_lets words))) refl
+at_ignore e true words h = rw (and-false (not (e && is_among expand_lets words))) refl
 at_ignore e false words h = h
 
 at_other : (e i : Bool) (word : Word) (words : List Word) → bytes_eq word expand_lets ≡ false → bytes_eq word ignore_unknown ≡ false → told e i (word ∷ words) ≡ told_if e i (word ∷ words)
 at_other e i word words no_expand no_ignore =
-    rw (no_expand, no_ignore, and_false (not (i && is_among ignore_unknown words)), and_false (not (e && is_among expand_lets words))) refl
+    rw (no_expand, no_ignore, and-false (not (i && is_among ignore_unknown words)), and-false (not (e && is_among expand_lets words))) refl
 
 told_is : (e i : Bool) (words : List Word) → told e i words ≡ told_if e i words
 told_is true true [] = refl

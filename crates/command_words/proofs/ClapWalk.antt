@@ -1,5 +1,6 @@
 -- The walk of `clap` over the words behind `check`, word by word.
-use Rattle.std.proofs.Common.{◌≡◌, ◌&&◌, refl, ℕ, Bool, true, false, List, [], ◌∷◌, Option, Some, None}
+use Rattle.std.proofs.Common.{◌≡◌, refl, ℕ, Bool, true, false, List, [], ◌∷◌, Option, Some, None}
+use Rattle.std.proofs.Math.Bool.{and-false}
 use Rattle.std.specs.Prelude.{codes, ⊤}
 use Rattle.std.specs.Str.{IsUtf8, bytes_eq}
 use Rattle.clap.specs.Kinds.{Kinds, or_else}
@@ -23,10 +24,6 @@ at rows pending position is_trailing = record {
   stopped = None;
 }
 
-and_false : (b : Bool) → (b && false) ≡ false
-and_false true = refl
-and_false false = refl
-
 -- a word that is a value: any behind `--`, and before it one that is no option
 abbrev pub IsValue : Bool → Text → Type 0
 IsValue true word = ⊤
@@ -45,19 +42,19 @@ value_fault false word h is = rw (is.no_end, is.long, is.short) refl
 module _ (rows : List Row) (p : Option (Text × List Text)) (word : Text) where
   pub to_proof : (t : Bool) → IsValue t word → walked rules [] (at rows p 1 t) word ≡ at (settled_rows rules p rows) (Some (codes "proof", word ∷ [])) 2 t
   unfolding walked
-  to_proof true is = rw (and_false (is_pending proof_rule p)) refl
-  to_proof false is = rw (value_met false 1 word (held rows p) is, and_false (is_pending proof_rule p)) refl
+  to_proof true is = rw (and-false (is_pending proof_rule p)) refl
+  to_proof false is = rw (value_met false 1 word (held rows p) is, and-false (is_pending proof_rule p)) refl
 
   pub to_problem : (t : Bool) → IsValue t word → walked rules [] (at rows p 2 t) word ≡ at (settled_rows rules p rows) (Some (codes "problem", word ∷ [])) 3 t
   unfolding walked
-  to_problem true is = rw (and_false (is_pending problem_rule p)) refl
-  to_problem false is = rw (value_met false 2 word (held rows p) is, and_false (is_pending problem_rule p)) refl
+  to_problem true is = rw (and-false (is_pending problem_rule p)) refl
+  to_problem false is = rw (value_met false 2 word (held rows p) is, and-false (is_pending problem_rule p)) refl
 
   pub proof_turn : (t : Bool) → IsValue t word → turn_fault check_shape [] (at rows p 1 t) word ≡ settle_fault rules false (held rows p)
-  proof_turn t is = rw (value_met t 1 word (held rows p) is, value_fault t word (held rows p) is, and_false (is_pending proof_rule p)) refl
+  proof_turn t is = rw (value_met t 1 word (held rows p) is, value_fault t word (held rows p) is, and-false (is_pending proof_rule p)) refl
 
   pub problem_turn : (t : Bool) → IsValue t word → turn_fault check_shape [] (at rows p 2 t) word ≡ settle_fault rules false (held rows p)
-  problem_turn t is = rw (value_met t 2 word (held rows p) is, value_fault t word (held rows p) is, and_false (is_pending problem_rule p)) refl
+  problem_turn t is = rw (value_met t 2 word (held rows p) is, value_fault t word (held rows p) is, and-false (is_pending problem_rule p)) refl
 
   -- and no positional takes a third one
   pub stray_turn : (t : Bool) → IsValue t word → turn_fault check_shape [] (at rows p 3 t) word ≡ [] → ⊥

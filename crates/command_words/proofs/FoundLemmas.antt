@@ -1,5 +1,6 @@
 -- What the getters of `clap`'s matches answer.
 use Rattle.std.proofs.Common.{◌≡◌, ◌∙◌, ap, refl, Bool, true, false, List, Option, Some}
+use Rattle.std.proofs.lemmas.Option.{same_Some}
 use Rattle.std.specs.Prelude.{codes, option_map}
 use Rattle.clap.specs.Matches.{first_value, one_text}
 use Rattle.clap.specs.Walk.{Row, Text, first_of, one_of, rows_of}
@@ -8,11 +9,8 @@ use Rattle.clap.proofs.WalkLemmas.{first_value-rows, one_text-rows}
 use Rattle.command_words.specs.CommandLine.{Asked}
 use Rattle.command_words.specs.Found.{flag_text}
 
-some_same : {A : Type 0} (x y : A) → Some x ≡ Some y → x ≡ y
-some_same x y e = cc
-
 pub rows_are : (x rows : List Row) (found : Option (Text × List Row)) (name : Text) → Some x ≡ option_map (λ p. p.1) found → found ≡ Some (name, rows) → x ≡ rows
-rows_are x rows found name e is = some_same x rows (e ∙ ap (option_map (λ p. p.1)) is)
+rows_are x rows found name e is = same_Some x rows (e ∙ ap (option_map (λ p. p.1)) is)
 
 pub value_is : (f : Found) (id : Text) (rows : List Row) (value : Text) (r : Option Text) → r ≡ first_value f id → rows_of f ≡ rows → first_of id rows ≡ Some value → r ≡ Some value
 value_is f id rows value r e is there = e ∙ first_value-rows f id ∙ ap (first_of id) is ∙ there
@@ -26,4 +24,4 @@ flag_is f id rows b r is there said other = by_text b (one_text f id) r (one_tex
 
 pub asked_is : (p q : Text) (e i : Bool) (a : Asked) → Some p ≡ Some a.proof → Some q ≡ Some a.problem → e ≡ a.options.replaces_lets → i ≡ a.options.ignores_unknown_rules
     → Some (record { proof = p; problem = q; options = record { replaces_lets = e; ignores_unknown_rules = i } }) ≡ Some a
-asked_is p q e i a proof problem lets unknown = rw (some_same p a.proof proof, some_same q a.problem problem, lets, unknown) refl
+asked_is p q e i a proof problem lets unknown = rw (same_Some p a.proof proof, same_Some q a.problem problem, lets, unknown) refl

@@ -4,13 +4,13 @@ use Rattle.std.specs.List.{list_any}
 use Rattle.std.proofs.lemmas.List.Folds.{list_any-append}
 use Rattle.std.proofs.lemmas.List.Elements.{Contains-append_left, Contains-append_right, Contains-push}
 use Rattle.pair_pool.specs.Trees.{Tree, leaf, cell}
+use Rattle.term_model.proofs.Lists.{has_number}
 use Rattle.term_pool.specs.Heights.{is_let_head}
 use Rattle.term_pool.specs.Trees.{pair_leaves}
 use Rattle.contexts.specs.Becoming.{image, becomes, let_becomes, bindings_become, binding_becomes}
 use Rattle.contexts.specs.FreeLeaves.{BindsLeaf, IsFreeLeaf, IsFreeInLet, IsFreeInValues, IsFreeInValue}
 use Rattle.contexts.specs.Shapes.{HasShape, HasLetShape, HasListShape, HasPairShape}
 use Rattle.contexts.proofs.References.{either_true, either_false, from_true, from_false}
-use Rattle.contexts.proofs.Sets.{has-test}
 
 -- the leaves of a list of bindings are those that it binds
 pub binds_listed : (k : ℕ) (t : Tree) → HasListShape t → BindsLeaf k t → Contains (pair_leaves t) k
@@ -49,11 +49,11 @@ image_hidden f hidden k e = go (list_any (nat_eq k) hidden) e
     go false e = absurd cc
 
 pub image_bound : (f : ℕ → Tree) (hidden leaves : List ℕ) (k : ℕ) → Contains leaves k → image f (hidden ++ leaves) k ≡ leaf k
-image_bound f hidden leaves k h = image_hidden f (hidden ++ leaves) k (hidden_both k hidden leaves ((has-test leaves k).1 h))
+image_bound f hidden leaves k h = image_hidden f (hidden ++ leaves) k (hidden_both k hidden leaves ((has_number leaves k).1 h))
 
 pub image_unbound : (f : ℕ → Tree) (hidden leaves : List ℕ) (k : ℕ) → ¬ Contains leaves k → image f (hidden ++ leaves) k ≡ image f hidden k
 image_unbound f hidden leaves k n =
-    ap (λ b. if b then leaf k else f k) (hidden_first k hidden leaves (never (list_any (nat_eq k) leaves) (λ e. n ((has-test leaves k).0 e))))
+    ap (λ b. if b then leaf k else f k) (hidden_first k hidden leaves (never (list_any (nat_eq k) leaves) (λ e. n ((has_number leaves k).0 e))))
   where
     never : (b : Bool) → ¬ (b ≡ true) → b ≡ false
     never true n = absurd (n refl)
@@ -64,9 +64,9 @@ under_let f D E k leaves h = go (list_any (nat_eq k) leaves) refl
   where
     go : (b : Bool) → list_any (nat_eq k) leaves ≡ b → image f (D ++ leaves) k ≡ image f (E ++ leaves) k
     go true e =
-        let c = (has-test leaves k).0 e in image_bound f D leaves k c ∙ sym (image_bound f E leaves k c)
+        let c = (has_number leaves k).0 e in image_bound f D leaves k c ∙ sym (image_bound f E leaves k c)
     go false e =
-        let n : ¬ Contains leaves k = λ c. absurd (let d = (has-test leaves k).1 c in cc) in
+        let n : ¬ Contains leaves k = λ c. absurd (let d = (has_number leaves k).1 c in cc) in
         image_unbound f D leaves k n ∙ h n ∙ sym (image_unbound f E leaves k n)
 
 module _ (f : ℕ → Tree) where

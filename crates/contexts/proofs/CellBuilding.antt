@@ -2,7 +2,7 @@
 use Rattle.std.proofs.Common.{◌≡◌, ℕ, ◌⊎◌, inl, inr, refl}
 use Rattle.pair_pool.specs.Trees.{Tree, cell}
 use Rattle.pair_pool.specs.Views.{PassView, Knows, IsPlaced}
-use Rattle.term_pool.proofs.Keeping.{part-refl, part-trans, placed-trans, placed-none}
+use Rattle.term_pool.proofs.Keeping.{part-refl, part-trans, placed-trans, placed-none, placed-larger, full-larger}
 use Rattle.term_pool.specs.Building.{IsCellIn, PlacesOnlyIn, IsFullIn, Interns, Refuses}
 use Rattle.term_pool.specs.Trees.{IsPartOf}
 use Rattle.term_pool.specs.Views.{TermsView, KeepsPass, KeepsTerms}
@@ -12,22 +12,6 @@ first-part a b = inr (inl (part-refl a))
 
 pub second-part : (a b : Tree) → IsPartOf b (cell a b)
 second-part a b = inr (inr (part-refl b))
-
--- a cell of a part is a cell of the whole
-in_larger : (p : PassView) (a b : ℕ) (s t : Tree) → IsPartOf s t → IsCellIn p a b s → IsCellIn p a b t
-in_larger p a b s t part h = record {
-  first = h.first;
-  second = h.second;
-  first_known = h.first_known;
-  second_known = h.second_known;
-  part = part-trans (cell h.first h.second) s t h.part part;
-}
-
-pub placed-larger : (p q : PassView) (s t : Tree) → IsPartOf s t → PlacesOnlyIn p q s → PlacesOnlyIn p q t
-placed-larger p q s t part h r a b e = elim (h r a b e) [ inl x ↦ inl x | inr y ↦ inr (in_larger q a b s t part y) ]
-
-pub full-larger : (p : PassView) (s t : Tree) → IsPartOf s t → IsFullIn p s → IsFullIn p t
-full-larger p s t part h = record { first = h.first; second = h.second; wanted = in_larger p h.first h.second s t part h.wanted; full = h.full }
 
 -- a cell that is interned, or for which there is no room
 pub interned_places : (p q : PassView) (a b n : ℕ) (s t : Tree) → Knows p a s → Knows p b t → Interns p q a b n → PlacesOnlyIn p q (cell s t)

@@ -9,6 +9,7 @@ use Rattle.rule_model.specs.Substitution.{put_in}
 use Rattle.sym_table.specs.Leaf.{Leaf}
 use Rattle.sym_table.specs.Table.{Table, IsLeaf, IsTable}
 use Rattle.term_model.proofs.Tests.{var_eq_decides}
+use Rattle.term_model.proofs.Basics.{same_some}
 use Rattle.term_model.specs.Terms.{Var, var_eq, Term}
 use Rattle.term_pool.specs.Building.{PlacesOnlyIn, IsFullIn}
 use Rattle.term_pool.specs.StandsFor.{variable_leaf, StandsFor}
@@ -18,7 +19,7 @@ use Rattle.contexts.specs.Firsts.{first_for}
 use Rattle.contexts.specs.PutIn.{StandForReplacement, AreReplacementBy}
 use Rattle.term_pool.specs.Placing.{PlacesTerm, LacksRoomFor}
 use Rattle.term_pool.proofs.Keeping.{placed-none}
-use Rattle.contexts.proofs.Links.{one_variable, one_leaf, same_some}
+use Rattle.term_pool.proofs.Leaves.{one_variable, one_leaf}
 use Rattle.contexts.proofs.Standing.{PutsFor, becomes_stands}
 
 -- a map of the first bindings

@@ -8,9 +8,9 @@ use Rattle.term_model.proofs.Tests.{var_eq_decides}
 use Rattle.term_model.specs.Terms.{Var, var_eq}
 use Rattle.term_pool.specs.StandsFor.{variable_leaf}
 use Rattle.term_pool.specs.Views.{TermsView, RefersTo}
+use Rattle.term_pool.proofs.Leaves.{one_variable, one_leaf}
 use Rattle.contexts.specs.Firsts.{first_for}
 use Rattle.contexts.specs.PutIn.{StandForReplacement}
-use Rattle.contexts.proofs.Links.{one_variable, one_leaf}
 
 -- what is found, and what the replacement has for the variable
 abbrev pub IsFoundFor : Table → TermsView → Replacement → Var → Option ℕ → Type 0

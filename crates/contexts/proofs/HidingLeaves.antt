@@ -1,10 +1,11 @@
 -- Which leaves a let hides.
-use Rattle.std.proofs.Common.{◌≡◌, ℕ, ◌<◌, ◌≤◌, ◌^◌, ◌⊎◌, inl, inr, List, [], ◌∷◌, ◌++◌, length, Bool, true, false, nat_eq, Option, Some, None, if◌then◌else◌, refl, sym, ◌∙◌, ap, subst, Contains, arith, append_assoc}
+use Rattle.std.proofs.Common.{◌≡◌, ℕ, ◌<◌, ◌≤◌, ◌^◌, ◌⊎◌, inl, inr, List, [], ◌∷◌, ◌++◌, Bool, true, false, nat_eq, Option, Some, None, if◌then◌else◌, refl, sym, ◌∙◌, ap, subst, Contains, arith, append_assoc}
 use Rattle.std.specs.HashMap.{get}
 use Rattle.std.specs.List.{list_any}
 use Rattle.std.proofs.lemmas.List.Elements.{Contains-append_left, Contains-append_right, Contains-append_cases, Contains-push, Contains-push_cases}
 use Rattle.pair_pool.specs.Trees.{Tree, leaf, cell}
 use Rattle.pair_pool.specs.Views.{PassView, Knows, IsOneToOne, HasPartsOfTrees}
+use Rattle.term_model.proofs.Lists.{contains_none, has_number}
 use Rattle.term_pool.specs.Trees.{pair_leaves}
 use Rattle.term_pool.specs.Views.{IsKnownCell}
 use Rattle.contexts.specs.Becoming.{image, Images, IsImageAt, AreImages}
@@ -12,10 +13,6 @@ use Rattle.contexts.specs.FreeLeaves.{IsFreeLeaf}
 use Rattle.contexts.specs.Hiding.{IsReplacedLeaf, AddsHidden, AddsFree, Hides}
 use Rattle.contexts.specs.Shapes.{HasListShape, IsBindingList}
 use Rattle.contexts.proofs.LeavingValues.{IsBinding}
-use Rattle.contexts.proofs.Sets.{has-test}
-
-none_in : (k : ℕ) → Contains {X = ℕ} [] k → ⊥
-none_in k h = let below = h.1 in absurd (omega arith)
 
 -- the leaves of a list of bindings, as far as it has been gone through
 pub record IsListing (p : PassView) (list rest : ℕ) (leaves : List ℕ) : Type 0 where
@@ -71,14 +68,14 @@ listing_end p one list rest leaves h low t known =
 -- new ones among leaves
 pub hidden_start : (images : Images) (hidden leaves none new : List ℕ) → none ≡ [] → new ≡ [] → AddsHidden images hidden none [] new
 hidden_start images hidden leaves none new e f = record {
-  kept = λ k i. absurd (none_in k i);
-  all = λ k i. absurd (none_in k (subst (λ (z : List ℕ). Contains z k) e i));
-  only = λ k i. absurd (none_in k (subst (λ (z : List ℕ). Contains z k) f i));
+  kept = λ k i. absurd (contains_none k i);
+  all = λ k i. absurd (contains_none k (subst (λ (z : List ℕ). Contains z k) e i));
+  only = λ k i. absurd (contains_none k (subst (λ (z : List ℕ). Contains z k) f i));
 }
 
 pub hidden_more : (images : Images) (hidden before leaves old new : List ℕ) (k : ℕ) → AddsHidden images hidden before [] old → leaves ≡ before ++ k ∷ [] → new ≡ old ++ k ∷ [] → AddsHidden images hidden leaves [] new
 hidden_more images hidden before leaves old new k h e f = rw (e, f) (record {
-  kept = λ j i. absurd (none_in j i);
+  kept = λ j i. absurd (contains_none j i);
   all = all;
   only = only;
 })
@@ -95,7 +92,7 @@ hidden_more images hidden before leaves old new k h e f = rw (e, f) (record {
 
 pub hidden_skip : (images : Images) (hidden before leaves now : List ℕ) (k : ℕ) → AddsHidden images hidden before [] now → leaves ≡ before ++ k ∷ [] → (IsReplacedLeaf images k → Contains hidden k) → AddsHidden images hidden leaves [] now
 hidden_skip images hidden before leaves now k h e skip = rw e (record {
-  kept = λ j i. absurd (none_in j i);
+  kept = λ j i. absurd (contains_none j i);
   all = λ j i is. elim (Contains-push_cases before k j i) [ inl was ↦ h.all j was is | inr same ↦ inl (subst (Contains hidden) same (skip (subst (IsReplacedLeaf images) (sym same) is))) ];
   only = λ j i. elim (h.only j i) [ inl n ↦ inl n | inr b ↦ inr (Contains-append_left before (k ∷ []) j b) ];
 })
@@ -104,7 +101,7 @@ hidden_skip images hidden before leaves now k h e skip = rw e (record {
 pub free_start : (p : PassView) (none : List ℕ) (r : ℕ) (old : List ℕ) → none ≡ [] → AddsFree p none r old old
 free_start p none r old e = record {
   kept = λ k i. i;
-  all = λ t known k i. absurd (none_in k (subst (λ (z : List ℕ). Contains z k) e i));
+  all = λ t known k i. absurd (contains_none k (subst (λ (z : List ℕ). Contains z k) e i));
   only = λ k i. inl i;
 }
 
@@ -131,8 +128,8 @@ free_skip p before leaves r old now k h e never = rw e (record {
 image_agrees : (p : PassView) (images : Images) (f : ℕ → Tree) → AreImages p images f → (under all : List ℕ) (k : ℕ) → (Contains under k → Contains all k) → (Contains all k → IsReplacedLeaf images k → Contains under k) → image f under k ≡ image f all k
 image_agrees p images f are under all k there back =
     go (list_any (nat_eq k) under) (list_any (nat_eq k) all) (get nat_eq images k) refl (are k)
-    (λ e. (has-test all k).1 (there ((has-test under k).0 e)))
-    (λ e is. (has-test under k).1 (back ((has-test all k).0 e) is))
+    (λ e. (has_number all k).1 (there ((has_number under k).0 e)))
+    (λ e is. (has_number under k).1 (back ((has_number all k).0 e) is))
   where
     go : (a b : Bool) (o : Option ℕ) → get nat_eq images k ≡ o → IsImageAt p o k (f k) → (a ≡ true → b ≡ true) → (b ≡ true → IsReplacedLeaf images k → a ≡ true) → (if a then leaf k else f k) ≡ (if b then leaf k else f k)
     go true true o e at h g = refl
@@ -149,7 +146,7 @@ hides_same p images hidden leaves new list body e h are f images_are t u known s
   where
     back : Contains hidden k ⊎ Contains new k → Contains hidden k
     back (inl a) = a
-    back (inr b) = absurd (none_in k (subst (λ (z : List ℕ). Contains z k) e b))
+    back (inr b) = absurd (contains_none k (subst (λ (z : List ℕ). Contains z k) e b))
 
 pub hides_under : (p : PassView) (images : Images) (hidden leaves new first second under : List ℕ) (list body : ℕ) → AddsHidden images hidden leaves [] new → ((t : Tree) → Knows p list t → HasListShape t → leaves ≡ pair_leaves t) → AddsFree p hidden body [] first → AddsFree p new body first second → ((k : ℕ) → Contains second k → Contains under k) → ((k : ℕ) → Contains under k → Contains second k) → Hides p images hidden list body under
 hides_under p images hidden leaves new first second under list body h are one two into from f images_are t u known shape known_u k free =
@@ -159,11 +156,11 @@ hides_under p images hidden leaves new first second under list body h are one tw
     listed i = subst (λ (z : List ℕ). Contains z k) (are t known shape) i
 
     of_new : Contains {X = ℕ} [] k ⊎ Contains leaves k → Contains (hidden ++ pair_leaves t) k
-    of_new (inl n) = absurd (none_in k n)
+    of_new (inl n) = absurd (contains_none k n)
     of_new (inr b) = Contains-append_right hidden (pair_leaves t) k (listed b)
 
     of_first : Contains {X = ℕ} [] k ⊎ Contains hidden k → Contains (hidden ++ pair_leaves t) k
-    of_first (inl n) = absurd (none_in k n)
+    of_first (inl n) = absurd (contains_none k n)
     of_first (inr b) = Contains-append_left hidden (pair_leaves t) k b
 
     there : Contains under k → Contains (hidden ++ pair_leaves t) k
@@ -180,10 +177,6 @@ hides_under p images hidden leaves new first second under list body h are one tw
     back i is =
         elim (Contains-append_cases hidden (pair_leaves t) k i)
         [ inl a ↦ was a | inr b ↦ is_new (h.all k (subst (λ (z : List ℕ). Contains z k) (sym (are t known shape)) b) is) ]
-
-pub no_items : (xs : List ℕ) → length xs ≡ 0 → xs ≡ []
-no_items [] e = refl
-no_items (x ∷ xs) e = absurd (omega arith)
 
 pub hides_at : (p : PassView) (images : Images) (hidden under found : List ℕ) (list body : ℕ) → found ≡ under → Hides p images hidden list body under → Hides p images hidden list body found
 hides_at p images hidden under found list body e h = subst (Hides p images hidden list body) (sym e) h

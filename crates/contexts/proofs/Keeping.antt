@@ -1,4 +1,4 @@
--- What a walk remembers is right for the next one.
+-- Cited by crates above. What a walk remembers is right for the next one.
 use Rattle.std.proofs.Common.{◌≡◌, ◌<◌, ◌≤◌, ◌^◌, ℕ, List, [], length, Option, Some, None, nat_eq, arith, refl, sym, ◌∙◌, subst}
 use Rattle.std.specs.HashMap.{get}
 use Rattle.pair_pool.specs.Trees.{Tree}

@@ -1,5 +1,5 @@
 -- A substitution stays right, as it goes on in its last frame, enters one and leaves one.
-use Rattle.std.proofs.Common.{◌≡◌, ◌≢◌, ◌⊎◌, inl, inr, ℕ, List, [], ◌∷◌, ◌++◌, Option, Some, None, IsSome, is_some, Result, Ok, Err, OnErr, is_ok, Bool, true, false, eqb, nat_eq, if◌then◌else◌, refl, sym, ◌∙◌, ap, subst}
+use Rattle.std.proofs.Common.{◌≡◌, ◌≢◌, ◌⊎◌, inl, inr, ℕ, List, [], ◌∷◌, ◌++◌, Option, Some, None, IsSome, is_some, Result, Ok, Err, OnErr, is_ok, Bool, true, false, eqb, nat_eq, refl, sym, ◌∙◌, ap, subst}
 use Rattle.std.proofs.lemmas.Bool.Decides.{eqb_tells}
 use Rattle.pair_pool.specs.Trees.{Tree, leaf}
 use Rattle.term_pool.specs.Views.{TermsView, KeepsTerms}
@@ -32,10 +32,6 @@ some_is o r e = ap is_some e
 pub ok_where_room : {T E : Type 0} (r : Result T E) (P : Type 0) → OnErr r P → (P → ⊥) → is_ok r ≡ true
 ok_where_room (Ok x) P h never = refl
 ok_where_room (Err e) P h never = absurd (never h)
-
-pub first_where : {X : Type 0} (b : Bool) (z x y : X) → b ≡ true → z ≡ (if b then x else y) → z ≡ x
-first_where true z x y e h = h
-first_where false z x y e h = absurd cc
 
 module _ (v : TermsView) (x : Substitution) (h : IsRight v x) where
   look_is : look_of x.images ≡ first_for (x.here.bindings.items ++ joined (frames_in_front [] x.around.items))

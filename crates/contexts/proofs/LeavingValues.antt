@@ -3,14 +3,12 @@ use Rattle.std.proofs.Common.{◌≡◌, ℕ, suc, ◌<◌, ◌≤◌, ◌^◌, 
 use Rattle.std.proofs.lemmas.List.Elements.{Contains-append_left, Contains-push, Contains-push_cases}
 use Rattle.pair_pool.specs.Trees.{Tree, leaf, cell}
 use Rattle.pair_pool.specs.Views.{PassView, Knows, IsOneToOne, HasPartsOfTrees}
+use Rattle.term_model.proofs.Lists.{contains_none}
 use Rattle.term_pool.specs.Trees.{depth}
 use Rattle.term_pool.specs.Views.{IsKnownCell}
 use Rattle.contexts.specs.Shapes.{HasShape, HasListShape, IsBindingList}
 use Rattle.contexts.specs.FreeLeaves.{IsFreeInValues, BindsLeaf}
 use Rattle.contexts.specs.Searching.{IsFine, HasFree, ArePartsOf, LeavesValues}
-
-none_in : (k : ℕ) → Contains {X = ℕ} [] k → ⊥
-none_in k h = let below = h.1 in absurd (omega arith)
 
 pub free_among : (p : PassView) (k : ℕ) (a b : List ℕ) (m n : ℕ) → ((c : ℕ) → Contains a c → Contains b c) → m ≤ n → HasFree p k a m → HasFree p k b n
 free_among p k a b m n inside less h = record {
@@ -47,7 +45,7 @@ leaving_start p k list old h = record {
   left_shape = h.shape;
   parts = [];
   added = nothing old;
-  each = λ c i. absurd (none_in c i);
+  each = λ c i. absurd (contains_none c i);
   some = λ f. inr f;
   back = λ f. f;
   low = omega arith;

@@ -1,40 +1,19 @@
--- The trees of terms: their shape, and that a variable stands free in the term exactly where its leaf does in the tree.
-use Rattle.std.proofs.Common.{◌≡◌, ℕ, ◌==◌, ◌⊎◌, ◌↔◌, inl, inr, Bool, true, false, Some, pos, refl, sym, ◌∙◌, ap, subst}
+-- Cited by crates above. The trees of terms: their shape, and that a variable stands free in the term exactly where its leaf does in the tree.
+use Rattle.std.proofs.Common.{◌≡◌, ℕ, ◌==◌, ◌⊎◌, ◌↔◌, inl, inr, Bool, true, false, pos, refl, sym, ◌∙◌, ap, subst}
 use Rattle.std.specs.Bool.{⊤}
 use Rattle.std.proofs.lemmas.Bool.{eqb-true}
 use Rattle.pair_pool.specs.Trees.{Tree, leaf, cell}
 use Rattle.sym_table.specs.Leaf.{Leaf, operator, let_head, nil}
-use Rattle.sym_table.specs.Leaf as Leaf
 use Rattle.sym_table.specs.Table.{Table, IsLeaf, IsTable}
+use Rattle.sym_table.proofs.Tables.{one_symbol}
 use Rattle.term_model.specs.FreeVariables.{IsFree, IsFreeAmong, IsFreeBound, Binds}
 use Rattle.term_model.specs.Terms.{Var, Term, numeral, variable, operation, call, let_in, Terms, no_terms, term, Bindings, no_bindings, binding}
 use Rattle.term_pool.specs.Heights.{is_let_head}
 use Rattle.term_pool.specs.StandsFor.{variable_leaf, function_leaf, StandsFor, StandsForApplication, StandsForList, StandsForBindings}
+use Rattle.term_pool.proofs.Leaves.{one_variable, one_leaf}
 use Rattle.contexts.specs.Shapes.{HasShape, HasLetShape, HasListShape}
 use Rattle.contexts.specs.FreeLeaves.{IsFreeLeaf, IsFreeInLet, IsFreeInValues, BindsLeaf}
 use Rattle.contexts.proofs.References.{either_true, either_false, from_true, from_false}
-
-pub same_some : {X : Type 0} {a b : X} → Some a ≡ Some b → a ≡ b
-same_some e = cc
-
-pub two_leaves : (s : Table) (k : ℕ) (l m : Leaf) → IsLeaf s k l → IsLeaf s k m → l ≡ m
-two_leaves s k l m g h = same_some (sym g ∙ h)
-
-pub leaf_variable : (x y : Var) → variable_leaf x ≡ variable_leaf y → x ≡ y
-leaf_variable x y e = λ i. record { name = names e i; sort = sorts e i }
-  where
-    names : variable_leaf x ≡ variable_leaf y → x.name ≡ y.name
-    names e = cc
-
-    sorts : variable_leaf x ≡ variable_leaf y → x.sort ≡ y.sort
-    sorts e = cc
-
-pub one_variable : (s : Table) (k : ℕ) (x y : Var) → IsLeaf s k (variable_leaf x) → IsLeaf s k (variable_leaf y) → x ≡ y
-one_variable s k x y g h = leaf_variable x y (two_leaves s k (variable_leaf x) (variable_leaf y) g h)
-
-pub one_leaf : (s : Table) → IsTable s → (j k : ℕ) (x y : Var) → IsLeaf s j (variable_leaf x) → IsLeaf s k (variable_leaf y) → x ≡ y → j ≡ k
-one_leaf s table j k x y g h e =
-    table.apart j k (variable_leaf x) (variable_leaf y) g h (ap (λ (z : Var). Leaf.kind_of 0 (variable_leaf z)) e) (ap (λ (z : Var). Leaf.name_of (variable_leaf z)) e)
 
 module _ (s : Table) (table : IsTable s) where
   pub not_let : (k : ℕ) (l : Leaf) → IsLeaf s k l → ¬ (l ≡ let_head) → (k == 1) ≡ false
@@ -42,7 +21,7 @@ module _ (s : Table) (table : IsTable s) where
     where
       go : (b : Bool) → (k == 1) ≡ b → (k == 1) ≡ false
       go false e = e
-      go true e = absurd (other (two_leaves s 1 l let_head (subst (λ j. IsLeaf s j l) (eqb-true k 1 e) here) (table.begins 1 let_head refl)))
+      go true e = absurd (other (one_symbol s 1 l let_head (subst (λ j. IsLeaf s j l) (eqb-true k 1 e) here) (table.begins 1 let_head refl)))
 
   pub term_no_head : (t : Term) (tree : Tree) → StandsFor s tree t → is_let_head tree ≡ false
   term_no_head t (cell a b) h = refl
@@ -106,7 +85,7 @@ module _ (s : Table) (table : IsTable s) where
   module _ (k : ℕ) (x : Var) (here : IsLeaf s k (variable_leaf x)) where
     -- a leaf that is no variable's
     no_variable : (j : ℕ) (l : Leaf) → IsLeaf s j l → ((y : Var) → ¬ (l ≡ variable_leaf y)) → ¬ (j ≡ k)
-    no_variable j l is other e = other x (two_leaves s k l (variable_leaf x) (subst (λ i. IsLeaf s i l) e is) here)
+    no_variable j l is other e = other x (one_symbol s k l (variable_leaf x) (subst (λ i. IsLeaf s i l) e is) here)
 
     binder_there : (y : Var) (j : ℕ) → IsLeaf s j (variable_leaf y) → j ≡ k → y ≡ x
     binder_there y j is e = one_variable s k y x (subst (λ i. IsLeaf s i (variable_leaf y)) e is) here
@@ -114,8 +93,8 @@ module _ (s : Table) (table : IsTable s) where
     binder_back : (y : Var) (j : ℕ) → IsLeaf s j (variable_leaf y) → y ≡ x → j ≡ k
     binder_back y j is e = one_leaf s table j k y x is here e
 
-    same_leaf : (i j : ℕ) → leaf i ≡ leaf j → i ≡ j
-    same_leaf i j e = cc
+    one_number : (i j : ℕ) → leaf i ≡ leaf j → i ≡ j
+    one_number i j e = cc
 
     pub binds_there : (bs : Bindings) (tree : Tree) → StandsForBindings s tree bs → BindsLeaf k tree → Binds bs x
     binds_there no_bindings (leaf j) h b = absurd b
@@ -126,7 +105,7 @@ module _ (s : Table) (table : IsTable s) where
     binds_there (binding y t bs) (leaf j) h b = absurd h
     binds_there (binding y t bs) (cell (leaf j) b) h g = absurd h.0
     binds_there (binding y t bs) (cell (cell (cell c d) a) b) h g = absurd h.0.0
-    binds_there (binding y t bs) (cell (cell (leaf j) a) b) h (inl e) = inl (binder_there y j h.0.0 (same_leaf j k e))
+    binds_there (binding y t bs) (cell (cell (leaf j) a) b) h (inl e) = inl (binder_there y j h.0.0 (one_number j k e))
     binds_there (binding y t bs) (cell (cell (leaf j) a) b) h (inr g) = inr (binds_there bs b h.1 g)
 
     pub binds_back : (bs : Bindings) (tree : Tree) → StandsForBindings s tree bs → Binds bs x → BindsLeaf k tree
@@ -168,7 +147,7 @@ module _ (s : Table) (table : IsTable s) where
           [ inl f ↦ absurd (no_variable j l h.0 never f) | inr g ↦ elim (free_in_either a b (term_no_head t a h.1.0) g) [ inl f ↦ inl (free_there t a h.1.0 f) | inr e ↦ inr (list_there ts b h.1.1 e) ] ]
 
       list_there : (ts : Terms) (tree : Tree) → StandsForList s tree ts → IsFreeLeaf k tree → IsFreeAmong x ts
-      list_there no_terms (leaf j) h e = absurd (no_variable 0 nil (table.begins 0 nil refl) (λ y f. cc) (sym (same_leaf j 0 h) ∙ e))
+      list_there no_terms (leaf j) h e = absurd (no_variable 0 nil (table.begins 0 nil refl) (λ y f. cc) (sym (one_number j 0 h) ∙ e))
       list_there no_terms (cell a b) h e = absurd (impossible h)
         where
           impossible : cell a b ≡ leaf 0 → ⊥

@@ -1,21 +1,16 @@
 -- The derived `==` of places is equality.
-use Rattle.std.proofs.Common.{◌≡◌, ◌≢◌, ◌⊎◌, inl, inr, Bool, true, false, ◌&&◌, refl, Decides}
-use Rattle.std.proofs.lemmas.Bool.Decides.{Decides-eqb}
+use Rattle.std.proofs.Common.{◌≡◌, ◌≢◌, ◌⊎◌, inl, inr, Bool, true, false, refl, Decides}
+use Rattle.std.proofs.lemmas.Bool.Decides.{Decides-eqb, Decides-and}
 use Rattle.contexts.specs.declared.places.Place.{Place}
 use Rattle.contexts.specs.declared.places.Place.TheVariants.{Term, Bindings}
 use Rattle.contexts.specs.contracts.places.PlacePartialEq.TheImpl as places
 
-Decides-both : {P Q : Type 0} (a b : Bool) → Decides a P → Decides b Q → Decides (a && b) (P × Q)
-Decides-both true true p q = (λ h. (p.0 refl, q.0 refl), λ h. refl)
-Decides-both true false p q = (λ h. cc, λ h. q.1 h.1)
-Decides-both false b p q = (λ h. cc, λ h. p.1 h.0)
-
 pub Decides-place : (x y : Place) → Decides ((places.ghosts).eq x y) (x ≡ y)
 Decides-place (Term a b) (Term c d) =
-    let both = Decides-both _ _ (Decides-eqb a c) (Decides-eqb b d) in
+    let both = Decides-and _ _ (Decides-eqb a c) (Decides-eqb b d) in
     (λ h. let e = both.0 h in let e0 = e.0 in let e1 = e.1 in cc, λ h. both.1 ((cc), (cc)))
 Decides-place (Bindings a b) (Bindings c d) =
-    let both = Decides-both _ _ (Decides-eqb a c) (Decides-eqb b d) in
+    let both = Decides-and _ _ (Decides-eqb a c) (Decides-eqb b d) in
     (λ h. let e = both.0 h in let e0 = e.0 in let e1 = e.1 in cc, λ h. both.1 ((cc), (cc)))
 Decides-place (Term a b) (Bindings c d) = (λ h. cc, λ h. cc)
 Decides-place (Bindings a b) (Term c d) = (λ h. cc, λ h. cc)

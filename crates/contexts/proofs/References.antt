@@ -1,9 +1,10 @@
 -- References of leaves and of cells, and lists of references.
-use Rattle.std.proofs.Common.{◌≡◌, ℕ, ◌<◌, ◌≤◌, ◌^◌, Bool, true, false, refl, sym, ◌∙◌, subst, arith, ◌==◌}
+use Rattle.std.proofs.Common.{◌≡◌, ℕ, ◌≤◌, ◌^◌, Bool, true, false, refl, sym, ◌∙◌, arith, ◌==◌}
 use Rattle.pair_pool.specs.Trees.{Tree, leaf, cell}
 use Rattle.pair_pool.specs.Views.{PassView, Knows, IsKnown, IsOneToOne, HasPartsOfTrees}
 use Rattle.term_pool.specs.Heights.{is_let_head}
 use Rattle.term_pool.specs.Views.{IsKnownCell}
+use Rattle.term_pool.proofs.Depth.{is_cell}
 use Rattle.std.proofs.lemmas.Bool.{eqb-true}
 use Rattle.contexts.specs.Shapes.{Either, HasLetShape, IsShaped, IsLetRest}
 
@@ -24,17 +25,8 @@ pub from_false : (b : Bool) (P Q : Type 0) → b ≡ false → Either b P Q → 
 from_false true P Q e h = absurd cc
 from_false false P Q e h = h
 
--- a leaf, and a cell
-pub leaf_of : (p : PassView) → IsOneToOne p → HasPartsOfTrees p → (r : ℕ) (t : Tree) → Knows p r t → r < 2 ^ 30 → t ≡ leaf r
-leaf_of p one parts r (leaf k) known low = let e = parts.leaf_number r k known in subst (λ j. leaf j ≡ leaf r) e.0 refl
-leaf_of p one parts r (cell a b) known low = let high = one.high r a b known in absurd (omega arith)
-
-pub cell_of : (p : PassView) → HasPartsOfTrees p → (r : ℕ) (t : Tree) → Knows p r t → 2 ^ 30 ≤ r → IsKnownCell p r
-cell_of p parts r (leaf k) known high = let e = parts.leaf_number r k known in absurd (omega (arith, e.0, e.1))
-cell_of p parts r (cell a b) known high = record { first = a; second = b; stands = known }
-
 pub shaped_cell : (p : PassView) → HasPartsOfTrees p → (r : ℕ) → IsShaped p r → 2 ^ 30 ≤ r → IsKnownCell p r
-shaped_cell p parts r h high = cell_of p parts r h.tree h.known high
+shaped_cell p parts r h high = is_cell p parts r h.tree h.known high
 
 pub rest_cell : (p : PassView) (r : ℕ) → IsLetRest p r → IsKnownCell p r
 rest_cell p r h = go h.tree h.known h.shape

@@ -1,4 +1,4 @@
--- Facts about the variants of a result.
+-- Cited by crates above. Facts about the variants of a result.
 use Rattle.std.proofs.Common.{Result, Ok, Err, IfErr, IsErrAnd, ◌≡◌, sym, subst}
 
 -- a fact of an error that is handed on

@@ -3,13 +3,15 @@ use Rattle.std.proofs.Common.{◌≡◌, ℕ, suc, ◌<◌, ◌^◌, ◌⊎◌, 
 use Rattle.std.proofs.lemmas.List.Elements.{Contains-append_left, Contains-append_right, Contains-append_cases, Contains-push, Contains-push_cases}
 use Rattle.pair_pool.specs.Trees.{Tree, leaf, cell}
 use Rattle.pair_pool.specs.Views.{PassView, Knows, IsOneToOne, HasPartsOfTrees}
+use Rattle.term_model.proofs.Lists.{contains_none}
 use Rattle.term_pool.specs.Heights.{is_let_head}
 use Rattle.term_pool.specs.Trees.{depth}
 use Rattle.term_pool.specs.Views.{IsKnownCell}
+use Rattle.term_pool.proofs.ReadingLemmas.{leaf_of}
 use Rattle.contexts.specs.Shapes.{HasShape, HasLetShape, IsShaped, IsLetRest, IsBindingList}
 use Rattle.contexts.specs.FreeLeaves.{IsFreeLeaf, IsFreeInLet, BindsLeaf}
 use Rattle.contexts.specs.Searching.{IsFine, HasFree, ArePartsOf, LeavesParts, LeavesLet, LeavesValues}
-use Rattle.contexts.proofs.References.{leaf_of, head_other, head_of_let, from_true, from_false, either_true, either_false}
+use Rattle.contexts.proofs.References.{head_other, head_of_let, from_true, from_false, either_true, either_false}
 use Rattle.contexts.proofs.LeavingValues.{free_among}
 
 -- what is left to be looked at, and what has been met
@@ -20,11 +22,8 @@ pub record IsSearch (p : PassView) (k r : ℕ) (seen left : List ℕ) : Type 0 w
   lasting : IsFreeLeaf k root → HasFree p k left (suc (depth root))
   closed : (q : ℕ) (t : Tree) → Contains seen q → Knows p q t → IsFreeLeaf k t → HasFree p k left (depth t)
 
-none_in : (k : ℕ) → Contains {X = ℕ} [] k → ⊥
-none_in k h = let below = h.1 in absurd (omega arith)
-
 only : (r q : ℕ) → Contains (r ∷ []) q → r ≡ q
-only r q h = elim (Contains-push_cases [] r q h) [ inl n ↦ absurd (none_in q n) | inr e ↦ e ]
+only r q h = elim (Contains-push_cases [] r q h) [ inl n ↦ absurd (contains_none q n) | inr e ↦ e ]
 
 pub search_start : (p : PassView) (k r : ℕ) (none left : List ℕ) → none ≡ [] → left ≡ r ∷ [] → IsShaped p r → IsSearch p k r none left
 search_start p k r none left e f h = rw (e, f) (record {
@@ -32,7 +31,7 @@ search_start p k r none left e f h = rw (e, f) (record {
   root_known = h.known;
   fine = λ q i. subst (IsFine p k (IsFreeLeaf k h.tree)) (only r q i) (record { tree = h.tree; known = h.known; shape = h.shape; sound = λ g. g });
   lasting = λ g. record { reference = r; here = Contains-push [] r; tree = h.tree; known = h.known; free = g; less = omega arith };
-  closed = λ q t i. absurd (none_in q i);
+  closed = λ q t i. absurd (contains_none q i);
 })
 
 -- the reference that is looked at
@@ -116,7 +115,7 @@ module _ (p : PassView) (one : IsOneToOne p) (k r : ℕ) (seen rest : List ℕ) 
 pub search_none : (p : PassView) → IsOneToOne p → (k r : ℕ) (seen left : List ℕ) → left ≡ [] → IsSearch p k r seen left → (t : Tree) → Knows p r t → ¬ IsFreeLeaf k t
 search_none p one k r seen left e h t known g =
     let f = h.lasting (subst (IsFreeLeaf k) (one.one_tree r t h.root known h.root_known) g) in
-    none_in f.reference (subst (λ (z : List ℕ). Contains z f.reference) e f.here)
+    contains_none f.reference (subst (λ (z : List ℕ). Contains z f.reference) e f.here)
 
 -- the parts of a cell that is no let
 module _ (p : PassView) (one : IsOneToOne p) (parts : HasPartsOfTrees p) (k r a b : ℕ) (first : (s t : Tree) → Knows p r (cell s t) → Knows p a s) (second : (s t : Tree) → Knows p r (cell s t) → Knows p b t) where

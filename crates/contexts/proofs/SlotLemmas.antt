@@ -1,21 +1,12 @@
 -- What slots say.
-use Rattle.std.proofs.Common.{◌≡◌, ◌≢◌, ◌<◌, ◌≤◌, ◌^◌, ◌+◌, ◌-◌, ◌⊎◌, inl, inr, ℕ, get_or, replicate, Some, Result, Ok, Err, OnOk, OnErr, Bool, true, false, length, if◌then◌else◌, refl, sym, ◌∙◌, ap, arith}
+use Rattle.std.proofs.Common.{◌≡◌, ◌≢◌, ◌^◌, ◌+◌, ◌-◌, ℕ, replicate, Some, Result, Ok, Err, OnOk, OnErr, Bool, true, false, length, if◌then◌else◌, refl, sym, ◌∙◌, ap, arith}
 use Rattle.std.specs.HashMap.{get, hash_map_len}
-use Rattle.std.proofs.lemmas.Bool.{cases_lt}
-use Rattle.std.proofs.lemmas.List.{length-replicate, get_or-replicate, get_or_past}
+use Rattle.term_pool.proofs.NumberingLemmas.{zero_at}
 use Rattle.contexts.specs.contracts.places.PlacePartialEq.TheImpl as places
 use Rattle.contexts.specs.declared.memo.Memo.{Memo}
 use Rattle.contexts.specs.declared.places.Place.{Place}
 use Rattle.contexts.specs.declared.places.Place.TheVariants.{Term, Bindings}
 use Rattle.contexts.specs.Remembering.{IsCopy, if_cell, found_at_slot, is_bare, reference_of, remembered, FindsNoMore, Remembers, RemembersNoMore}
-
--- leaves in all slots
-zero_at : (n i : ℕ) → get_or {A = ℕ} (replicate {A = ℕ} n 0) i 0 ≡ 0
-zero_at n i = go (cases_lt i n)
-  where
-    go : (i < n) ⊎ (n ≤ i) → get_or {A = ℕ} (replicate {A = ℕ} n 0) i 0 ≡ 0
-    go (inl less) = get_or-replicate n i 0 0 less
-    go (inr past) = get_or_past _ i 0 (omega (arith, length-replicate {A = ℕ} n 0))
 
 pub copy_start : (memo : Memo) (n : ℕ) → IsCopy memo (replicate {A = ℕ} n 0)
 copy_start memo n i x e = absurd (let none = ap if_cell (zero_at n i) in cc)

@@ -7,6 +7,7 @@ use Rattle.sym_table.specs.Leaf.{Leaf, operator, let_head}
 use Rattle.sym_table.specs.Table.{Table, IsLeaf, IsTable}
 use Rattle.term_model.specs.FreeVariables.{Binds}
 use Rattle.term_model.specs.Terms.{Var, Term, numeral, variable, operation, call, let_in, Terms, no_terms, term, Bindings, no_bindings, binding}
+use Rattle.term_model.proofs.Lists.{has_number}
 use Rattle.rule_model.specs.Replacement.{Replacement, replaced_by}
 use Rattle.rule_model.specs.Substitution.{unbound, put_in, put_in_all, put_in_bound}
 use Rattle.rule_model.proofs.Substituting.{binds-cases, term_at-bound, term_at-unbound}
@@ -18,7 +19,6 @@ use Rattle.contexts.specs.FreeLeaves.{BindsLeaf}
 use Rattle.contexts.specs.Shapes.{HasListShape}
 use Rattle.contexts.proofs.Agreeing.{image_bound, image_unbound, binds_listed}
 use Rattle.contexts.proofs.Links.{term_no_head, not_let, bindings_shape, binds_there, binds_back}
-use Rattle.contexts.proofs.Sets.{has-test}
 
 -- what is put in for leaves is what the replacement puts in for variables, and other leaves stay
 pub record PutsFor (s : Table) (f : ℕ → Tree) (hidden : List ℕ) (q : Replacement) : Type 0 where
@@ -72,9 +72,9 @@ module _ (s : Table) (table : IsTable s) (f : ℕ → Tree) where
       rest k l here never = go (list_any (nat_eq k) (pair_leaves list)) refl
         where
           go : (b : Bool) → list_any (nat_eq k) (pair_leaves list) ≡ b → image f (hidden ++ pair_leaves list) k ≡ leaf k
-          go true e = image_bound f hidden (pair_leaves list) k ((has-test (pair_leaves list) k).0 e)
+          go true e = image_bound f hidden (pair_leaves list) k ((has_number (pair_leaves list) k).0 e)
           go false e =
-              image_unbound f hidden (pair_leaves list) k (λ c. absurd (let d = (has-test (pair_leaves list) k).1 c in cc)) ∙ h.others k l here never
+              image_unbound f hidden (pair_leaves list) k (λ c. absurd (let d = (has_number (pair_leaves list) k).1 c in cc)) ∙ h.others k l here never
 
   mutual
     pub becomes_stands : (t : Term) (tree : Tree) (hidden : List ℕ) (q : Replacement) → PutsFor s f hidden q → StandsFor s tree t → StandsFor s (becomes f hidden tree) (put_in q t)

@@ -4,6 +4,7 @@ use Rattle.std.specs.HashMap.{get}
 use Rattle.std.specs.List.{list_any}
 use Rattle.pair_pool.specs.Trees.{Tree, leaf, cell}
 use Rattle.pair_pool.specs.Views.{PassView, Knows, IsKnown, IsOneToOne, HasPartsOfTrees}
+use Rattle.term_model.proofs.Basics.{same_some}
 use Rattle.term_pool.specs.Building.{PlacesOnlyIn, IsFullIn}
 use Rattle.term_pool.specs.Heights.{is_let_head}
 use Rattle.term_pool.specs.Trees.{IsPartOf, depth, pair_leaves}
@@ -22,11 +23,9 @@ use Rattle.contexts.specs.Remembering.{reference_of, remembered}
 use Rattle.contexts.specs.Shapes.{HasShape, HasLetShape, HasListShape, IsShaped, IsLetRest, IsBindingList}
 use Rattle.contexts.proofs.Agreeing.{becomes_agree}
 use Rattle.term_pool.proofs.Keeping.{placed-none}
-use Rattle.contexts.proofs.References.{cell_of, from_true, from_false}
+use Rattle.term_pool.proofs.Depth.{is_cell}
+use Rattle.contexts.proofs.References.{from_true, from_false}
 use Rattle.contexts.proofs.Standing.{if_true, if_false}
-
-same_some : {X : Type 0} {a b : X} → Some a ≡ Some b → a ≡ b
-same_some e = cc
 
 -- the tree of a place that is a cell
 pub record IsSplit (p : PassView) (r : ℕ) (P : Tree → Type 0) : Type 0 where
@@ -40,7 +39,7 @@ split p parts r P (leaf k) known shape high = let e = parts.leaf_number r k know
 split p parts r P (cell a b) known shape high = record { first = a; second = b; known = known; shape = shape }
 
 pub spot_cell : (p : PassView) → HasPartsOfTrees p → (lists : Lists) (place : Place) → IsSpot p lists place → IsKnownCell p (reference_of place)
-spot_cell p parts lists place h = cell_of p parts (reference_of place) h.tree h.known h.high
+spot_cell p parts lists place h = is_cell p parts (reference_of place) h.tree h.known h.high
 
 -- what a look finds is what the place becomes
 pub image_known : (p : PassView) (images : Images) (f : ℕ → Tree) → AreImages p images f → (hidden : List ℕ) (k : ℕ) → Knows p k (leaf k) → Knows p (image_of_leaf images hidden k) (image f hidden k)

@@ -16,8 +16,7 @@ use Rattle.contexts.specs.Layers.{shadowed, KeepsLayers}
 use Rattle.contexts.specs.Places.{Lists, layer_of, HasPlaceShape, becomes_there, IsSpot, HasBecome, IsMemory, IsUnder, PlacesImage, LacksRoomForImage, IsReady}
 use Rattle.contexts.specs.Remembering.{reference_of, remembered, Remembers}
 use Rattle.contexts.specs.Shapes.{IsShaped}
-use Rattle.term_pool.proofs.Keeping.{part-refl, part-trans, placed-trans, placed-none}
-use Rattle.contexts.proofs.CellBuilding.{placed-larger, full-larger}
+use Rattle.term_pool.proofs.Keeping.{part-refl, part-trans, placed-trans, placed-none, placed-larger, full-larger}
 use Rattle.contexts.proofs.Visiting.{lists_same, split}
 
 -- what is known stays known

@@ -1,6 +1,6 @@
 -- The derived `==` of classes and of items is equality.
-use Rattle.std.proofs.Common.{◌≡◌, ◌≢◌, ◌⊎◌, inl, inr, Bool, true, false, ◌&&◌, refl, ap, Decides}
-use Rattle.std.proofs.lemmas.Bool.Decides.{Decides-eqb}
+use Rattle.std.proofs.Common.{◌≡◌, ◌≢◌, ◌⊎◌, inl, inr, Bool, true, false, refl, ap, Decides}
+use Rattle.std.proofs.lemmas.Bool.Decides.{Decides-eqb, Decides-and}
 use Rattle.flip_keys.specs.declared.classes.Class.{Class}
 use Rattle.flip_keys.specs.declared.classes.Class.TheVariants.{Alone, Equality, Application, Arguments}
 use Rattle.flip_keys.specs.contracts.classes.ClassPartialEq.TheImpl as classes
@@ -8,21 +8,16 @@ use Rattle.flip_keys.specs.declared.memory.Item.{Item}
 use Rattle.flip_keys.specs.declared.memory.Item.TheVariants.{Term, List as ListOf}
 use Rattle.flip_keys.specs.contracts.memory.ItemPartialEq.TheImpl as items
 
-Decides-both : {P Q : Type 0} (a b : Bool) → Decides a P → Decides b Q → Decides (a && b) (P × Q)
-Decides-both true true p q = (λ h. (p.0 refl, q.0 refl), λ h. refl)
-Decides-both true false p q = (λ h. cc, λ h. q.1 h.1)
-Decides-both false b p q = (λ h. cc, λ h. p.1 h.0)
-
 pub Decides-class : (x y : Class) → Decides ((classes.ghosts).eq x y) (x ≡ y)
 Decides-class (Alone a) (Alone c) = (λ h. ap Alone ((Decides-eqb a c).0 h), λ h. (Decides-eqb a c).1 (cc))
 Decides-class (Equality a b) (Equality c d) =
-    let both = Decides-both _ _ (Decides-eqb a c) (Decides-eqb b d) in
+    let both = Decides-and _ _ (Decides-eqb a c) (Decides-eqb b d) in
     (λ h. let e = both.0 h in let e0 = e.0 in let e1 = e.1 in cc, λ h. both.1 ((cc), (cc)))
 Decides-class (Application a b) (Application c d) =
-    let both = Decides-both _ _ (Decides-eqb a c) (Decides-eqb b d) in
+    let both = Decides-and _ _ (Decides-eqb a c) (Decides-eqb b d) in
     (λ h. let e = both.0 h in let e0 = e.0 in let e1 = e.1 in cc, λ h. both.1 ((cc), (cc)))
 Decides-class (Arguments a b) (Arguments c d) =
-    let both = Decides-both _ _ (Decides-eqb a c) (Decides-eqb b d) in
+    let both = Decides-and _ _ (Decides-eqb a c) (Decides-eqb b d) in
     (λ h. let e = both.0 h in let e0 = e.0 in let e1 = e.1 in cc, λ h. both.1 ((cc), (cc)))
 Decides-class (Alone a) (Equality c d) = (λ h. cc, λ h. cc)
 Decides-class (Alone a) (Application c d) = (λ h. cc, λ h. cc)

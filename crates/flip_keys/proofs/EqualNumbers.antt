@@ -1,5 +1,6 @@
 -- What has a number keeps it, and two trees have one number exactly where they are equal up to flips.
 use Rattle.std.proofs.Common.{◌≡◌, ◌≢◌, ◌↔◌, ◌⊎◌, inl, inr, ℕ, ◌≤◌, Bool, true, false, ◌&&◌, ◌||◌, if◌then◌else◌, nat_le, List, Some, slice_get, Decides, refl, sym, ap, ◌∙◌, subst, arith}
+use Rattle.std.proofs.lemmas.Bool.{and_parts, or_cases}
 use Rattle.pair_pool.specs.Trees.{Tree, leaf, cell}
 use Rattle.sym_table.specs.Names.{AreApart}
 use Rattle.term_model.proofs.Arities.{nat_le_decides}
@@ -53,15 +54,6 @@ module _ (K J : ℕ → Tree → Type 0) (C D : List Class) (knows : (r : ℕ) (
 false_true : ◌≡◌ {A = Bool} false true → ⊥
 false_true e = cc
 
-and_true : (x y : Bool) → (x && y) ≡ true → (x ≡ true) × (y ≡ true)
-and_true true true e = (refl, refl)
-and_true true false e = absurd (cc)
-and_true false y e = absurd (cc)
-
-or_true : (x y : Bool) → (x || y) ≡ true → (x ≡ true) ⊎ (y ≡ true)
-or_true true y e = inl refl
-or_true false y e = inr e
-
 or_right : (x : Bool) → (x || true) ≡ true
 or_right true = refl
 or_right false = refl
@@ -104,7 +96,7 @@ crossed_pair (leaf j) d e = absurd (cc)
 crossed_pair (cell a (leaf j)) d e = absurd (cc)
 crossed_pair (cell a (cell b end)) (leaf k) e = absurd (cc)
 crossed_pair (cell a (cell b end)) (cell c (leaf k)) e = absurd (cc)
-crossed_pair (cell a (cell b end)) (cell c (cell d rest)) e = and_true _ _ (and_true _ _ e).0
+crossed_pair (cell a (cell b end)) (cell c (cell d rest)) e = and_parts _ _ (and_parts _ _ e).0
 
 lists_end : (e r : Tree) → same_lists 9 e r ≡ true → same_tree e nil_tree ≡ same_tree r nil_tree
 lists_end (leaf j) r h = ap (λ t. same_tree t nil_tree) (tree_same (leaf j) r h)
@@ -116,13 +108,13 @@ lists_pair (leaf j) (leaf k) h = refl
 lists_pair (leaf j) (cell b d) h = absurd (cc)
 lists_pair (cell a c) (leaf k) h = absurd (cc)
 lists_pair (cell a (leaf j)) (cell b (leaf k)) h = refl
-lists_pair (cell a (leaf j)) (cell b (cell d r)) h = absurd (false_true (and_true (same_terms 9 a b) (same_lists 9 (leaf j) (cell d r)) h).1)
-lists_pair (cell a (cell c e)) (cell b (leaf k)) h = absurd (false_true (and_true (same_terms 9 a b) (same_lists 9 (cell c e) (leaf k)) h).1)
+lists_pair (cell a (leaf j)) (cell b (cell d r)) h = absurd (false_true (and_parts (same_terms 9 a b) (same_lists 9 (leaf j) (cell d r)) h).1)
+lists_pair (cell a (cell c e)) (cell b (leaf k)) h = absurd (false_true (and_parts (same_terms 9 a b) (same_lists 9 (cell c e) (leaf k)) h).1)
 lists_pair (cell a (cell c e)) (cell b (cell d r)) h =
-    lists_end e r (and_true _ _ (and_true (same_terms 9 a b) (same_lists 9 (cell c e) (cell d r)) h).1).1
+    lists_end e r (and_parts _ _ (and_parts (same_terms 9 a b) (same_lists 9 (cell c e) (cell d r)) h).1).1
 
 equality_is : (a c : Tree) → is_equality_list a c ≡ true → (a ≡ leaf 9) × (is_pair c ≡ true)
-equality_is a c e = let both = and_true (same_tree a (leaf 9)) (is_pair c) e in (tree_same a (leaf 9) both.0, both.1)
+equality_is a c e = let both = and_parts (same_tree a (leaf 9)) (is_pair c) e in (tree_same a (leaf 9) both.0, both.1)
 
 no_equality : (c : Tree) → is_pair c ≡ true → is_equality_list (leaf 9) c ≡ true
 no_equality c e = rw e refl
@@ -195,15 +187,15 @@ module _ (K : ℕ → Tree → Type 0) (C : List Class) (one_tree : (r : ℕ) (s
 
       back : (same_lists 9 (cell a (cell b e)) (cell c (cell d r)) || crossed 9 (cell a (cell b e)) (cell c (cell d r))) ≡ true → k ≡ l
       back h =
-          elim (or_true _ _ h) [
+          elim (or_cases _ _ h) [
             | inl lists ↦ (
-                let first = and_true (same_terms 9 a c) (same_lists 9 (cell b e) (cell d r)) lists in
-                let second = and_true (same_terms 9 b d) (same_lists 9 e r) first.1 in
+                let first = and_parts (same_terms 9 a c) (same_lists 9 (cell b e) (cell d r)) lists in
+                let second = and_parts (same_terms 9 b d) (same_lists 9 e r) first.1 in
                 let f = (ac p.0 q.0 p.2 q.2).1 first.0 in
                 let g = (bd p.1 q.1 p.3 q.3).1 second.0 in
                 apart k l (side_class q.0 q.1) (subst (λ m. IsNumberedAt C k (side_class m q.1)) f (subst (λ n. IsNumberedAt C k (side_class p.0 n)) g p.4)) q.4)
             | inr cross ↦ (
-                let both = and_true (same_terms 9 a d) (same_terms 9 b c) (and_true (same_tree e nil_tree && same_tree r nil_tree) (same_terms 9 a d && same_terms 9 b c) cross).1 in
+                let both = and_parts (same_terms 9 a d) (same_terms 9 b c) (and_parts (same_tree e nil_tree && same_tree r nil_tree) (same_terms 9 a d && same_terms 9 b c) cross).1 in
                 let f = (ad p.0 q.1 p.2 q.3).1 both.0 in
                 let g = (bc p.1 q.0 p.3 q.2).1 both.1 in
                 let here = subst (λ m. IsNumberedAt C k (side_class m q.0)) f (subst (λ n. IsNumberedAt C k (side_class p.0 n)) g p.4) in
@@ -214,7 +206,7 @@ module _ (K : ℕ → Tree → Type 0) (C : List Class) (one_tree : (r : ℕ) (s
   cells_both a c b d k l lists sides = go (is_let_head a) refl (is_let_head b) refl (is_equality_list a c) refl (is_equality_list b d) refl
     where
       parts : same_terms 9 (cell a c) (cell b d) ≡ true → (same_tree a b ≡ true) × ((if is_let_head a then same_tree c d else (same_lists 9 c d || (same_tree a (leaf 9) && crossed 9 c d))) ≡ true)
-      parts h = and_true (same_tree a b) _ h
+      parts h = and_parts (same_tree a b) _ h
 
       heads : same_terms 9 (cell a c) (cell b d) ≡ true → a ≡ b
       heads h = tree_same a b (parts h).0
@@ -226,9 +218,9 @@ module _ (K : ℕ → Tree → Type 0) (C : List Class) (one_tree : (r : ℕ) (s
       behind : is_let_head a ≡ false → same_terms 9 (cell a c) (cell b d) ≡ true → (same_lists 9 c d ≡ true) ⊎ ((a ≡ leaf 9) × (crossed 9 c d ≡ true))
       behind e h =
           let more : (same_lists 9 c d || (same_tree a (leaf 9) && crossed 9 c d)) ≡ true = rw e at (parts h).1 in
-          elim (or_true (same_lists 9 c d) (same_tree a (leaf 9) && crossed 9 c d) more) [
+          elim (or_cases (same_lists 9 c d) (same_tree a (leaf 9) && crossed 9 c d) more) [
             | inl f ↦ inl f
-            | inr f ↦ (let both = and_true (same_tree a (leaf 9)) (crossed 9 c d) f in inr (tree_same a (leaf 9) both.0, both.1))
+            | inr f ↦ (let both = and_parts (same_tree a (leaf 9)) (crossed 9 c d) f in inr (tree_same a (leaf 9) both.0, both.1))
           ]
 
       pairs : is_let_head a ≡ false → same_terms 9 (cell a c) (cell b d) ≡ true → is_equality_list a c ≡ is_equality_list b d
@@ -289,7 +281,7 @@ module _ (K : ℕ → Tree → Type 0) (C : List Class) (one_tree : (r : ℕ) (s
         let two = (lists p.1 q.1 p.3 q.3).0 rest in
         rw (one, two) refl,
     λ h.
-        let both = and_true (same_terms 9 a b) (same_lists 9 c d) h in
+        let both = and_parts (same_terms 9 a b) (same_lists 9 c d) h in
         let first = (terms p.0 q.0 p.2 q.2).1 both.0 in
         let rest = (lists p.1 q.1 p.3 q.3).1 both.1 in
         apart k l (Class.Arguments q.0 q.1) (subst (λ r. IsNumberedAt C k (Class.Arguments r q.1)) first (subst (λ n. IsNumberedAt C k (Class.Arguments p.0 n)) rest p.4)) q.4,

@@ -1,7 +1,6 @@
 -- The numbers of assertions.
-use Rattle.std.proofs.Common.{◌≡◌, ◌↔◌, ◌⊎◌, inl, inr, zero, suc, ℕ, Bool, true, false, ◌||◌, if◌then◌else◌, nat_eq, List, [], ◌∷◌, ◌++◌, Contains, All, Any, IsTrue, refl, sym, subst, arith}
+use Rattle.std.proofs.Common.{◌≡◌, ◌↔◌, inl, inr, ℕ, Bool, true, false, if◌then◌else◌, nat_eq, List, [], ◌∷◌, ◌++◌, Contains, All, Any, IsTrue, refl, sym, subst, arith}
 use Rattle.std.specs.List.{list_any}
-use Rattle.std.proofs.lemmas.Bool.{eqb-true, eq-eqb}
 use Rattle.std.proofs.lemmas.List.Elements.{All-weaker, Contains-push, Contains-push_cases}
 use Rattle.indexmap.specs.IndexSet.{insert_key}
 use Rattle.pair_pool.specs.Views.{PassView, Knows, IsKnown, IsOneToOne, Grows}
@@ -11,6 +10,7 @@ use Rattle.term_model.specs.declared.symbols.Op.{Op}
 use Rattle.term_model.specs.Flips.{EqualUpToFlips, same as itself}
 use Rattle.term_model.specs.Terms.{Term}
 use Rattle.term_model.proofs.Basics.{any_here, any_later, any_cases}
+use Rattle.term_model.proofs.Lists.{contains_none, contains_cases, contains_head, contains_later, any_of}
 use Rattle.term_pool.specs.Pairs.{same_terms}
 use Rattle.term_pool.specs.Views.{TermsView, RefersTo, ReferToAll}
 use Rattle.term_pool.proofs.FlipLemmas.{flips_are}
@@ -20,19 +20,6 @@ use Rattle.flip_keys.specs.declared.numbering.Keys.{Keys}
 use Rattle.flip_keys.specs.KeyTables.{AreClassKeys, HasKeyNumber, HasMore, InsertsNumber, IsOfOne, HasFoundNumber, HasJust, AreFound}
 use Rattle.flip_keys.proofs.EqualNumbers.{terms_both}
 use Rattle.flip_keys.proofs.Walking.{has_later}
-
-contains_none : {X : Type 0} (x : X) → Contains [] x → ⊥
-contains_none x (k, h, e) = omega (arith, h)
-
-contains_cases : {X : Type 0} (x y : X) (xs : List X) → Contains (x ∷ xs) y → (x ≡ y) ⊎ Contains xs y
-contains_cases x y xs (zero, h, e) = inl e
-contains_cases x y xs (suc k, h, e) = inr (k, omega (arith, h), e)
-
-contains_head : {X : Type 0} (x : X) (xs : List X) → Contains (x ∷ xs) x
-contains_head x xs = (0, omega arith, refl)
-
-contains_later : {X : Type 0} (x y : X) (xs : List X) → Contains xs y → Contains (x ∷ xs) y
-contains_later x y xs (k, h, e) = (suc k, omega (arith, h), e)
 
 contains_before : {X : Type 0} (xs : List X) (y x : X) → Contains xs x → Contains (xs ++ y ∷ []) x
 contains_before [] y x h = absurd (contains_none x h)
@@ -131,30 +118,6 @@ just_more references before after r just inserts = record {
     | inr e ↦ subst (Contains (references ++ r ∷ [])) (sym e) (Contains-push references r)
   ];
 }
-
--- one number more in a set
-any_of : (k : ℕ) (ks : List ℕ) → list_any (nat_eq k) ks ≡ true → Contains ks k
-any_of k [] e = absurd (cc)
-any_of k (x ∷ ks) e = go (nat_eq k x) refl e (any_of k ks)
-  where
-    go : (b : Bool) → nat_eq k x ≡ b → (b || list_any (nat_eq k) ks) ≡ true → (list_any (nat_eq k) ks ≡ true → Contains ks k) → Contains (x ∷ ks) k
-    go true h e rest = subst (λ y. Contains (y ∷ ks) k) (eqb-true k x h) (contains_head k ks)
-    go false h e rest = contains_later x k ks (rest e)
-
-of_any : (k : ℕ) (ks : List ℕ) → Contains ks k → list_any (nat_eq k) ks ≡ true
-of_any k [] h = absurd (contains_none k h)
-of_any k (x ∷ ks) h =
-    elim (contains_cases x k ks h) [
-      | inl e ↦ rw (eq-eqb k x (sym e)) refl
-      | inr later ↦ (let rest = of_any k ks later in rw rest (or_right (nat_eq k x)))
-    ]
-  where
-    or_right : (b : Bool) → (b || true) ≡ true
-    or_right true = refl
-    or_right false = refl
-
-pub has_number : (k : ℕ) (ks : List ℕ) → IsTrue (list_any (nat_eq k) ks) ↔ Contains ks k
-has_number k ks = (any_of k ks, of_any k ks)
 
 pub inserts : (ks : List ℕ) (k : ℕ) → InsertsNumber ks k (insert_key nat_eq ks k)
 inserts ks k = go (list_any (nat_eq k) ks) refl

@@ -2,6 +2,7 @@
 use Rattle.std.proofs.Common.{◌≡◌, ◌≢◌, ◌⊎◌, inl, inr, ℕ, List, [], ◌∷◌, ◌++◌, Option, Some, None, refl, sym, ◌∙◌, subst, arith}
 use Rattle.pair_pool.specs.Trees.{Tree}
 use Rattle.pair_pool.specs.Views.{PassView, Knows, IsKnown, Grows}
+use Rattle.sym_table.proofs.Lists.{AreApart-PlacesItem}
 use Rattle.term_pool.proofs.Ways.{IsWay, way_start, way_unmet, way_here, way_end, way_down, way_up}
 use Rattle.flip_keys.specs.declared.classes.Class.{Class}
 use Rattle.flip_keys.specs.declared.memory.Item.{Item}
@@ -13,7 +14,7 @@ use Rattle.flip_keys.specs.Numbers.{KeepsNumbers}
 use Rattle.flip_keys.specs.Walks.{item_reference, IsClassNumber, HasClassNumber, Memo, number_remembered, AreNumbers, RemembersItem, IsItemBelow, IsItemVisit}
 use Rattle.flip_keys.proofs.ClassKeys.{same_item}
 use Rattle.flip_keys.proofs.EqualNumbers.{term_later, list_later}
-use Rattle.flip_keys.proofs.Places.{place_keeps, place_here, place_apart}
+use Rattle.flip_keys.proofs.Places.{place_keeps, place_here}
 
 -- numbers stay
 number_later : (p q : PassView) (C D : List Class) → Grows p q → KeepsNumbers C D → (x : Item) (t : Tree) (k : ℕ) → IsClassNumber p C x t k → IsClassNumber q D x t k
@@ -128,7 +129,7 @@ module _ (p : PassView) (old new : Keys) (x : Item) (class : Class) (k : ℕ) (k
 
   pub settled_keys : AreClassKeys p new
   settled_keys = record {
-    apart = place_apart old.classes.keys new.classes.keys k class keys.apart settles.found;
+    apart = AreApart-PlacesItem old.classes.keys new.classes.keys k class keys.apart settles.found;
     numbers = λ y n found. go y n found (same_item y x);
   }
     where

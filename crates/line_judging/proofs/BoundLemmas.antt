@@ -1,22 +1,11 @@
 -- The bound of a sum of lines is one.
-use Rattle.std.proofs.Common.{◌≡◌, ◌⊎◌, inl, inr, ℕ, ℤ, pos, ◌+ℤ◌, ◌*ℤ◌, ◌≤ℤ◌, ◌<ℤ◌, List, [], ◌∷◌, sym, subst, ◌∙◌, arith}
-use Rattle.std.proofs.Math.IntN.{*ℤ_comm}
+use Rattle.std.proofs.Common.{◌≡◌, inl, inr, ℕ, ℤ, ◌≤ℤ◌, List, [], ◌∷◌, sym, subst, ◌∙◌, arith}
 use Rattle.std.proofs.lemmas.Int.{ints}
 use Rattle.rule_model.specs.Arithmetic.{CoefficientLine, IsRoundedUp, IsScaledBound, IsAddedBound}
-use Rattle.rule_model.proofs.Ring.{mul-add, mul_le, one-mul}
+use Rattle.rule_model.proofs.Ring.{mul_le}
+use Rattle.rule_model.proofs.Arithmetic.{no_step}
 use Rattle.linear_lines.specs.Lines.{IsAbsurd}
 use Rattle.line_judging.specs.Sums.{AreAbsurd}
-
--- what is rounded up is at most each multiple that is not below
-no_step : (n : ℕ) (k j : ℤ) → (pos n *ℤ k) <ℤ (pos n *ℤ j +ℤ pos n) → k ≤ℤ j
-no_step n k j h = go (either k j)
-  where
-    either : (k j : ℤ) → (k ≤ℤ j) ⊎ ((j +ℤ pos 1) ≤ℤ k)
-    either k j = grind (arith, ints)
-
-    go : (k ≤ℤ j) ⊎ ((j +ℤ pos 1) ≤ℤ k) → k ≤ℤ j
-    go (inl le) = le
-    go (inr more) = absurd (omega (arith, ints, h, mul_le n (j +ℤ pos 1) k more, mul-add (pos n) j (pos 1), *ℤ_comm (pos n) (pos 1), one-mul (pos n)))
 
 rounded_most : (m : ℕ) (z x y : ℤ) → IsRoundedUp m z x → IsRoundedUp m z y → x ≤ℤ y
 rounded_most m z x y a b =

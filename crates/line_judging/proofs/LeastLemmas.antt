@@ -1,7 +1,7 @@
 -- The least multiple of the denominators of lines.
 use Rattle.std.proofs.Common.{◌≡◌, ◌≢◌, ◌⊎◌, inl, inr, ◌≤◌, ◌<◌, ℕ, zero, suc, ◌+◌, ◌*◌, ◌/◌, ◌%◌, unsigned_abs, List, [], ◌∷◌, All, refl, sym, ap, subst, ◌∙◌, arith}
 use Rattle.std.specs.List.{AllZip}
-use Rattle.std.proofs.Math.Nat.{div-add-mod, mul-mod_right, mul-le-mul_left, mul_assoc, mul_comm, le_antisymm}
+use Rattle.std.proofs.Math.Nat.{div-add-mod, mul-mod_right, mul_assoc, mul_comm, le_antisymm}
 use Rattle.std.proofs.lemmas.List.Elements.{All-head, All-tail, All-cons}
 use Rattle.sym_table.specs.Table.{Table}
 use Rattle.term_pool.specs.Views.{TermsView}
@@ -11,6 +11,7 @@ use Rattle.linear_lines.specs.Lines.{StandsForLine, IsMultiple, IsLeast}
 use Rattle.line_judging.specs.Sums.{TellsSum, TellsAbsurdity}
 use Rattle.line_judging.specs.Weights.{IsLineOfTerms}
 use Rattle.line_judging.specs.declared.judging.Absurdity.{Absurdity}
+use Rattle.scaled_sums.proofs.Divisors.{at_least}
 
 abbrev Divided : ℕ → CoefficientLine → Type 0
 Divided n l = Divides (unsigned_abs l.ratio.den) n
@@ -20,12 +21,6 @@ DividedByReferences n l = Divides l.denominator n
 
 abbrev HasDenominator : CoefficientLine → Type 0
 HasDenominator l = 0 < unsigned_abs l.ratio.den
-
--- a divisor of a number that is not 0 is at most that
-at_most : (n m : ℕ) → 0 < m → Divides n m → n ≤ m
-at_most n m some (zero, e) = absurd (omega (arith, some, e))
-at_most n m some (suc k, e) =
-    let more : n * 1 ≤ n * suc k = mul-le-mul_left n (omega arith) in omega (arith, e, more)
 
 -- multiples of the lines and of those that they stand for
 module _ (s : Table) (v : TermsView) where
@@ -49,7 +44,7 @@ module _ (s : Table) (v : TermsView) where
   pub least_of_lines : (n : ℕ) (lines : List Line) (ls : List CoefficientLine) → AllZip (StandsForLine s v) lines ls → IsLeast lines n → IsLeastMultiple ls n
   least_of_lines n lines ls zip is = record {
     multiple = (is.multiple.over, divided n lines ls zip is.multiple.each);
-    least = λ m h. at_most n m h.0 (is.least m (multiple_by_references m lines ls zip h));
+    least = λ m h. at_least n m h.0 (is.least m (multiple_by_references m lines ls zip h));
   }
 
   have_denominators : (lines : List Line) (ls : List CoefficientLine) → AllZip (StandsForLine s v) lines ls → All (IsLineOfTerms s v) lines → All HasDenominator ls
@@ -61,7 +56,7 @@ module _ (s : Table) (v : TermsView) where
 
 -- the denominators are at most their multiple
 pub shares : (lines : List Line) (n : ℕ) → IsLeast lines n → All (λ (l : Line). l.denominator ≤ n) lines
-shares lines n is = λ k d below. at_most _ n is.multiple.over (is.multiple.each k d below)
+shares lines n is = λ k d below. at_least _ n is.multiple.over (is.multiple.each k d below)
 
 -- there is one least multiple
 one_least : (ls : List CoefficientLine) (m n : ℕ) → IsLeastMultiple ls m → IsLeastMultiple ls n → m ≡ n

@@ -7,7 +7,7 @@ use Rattle.scaled_sums.specs.Multiples.{IsLeastMultipleOf}
 use Rattle.linear_lines.specs.declared.lines.Line.{Line}
 use Rattle.linear_lines.specs.Lines.{IsMultiple, IsLeast}
 
-abbrev Divided : ℕ → Line → Type 0
+abbrev pub Divided : ℕ → Line → Type 0
 Divided n l = Divides l.denominator n
 
 divides_one : (m : ℕ) → Divides 1 m

@@ -1,4 +1,4 @@
--- Names where a new one goes last.
+-- Cited by crates above. Names where a new one goes last.
 use Rattle.std.proofs.Common.{◌≡◌, inl, inr, ℕ, Bool, true, false, List, [], ◌∷◌, ◌++◌, length, position, Some, None, sym, ◌∙◌, ap, refl, if◌then◌else◌}
 use Rattle.std.specs.Str.{bytes_eq}
 use Rattle.std.proofs.lemmas.Slice.Eq.{bytes_eq-Decides}

@@ -3,6 +3,7 @@ use Rattle.std.proofs.Common.{◌≡◌, ℕ, List, [], map, Bool, true, IfSome,
 use Rattle.std.specs.List.{AllByRecursion}
 use Rattle.sexpr.specs.Items.{Item}
 use Rattle.term_model.specs.declared.symbols.Sort.{Sort}
+use Rattle.term_model.proofs.Lists.{all_at_end}
 use Rattle.problem_text.specs.Forms.{form_of}
 use Rattle.rule_model.specs.Replacement.{HasNoLet}
 use Rattle.problem_text.specs.TypedTerms.{Typed}
@@ -12,7 +13,7 @@ use Rattle.problem_text.specs.Names.{Place, itself}
 use Rattle.problem_text.specs.Terms.{read_term}
 use Rattle.problem_text.specs.Problems.{StandsForProblem}
 use Rattle.problem_text.specs.Soundness.{HasNoLets}
-use Rattle.problem_text.proofs.Outcomes.{Ends, all_at_end, if_found}
+use Rattle.problem_text.proofs.Outcomes.{Ends, if_found}
 use Rattle.problem_text.proofs.LetFreeTerms.{IsFreeIn, AreBoundFree, parameters-free, term-free}
 use Rattle.problem_text.proofs.KeptByCommands.{problem-kept}
 

@@ -8,6 +8,7 @@ use Rattle.term_model.specs.declared.symbols.Op.{Op}
 use Rattle.term_model.specs.Terms.{Var, Fun, Term, numeral, operation, call, let_in}
 use Rattle.term_model.specs.Sorts.{sorts_eq, application_sort, call_sort}
 use Rattle.term_model.specs.Heights.{height}
+use Rattle.term_model.proofs.Lists.{all_joined}
 use Rattle.problem_text.specs.Words.{is_among, is_built_in, operator_named}
 use Rattle.text_items.specs.ItemShapes.{Name}
 use Rattle.problem_text.specs.Forms.{Form, faulty, number, symbol, application, let_form, annotated, Forms, no_forms, form, LetBinds, no_binds, bind}
@@ -18,7 +19,7 @@ use Rattle.problem_text.specs.Outcomes.{Outcome, done, refuse, and_then}
 use Rattle.problem_text.specs.Scripts.{Named, Script, is_taken, with_named, with_term, with_let_name}
 use Rattle.problem_text.specs.Names.{Bound, Place, itself, innermost, is_bound, replacement, Meaning, value, macro, function, operator, meaning_of_bound, meaning_of_named, meaning_of, trees, sorts_of, expansion, meaning_applied, let_bindings_of, inside, let_term}
 use Rattle.problem_text.specs.Terms.{settled, with_meaning, with_names, term_from, terms_from, bounds_from}
-use Rattle.problem_text.proofs.Outcomes.{Ends, ends-and_then, all_joined, if_found, if_some-or, if_some-map, if_some-and_then}
+use Rattle.problem_text.proofs.Outcomes.{Ends, ends-and_then, if_found, if_some-or, if_some-map, if_some-and_then}
 use Rattle.rule_model.proofs.Replacing.{AreLetFree, replaced-let_free}
 
 -- where lets are replaced, a term has none, and nothing in scope stands for a term with one

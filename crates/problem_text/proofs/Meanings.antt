@@ -6,13 +6,14 @@ use Rattle.term_model.specs.declared.symbols.Op.{Op}
 use Rattle.term_model.specs.Terms.{Var, Fun, operation, call, let_in}
 use Rattle.term_model.specs.Sorts.{IsOf, AreOf, AreBound, sorts_eq, application_sort, call_sort}
 use Rattle.term_model.proofs.Tests.{sorts_eq_decides}
+use Rattle.term_model.proofs.Lists.{all_joined}
 use Rattle.problem_text.specs.Words.{operator_named}
 use Rattle.rule_model.specs.Replacement.{replaced, free_variables}
 use Rattle.problem_text.specs.TypedTerms.{Typed}
 use Rattle.problem_text.specs.Scripts.{Script}
 use Rattle.problem_text.specs.Names.{Bound, Place, itself, innermost, is_bound, replacement, Meaning, value, macro, function, operator, meaning_of_bound, meaning_of_named, meaning_of, trees, sorts_of, expansion, meaning_applied, let_bindings_of, inside, let_term}
 use Rattle.problem_text.specs.Soundness.{AreBoundSorted, IsSound}
-use Rattle.problem_text.proofs.Outcomes.{all_joined, if_found, if_some-or, if_some-map, if_some-and_then}
+use Rattle.problem_text.proofs.Outcomes.{if_found, if_some-or, if_some-map, if_some-and_then}
 use Rattle.rule_model.specs.Substitution.{HaveTheirSorts}
 use Rattle.rule_model.proofs.Replacing.{replaced-sort}
 

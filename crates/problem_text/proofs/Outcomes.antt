@@ -1,5 +1,5 @@
 -- Cited by crates above. What holds of each part of a reading holds of the whole.
-use Rattle.std.proofs.Common.{List, [], ◌∷◌, ◌++◌, Bool, true, false, Option, Some, None, Result, Ok, Err, IfOk, IfSome, cond, find, option_map, option_and_then}
+use Rattle.std.proofs.Common.{List, [], ◌∷◌, Bool, true, false, Option, Some, None, Result, Ok, Err, IfOk, IfSome, cond, find, option_map, option_and_then}
 use Rattle.std.specs.List.{AllByRecursion}
 use Rattle.std.specs.Option.{option_or}
 use Rattle.sexpr.specs.declared.causes.Refusal.{Refusal}
@@ -15,15 +15,6 @@ ends-goes_on P Q R (Err refusal) s next p q k = (p, tt)
 
 pub ends-and_then : {S A B : Type 0} (P : S → Type 0) (Q : A → Type 0) (R : B → Type 0) (o : Outcome S A) (next : A → S → Outcome S B) → Ends P Q o → ((a : A) (s : S) → Q a → P s → Ends P R (next a s)) → Ends P R (and_then o next)
 ends-and_then P Q R o next h k = ends-goes_on P Q R o.result o.state next h.0 h.1 (λ a q. k a o.state q h.0)
-
--- lists
-pub all_at_end : {X : Type 0} (P : X → Type 0) (xs : List X) (x : X) → AllByRecursion P xs → P x → AllByRecursion P (xs ++ x ∷ [])
-all_at_end P [] x h p = (p, tt)
-all_at_end P (y ∷ xs) x h p = (h.0, all_at_end P xs x h.1 p)
-
-pub all_joined : {X : Type 0} (P : X → Type 0) (xs ys : List X) → AllByRecursion P xs → AllByRecursion P ys → AllByRecursion P (xs ++ ys)
-all_joined P [] ys h k = k
-all_joined P (x ∷ xs) ys h k = (h.0, all_joined P xs ys h.1 k)
 
 -- what is found has what all have
 pub if_found : {X : Type 0} (P : X → Type 0) (test : X → Bool) (xs : List X) → AllByRecursion P xs → IfSome (find test xs) P

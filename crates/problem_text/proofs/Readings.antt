@@ -8,6 +8,7 @@ use Rattle.term_model.specs.declared.symbols.Sort.{Sort}
 use Rattle.term_model.specs.Terms.{numeral}
 use Rattle.term_model.specs.Sorts.{IsOf}
 use Rattle.term_model.specs.Heights.{height}
+use Rattle.term_model.proofs.Lists.{all_at_end}
 use Rattle.problem_text.specs.Words.{is_among, is_built_in}
 use Rattle.text_items.specs.ItemShapes.{Name}
 use Rattle.problem_text.specs.Forms.{Form, faulty, number, symbol, application, let_form, annotated, Forms, no_forms, form, LetBinds, no_binds, bind}
@@ -18,7 +19,7 @@ use Rattle.problem_text.specs.Scripts.{Named, Script, is_taken, with_named, with
 use Rattle.problem_text.specs.Names.{Place, Meaning, meaning_of, meaning_applied, inside, let_term}
 use Rattle.problem_text.specs.Terms.{settled, with_meaning, with_names, term_from, terms_from, bounds_from}
 use Rattle.problem_text.specs.Soundness.{IsReadWithin, AreBoundSorted, IsSound}
-use Rattle.problem_text.proofs.Outcomes.{Ends, ends-and_then, all_at_end}
+use Rattle.problem_text.proofs.Outcomes.{Ends, ends-and_then}
 use Rattle.problem_text.proofs.Meanings.{IsFit, meaning-fits, AreTyped, applied-fits, inside-fits, let-fits}
 
 abbrev IsTyped : Typed → Type 0

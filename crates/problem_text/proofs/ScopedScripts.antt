@@ -1,10 +1,11 @@
 -- The free variables of a macro's body are its parameters, and an assertion has none.
-use Rattle.std.proofs.Common.{◌≡◌, ℕ, suc, List, [], ◌∷◌, map, Bool, IfOk, Contains, sym, refl, subst, arith, true}
+use Rattle.std.proofs.Common.{◌≡◌, ℕ, List, [], ◌∷◌, map, Bool, IfOk, Contains, sym, refl, subst, arith, true}
 use Rattle.std.specs.List.{AllByRecursion}
 use Rattle.sexpr.specs.Items.{Item}
 use Rattle.term_model.specs.FreeVariables.{IsFree, IsClosed}
 use Rattle.term_model.specs.Terms.{Var}
 use Rattle.term_model.specs.declared.symbols.Sort.{Sort}
+use Rattle.term_model.proofs.Lists.{contains_later, all_at_end}
 use Rattle.problem_text.specs.Forms.{form_of}
 use Rattle.problem_text.specs.Limits.{limited}
 use Rattle.problem_text.specs.TypedTerms.{Typed}
@@ -13,16 +14,13 @@ use Rattle.problem_text.specs.Names.{Bound, Place, itself}
 use Rattle.problem_text.specs.Terms.{read_term}
 use Rattle.problem_text.specs.Problems.{StandsForProblem}
 use Rattle.problem_text.specs.Soundness.{IsScoped, AreThemselves, HasScopedTerms}
-use Rattle.problem_text.proofs.Outcomes.{Ends, all_at_end}
+use Rattle.problem_text.proofs.Outcomes.{Ends}
 use Rattle.problem_text.proofs.ScopedTerms.{IsOver, AreOver, AreScoped, term-over}
 use Rattle.problem_text.proofs.KeptByCommands.{problem-kept}
 
-later : {X : Type 0} (y : X) (xs : List X) (x : X) → Contains xs x → Contains (y ∷ xs) x
-later y xs x (k, below, same) = (suc k, omega arith, same)
-
 parameters-over : (W : Var → Type 0) (xs : List Var) → ((x : Var) → Contains xs x → W x) → AreOver W (map itself xs)
 parameters-over W [] w = tt
-parameters-over W (x ∷ xs) w = (λ y e. w y (0, omega arith, e), parameters-over W xs (λ y there. w y (later x xs y there)))
+parameters-over W (x ∷ xs) w = (λ y e. w y (0, omega arith, e), parameters-over W xs (λ y there. w y (contains_later x y xs there)))
 
 same_scoped : (s after : Script) → s.named ≡ after.named → s.macros ≡ after.macros → s.assertions ≡ after.assertions → AreScoped s → AreScoped after
 same_scoped s after e f g h = (subst (AllByRecursion (λ m. IsOver (Contains m.parameters) m.body)) f h.0, subst (AllByRecursion IsClosed) g h.1)
@@ -47,7 +45,7 @@ problem-scoped source replaces s h =
 -- each variable in scope is one
 scope-over : (scope all : List Bound) → ((b : Bound) → Contains scope b → Contains all b) → AreOver (λ x. (b : Bound) × Contains all b × IsFree x b.stands_for) scope
 scope-over [] all there = tt
-scope-over (b ∷ scope) all there = (λ x free. (b, there b (0, omega arith, refl), free), scope-over scope all (λ c k. there c (later b scope c k)))
+scope-over (b ∷ scope) all there = (λ x free. (b, there b (0, omega arith, refl), free), scope-over scope all (λ c k. there c (contains_later b c scope k)))
 
 read-over : (i : Item) (p : Place) (s : Script) → AreThemselves p → HasScopedTerms s → Ends AreScoped (λ t. IsScoped p.scope t.tree) (read_term i p s)
 read-over i p s themselves h =

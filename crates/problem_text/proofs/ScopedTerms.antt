@@ -1,4 +1,4 @@
--- Cited by crates above. What is free in a term that is read is free in what the variables in scope stand for.
+-- What is free in a term that is read is free in what the variables in scope stand for.
 use Rattle.std.proofs.Common.{◌≡◌, ℕ, zero, suc, List, [], ◌∷◌, ◌++◌, map, zip, Bool, true, false, ◌&&◌, ◌||◌, cond, Option, Some, None, IfSome, find, option_map, option_and_then, bytes_eq, if◌then◌else◌, refl, subst, ◌⊎◌, inl, inr, Contains, arith}
 use Rattle.std.specs.List.{AllByRecursion, list_all}
 use Rattle.std.specs.Option.{option_map_or}
@@ -10,6 +10,7 @@ use Rattle.term_model.specs.FreeVariables.{Binds, IsFree, IsFreeAmong, IsFreeBou
 use Rattle.term_model.specs.Terms.{Var, var_eq, sort_eq, Fun, Term, numeral, variable, operation, call, let_in, Terms, no_terms, term, Bindings, no_bindings, binding}
 use Rattle.term_model.specs.Sorts.{sorts_eq, application_sort, call_sort}
 use Rattle.term_model.proofs.Tests.{var_eq_decides, sorts_eq_decides}
+use Rattle.term_model.proofs.Lists.{all_joined}
 use Rattle.term_model.specs.Heights.{height}
 use Rattle.rule_model.specs.Replacement.{Replacement, replaced_by, replaced, replaced_all, replaced_bindings, free_variables}
 use Rattle.rule_model.proofs.Freedom.{IsIn, free-listed}
@@ -24,7 +25,7 @@ use Rattle.problem_text.specs.Scripts.{Script, is_taken, with_named, with_term, 
 use Rattle.problem_text.specs.Names.{Bound, Place, itself, innermost, is_bound, replacement, Meaning, value, macro, function, operator, meaning_of_bound, meaning_of_named, meaning_of, trees, sorts_of, expansion, meaning_applied, let_bindings_of, inside, let_term}
 use Rattle.problem_text.specs.Soundness.{AreThemselves}
 use Rattle.problem_text.specs.Terms.{settled, with_meaning, with_names, term_from, terms_from, bounds_from}
-use Rattle.problem_text.proofs.Outcomes.{Ends, ends-and_then, all_joined, if_found, if_some-or, if_some-map, if_some-and_then}
+use Rattle.problem_text.proofs.Outcomes.{Ends, ends-and_then, if_found, if_some-or, if_some-map, if_some-and_then}
 
 -- Whatever is free in the term is one of these variables.
 abbrev pub IsOver : (Var → Type 0) → Term → Type 0

@@ -5,6 +5,7 @@ use Rattle.sexpr.specs.Items.{Item}
 use Rattle.term_model.specs.declared.symbols.Sort.{Sort}
 use Rattle.term_model.specs.Terms.{Var}
 use Rattle.term_model.specs.Sorts.{IsOf}
+use Rattle.term_model.proofs.Lists.{all_at_end}
 use Rattle.problem_text.specs.Forms.{form_of}
 use Rattle.problem_text.specs.TypedTerms.{Typed}
 use Rattle.problem_text.specs.Scripts.{Macro, Script, with_macro, with_assertion}
@@ -13,7 +14,7 @@ use Rattle.problem_text.specs.Names.{Place, itself}
 use Rattle.problem_text.specs.Terms.{read_term}
 use Rattle.problem_text.specs.Problems.{StandsForProblem}
 use Rattle.problem_text.specs.Soundness.{IsReadWithin, IsRead, AreBoundSorted, IsSound}
-use Rattle.problem_text.proofs.Outcomes.{Ends, all_at_end}
+use Rattle.problem_text.proofs.Outcomes.{Ends}
 use Rattle.problem_text.proofs.Readings.{term-sound}
 use Rattle.problem_text.proofs.KeptByCommands.{problem-kept}
 

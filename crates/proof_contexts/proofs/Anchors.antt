@@ -1,13 +1,11 @@
 -- The anchors that are open in a scope are determined, and scopes stand in ones with smaller numbers.
-use Rattle.std.proofs.Common.{◌≡◌, ◌<◌, ◌≤◌, ℕ, zero, suc, List, [], ◌∷◌, Option, Some, None, refl, sym, ◌∙◌, subst, arith}
+use Rattle.std.proofs.Common.{◌≡◌, ◌<◌, ◌≤◌, ℕ, zero, suc, List, [], ◌∷◌, Some, None, refl, sym, ◌∙◌, subst, arith}
+use Rattle.term_model.proofs.Basics.{same_some}
 use Rattle.rule_model.specs.Proofs.{ProofItems}
-use Rattle.rule_model.specs.Reading.{parent_at, bindings_at}
+use Rattle.rule_model.specs.Reading.{parent_at}
 use Rattle.rule_model.specs.Scopes.{subproofs_in}
 use Rattle.rule_model.proofs.Tree.{scope_closed}
 use Rattle.proof_contexts.specs.OpenAnchors.{AreOpenIn}
-
-pub some_same : {X : Type 0} {a b : X} → Some a ≡ Some b → a ≡ b
-some_same e = cc
 
 pub none_some : {X : Type 0} {a : X} → None ≡ Some a → ⊥
 none_some e = cc
@@ -17,7 +15,7 @@ open_same proof k [] [] h g = refl
 open_same proof k [] (b ∷ bs) h g = absurd (none_some (sym h ∙ g.1))
 open_same proof k (a ∷ xs) [] h g = absurd (none_some (sym g ∙ h.1))
 open_same {V} {T} proof k (a ∷ xs) (b ∷ bs) h g =
-    let p = some_same (sym h.1 ∙ g.1) in
+    let p = same_some (sym h.1 ∙ g.1) in
     let rest = open_same proof g.0 xs bs (subst (λ q. AreOpenIn proof q xs) p h.3) g.3 in
     let first = sym h.2 ∙ g.2 in cc
 
@@ -29,7 +27,7 @@ pub parent_less : {V T : Type 0} (proof : ProofItems V T) (k p : ℕ) → k ≤ 
 parent_less proof zero p within e = absurd (none_some e)
 parent_less proof (suc k) p within e =
     let c = has_parent proof (suc k) (omega arith) within in
-    let same = some_same (sym c.1 ∙ e) in
+    let same = same_some (sym c.1 ∙ e) in
     let less = c.2 in omega arith
 
 pub some_parent : {V T : Type 0} (proof : ProofItems V T) (k : ℕ) → 0 < k → k ≤ subproofs_in proof → parent_at proof k ≡ None → ⊥

@@ -14,7 +14,7 @@ use Rattle.sym_table.specs.Table.{Table, IsTable}
 use Rattle.term_model.specs.Terms.{Var, Term}
 use Rattle.term_pool.specs.Views.{TermsView, KeepsTerms}
 use Rattle.proof_contexts.specs.declared.scopes.OpenScopes.{OpenScopes}
-use Rattle.proof_contexts.specs.OpenAnchors.{AreOpenIn, IsLevel, EndsOutermost, AreLevels, scopes_entered, AreKept}
+use Rattle.proof_contexts.specs.OpenAnchors.{AreOpenIn, IsLevel, AreLevels, scopes_entered, AreKept}
 use Rattle.proof_contexts.specs.Ways.{AreKeptOfSome}
 use Rattle.proof_contexts.proofs.Anchors.{open_same}
 

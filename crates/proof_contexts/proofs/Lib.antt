@@ -1,6 +1,4 @@
 pub mod Anchors
-pub mod Growing
-pub mod Placing
 pub mod ImageLists
 pub mod Levels
 pub mod ImageSteps

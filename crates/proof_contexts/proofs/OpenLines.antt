@@ -1,18 +1,17 @@
 -- The anchors that are open at a command are those of its scope and the scopes around it.
-use Rattle.std.proofs.Common.{◌≡◌, ◌≤◌, ◌+◌, ℕ, zero, suc, List, [], ◌∷◌, ◌++◌, length, slice_get, Option, Some, None, refl, sym, ◌∙◌, ap, subst, arith}
+use Rattle.std.proofs.Common.{◌≡◌, ◌≤◌, ◌+◌, ℕ, suc, List, [], ◌∷◌, ◌++◌, length, slice_get, Option, Some, None, refl, sym, ◌∙◌, ap, subst, arith}
 use Rattle.std.specs.Bool.{⊤}
 use Rattle.std.specs.List.{AllByRecursion}
 use Rattle.std.specs.Option.{option_map, option_map_or}
 use Rattle.std.proofs.lemmas.Option.{slice_get-map, slice_get_within}
+use Rattle.term_model.proofs.Lists.{slice_get-left, all_joined}
 use Rattle.rule_model.specs.Commands.{IndexedCommand, assume, step, closing, Line, Entry, entry_of, lines_in, own_scope, around_number, closed_scope, ScopeEntry, scope_entry, scopes_in, scopes}
 use Rattle.rule_model.specs.Judged.{open_anchors, anchors_at}
-use Rattle.rule_model.specs.Proofs.{Step, ProofItems, no_items, with_assume, with_step, with_subproof}
-use Rattle.rule_model.specs.Reading.{closes_at, scope_at, parent_at, bindings_at}
+use Rattle.rule_model.specs.Proofs.{ProofItems, no_items, with_assume, with_step, with_subproof}
+use Rattle.rule_model.specs.Reading.{closes_at, scope_at}
 use Rattle.rule_model.specs.Scopes.{Nesting, outermost, inside, inner, subproofs_in, scope_number}
 use Rattle.rule_model.proofs.LineReading.{anchors_are, closes_is, scope_is}
 use Rattle.rule_model.proofs.Numbers.{scopes_in_count}
-use Rattle.rule_model.proofs.ReplacementLists.{all_joined}
-use Rattle.rule_model.proofs.Sights.{slice_get_more}
 use Rattle.rule_model.proofs.Standing.{all_at}
 use Rattle.proof_contexts.specs.OpenAnchors.{AreOpenIn}
 
@@ -58,7 +57,7 @@ module _ {V T : Type 0} where
       (record { entry = own; there = subst (λ k. slice_get entries k ≡ Some own) number here; parent_is = refl; bindings_are = refl }, has) in
       all_joined _ (lines_in nesting items ++ lines_in deep proof) _
       (all_joined _ (lines_in nesting items) _
-      (lines_have entries nesting items (λ j e h. behind j e (slice_get_more xs (own ∷ ys) j e h)) has)
+      (lines_have entries nesting items (λ j e h. behind j e (slice_get-left xs (own ∷ ys) j e h)) has)
       (lines_have entries deep proof (λ j e h. let same : suc (scope_number nesting + (length xs + suc j)) ≡ suc (scope_number deep + j) = omega arith in
       subst (λ k. slice_get entries k ≡ Some e) same (behind (length xs + suc j) e (after xs own ys (suc j) e h))) has_deep))
       (has_deep, tt)

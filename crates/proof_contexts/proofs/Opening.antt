@@ -1,5 +1,5 @@
 -- A scope is entered that stands directly in the one that was entered last.
-use Rattle.std.proofs.Common.{◌≡◌, ◌++◌, ℕ, List, [], ◌∷◌, reverse, Some, refl, sym, ◌∙◌, ap, subst}
+use Rattle.std.proofs.Common.{◌≡◌, ◌++◌, ℕ, List, [], ◌∷◌, reverse, Some, refl, sym, ◌∙◌, subst}
 use Rattle.std.specs.List.{AllZip}
 use Rattle.contexts.specs.declared.kept.Substitution.{Substitution}
 use Rattle.contexts.specs.Kept.{IsRight, all_bindings, frames_of}
@@ -10,7 +10,6 @@ use Rattle.proof_store.specs.Meaning.{StandForItems}
 use Rattle.rule_model.specs.Contexts.{images, put_in_each}
 use Rattle.rule_model.specs.Proofs.{ProofItems}
 use Rattle.rule_model.specs.Reading.{parent_at, bindings_at}
-use Rattle.rule_model.specs.Replacement.{Replacement}
 use Rattle.sym_table.specs.Table.{Table, IsTable}
 use Rattle.term_model.proofs.Zips.{zip_append}
 use Rattle.term_model.specs.Terms.{Var, Term}
@@ -19,9 +18,9 @@ use Rattle.proof_contexts.specs.declared.scopes.OpenScopes.{OpenScopes}
 use Rattle.proof_contexts.specs.Images.{IsImageIn}
 use Rattle.proof_contexts.specs.Bindings.{BindTerms}
 use Rattle.proof_contexts.specs.OpenAnchors.{IsLevel, AreLevels, IsAnchorImage, scopes_entered, AreKept}
-use Rattle.proof_contexts.specs.Placing.{PlacesOf, LacksRoomForSome}
+use Rattle.term_pool.specs.Placing.{PlacesCellsOf, LacksCellOf}
 use Rattle.proof_contexts.proofs.Levels.{BindingsStay, levels_later, stand_later, scopes_more, level_here}
-use Rattle.proof_contexts.proofs.Placing.{places_kind, lacks_kind}
+use Rattle.term_pool.proofs.PlacedCells.{places_more, lacks_more}
 
 pub one_term : (s : Table) (v : TermsView) (b : ℕ × ℕ) → BindTerms s v (b ∷ []) → IsTerm s v b.1
 one_term s v b h = go h.bound h.are
@@ -82,12 +81,12 @@ module _ (s : Table) (v : TermsView) (refs : ProofItems ℕ ℕ) (x : OpenScopes
   }
 
   -- what is placed for the images of the anchor's variables
-  pub places_images : StandForOne → IsTable s → IsOneToOne v.pass → (new : PassView) → PlacesOf s v.pass new (IsImageIn (images (level_here s v refs x kept).anchors) (bindings_at kept.proof k)) → (of : ProofItems Var Term) → StandForItems s v refs of → PlacesOf s v.pass new (IsAnchorImage of)
+  pub places_images : StandForOne → IsTable s → IsOneToOne v.pass → (new : PassView) → PlacesCellsOf s v.pass new (IsImageIn (images (level_here s v refs x kept).anchors) (bindings_at kept.proof k)) → (of : ProofItems Var Term) → StandForItems s v refs of → PlacesCellsOf s v.pass new (IsAnchorImage of)
   places_images one table known new h of stands =
-      subst (λ p. PlacesOf s v.pass new (IsAnchorImage p)) (one s v refs kept.proof of table known kept.stand stands)
-      (places_kind s v.pass new (IsImageIn (images (level_here s v refs x kept).anchors) (bindings_at kept.proof k)) (IsAnchorImage kept.proof) is_image h)
+      subst (λ p. PlacesCellsOf s v.pass new (IsAnchorImage p)) (one s v refs kept.proof of table known kept.stand stands)
+      (places_more s v.pass new (IsImageIn (images (level_here s v refs x kept).anchors) (bindings_at kept.proof k)) (IsAnchorImage kept.proof) is_image h)
 
-  pub lacks_images : StandForOne → IsTable s → IsOneToOne v.pass → (new : PassView) → LacksRoomForSome s new (IsImageIn (images (level_here s v refs x kept).anchors) (bindings_at kept.proof k)) → (of : ProofItems Var Term) → StandForItems s v refs of → LacksRoomForSome s new (IsAnchorImage of)
+  pub lacks_images : StandForOne → IsTable s → IsOneToOne v.pass → (new : PassView) → LacksCellOf s new (IsImageIn (images (level_here s v refs x kept).anchors) (bindings_at kept.proof k)) → (of : ProofItems Var Term) → StandForItems s v refs of → LacksCellOf s new (IsAnchorImage of)
   lacks_images one table known new h of stands =
-      subst (λ p. LacksRoomForSome s new (IsAnchorImage p)) (one s v refs kept.proof of table known kept.stand stands)
-      (lacks_kind s new (IsImageIn (images (level_here s v refs x kept).anchors) (bindings_at kept.proof k)) (IsAnchorImage kept.proof) is_image h)
+      subst (λ p. LacksCellOf s new (IsAnchorImage p)) (one s v refs kept.proof of table known kept.stand stands)
+      (lacks_more s new (IsImageIn (images (level_here s v refs x kept).anchors) (bindings_at kept.proof k)) (IsAnchorImage kept.proof) is_image h)

@@ -1,5 +1,5 @@
 -- Going up to a scope that was entered, and down again.
-use Rattle.std.proofs.Common.{◌≡◌, ◌≤◌, ◌++◌, ℕ, List, [], ◌∷◌, Some, refl, sym, ◌∙◌, ap}
+use Rattle.std.proofs.Common.{◌≡◌, ◌≤◌, ◌++◌, ℕ, List, [], ◌∷◌, Some, refl, ◌∙◌, ap}
 use Rattle.rule_model.specs.Proofs.{ProofItems}
 use Rattle.rule_model.specs.Reading.{parent_at}
 use Rattle.rule_model.specs.Scopes.{subproofs_in}

@@ -1,5 +1,4 @@
 pub mod Bindings
-pub mod Placing
 pub mod Images
 pub mod OpenAnchors
 pub mod Ways

@@ -10,7 +10,7 @@ ghost use Rattle.term_model.specs.Terms.{Var, Term};
 ghost use Rattle.term_pool.specs.Views.{TermsView, KeepsTerms};
 ghost use Rattle.term_pool.specs.declared.stop.TermStop.TheVariants as TermStop;
 ghost use Rattle.proof_contexts.specs.OpenAnchors.{AreKept, IsAnchorImage, scope_of};
-ghost use Rattle.proof_contexts.specs.Placing.{LacksRoomForSome, PlacesOf};
+ghost use Rattle.term_pool.specs.Placing.{LacksCellOf, PlacesCellsOf};
 ghost use Rattle.proof_contexts.specs.Ways.{AreKeptOfSome, IsWayDown};
 
 use crate::images::images_of;
@@ -72,8 +72,8 @@ impl OpenScopes {
         requires here { parent_at proof.now k ≡ Some (scope_of self.old) }
         ensures scope { OnOk result (scope_of self.new ≡ k) }
         ensures kept { AreKept symbols.now terms.new proof.now self.new }
-        ensures placed { (of : ProofItems Var Term) → StandForItems symbols.now terms.old proof.now of → PlacesOf symbols.now terms.old.pass terms.new.pass (IsAnchorImage of) }
-        ensures full { IfErr result (λ e. e ≡ TermStop.PoolFull → (of : ProofItems Var Term) → StandForItems symbols.now terms.old proof.now of → LacksRoomForSome symbols.now terms.new.pass (IsAnchorImage of)) }
+        ensures placed { (of : ProofItems Var Term) → StandForItems symbols.now terms.old proof.now of → PlacesCellsOf symbols.now terms.old.pass terms.new.pass (IsAnchorImage of) }
+        ensures full { IfErr result (λ e. e ≡ TermStop.PoolFull → (of : ProofItems Var Term) → StandForItems symbols.now terms.old proof.now of → LacksCellOf symbols.now terms.new.pass (IsAnchorImage of)) }
         ensures keeps { KeepsTerms terms.old terms.new }
     {
         let _leaves = symbols.count();
@@ -114,8 +114,8 @@ impl OpenScopes {
         requires kept { AreKept symbols.now terms.old proof.now self.old }
         ensures scope { OnOk result (scope_of self.new ≡ scope) }
         ensures kept { AreKept symbols.now terms.new proof.now self.new }
-        ensures placed { (of : ProofItems Var Term) → StandForItems symbols.now terms.old proof.now of → PlacesOf symbols.now terms.old.pass terms.new.pass (IsAnchorImage of) }
-        ensures full { IfErr result (λ e. e ≡ TermStop.PoolFull → (of : ProofItems Var Term) → StandForItems symbols.now terms.old proof.now of → LacksRoomForSome symbols.now terms.new.pass (IsAnchorImage of)) }
+        ensures placed { (of : ProofItems Var Term) → StandForItems symbols.now terms.old proof.now of → PlacesCellsOf symbols.now terms.old.pass terms.new.pass (IsAnchorImage of) }
+        ensures full { IfErr result (λ e. e ≡ TermStop.PoolFull → (of : ProofItems Var Term) → StandForItems symbols.now terms.old proof.now of → LacksCellOf symbols.now terms.new.pass (IsAnchorImage of)) }
         ensures keeps { KeepsTerms terms.old terms.new }
     {
         proofs_stay();

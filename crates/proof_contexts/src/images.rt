@@ -4,7 +4,7 @@ ghost use Rattle.std.specs.Prelude.{◌≡◌, ◌∷◌, [], List, IfErr, IfOk}
 ghost use Rattle.std.specs.List.{AllZip};
 ghost use Rattle.contexts.specs.Kept.{IsRight, all_bindings, frames_of};
 ghost use Rattle.contexts.specs.PutIn.{AreReplacementBy, StandForReplacement};
-ghost use Rattle.term_pool.specs.Placing.{LacksRoomFor, PlacesTerm};
+ghost use Rattle.term_pool.specs.Placing.{LacksRoomFor, PlacesTerm, LacksCellOf, PlacesCellsOf};
 ghost use Rattle.term_pool.specs.Bindings.{IsBindingOf};
 ghost use Rattle.rule_model.specs.Contexts.{put_in_each};
 ghost use Rattle.rule_model.specs.Replacement.{Replacement};
@@ -14,7 +14,6 @@ ghost use Rattle.term_pool.specs.Views.{KeepsTerms};
 ghost use Rattle.term_pool.specs.declared.stop.TermStop.TheVariants as TermStop;
 ghost use Rattle.proof_contexts.specs.Images.{IsImageIn};
 ghost use Rattle.proof_contexts.specs.Bindings.{BindTerms};
-ghost use Rattle.proof_contexts.specs.Placing.{LacksRoomForSome, PlacesOf};
 
 use contexts::{Substitution, substitutions_stay};
 use pair_pool::Ref;
@@ -60,9 +59,9 @@ pub(crate) fn images_of(
     ensures images { IfOk result (λ list. (q : Replacement) (bound : List (Var × Term)) → StandForReplacement symbols.now terms.old (all_bindings outer.old) q → AllZip (IsBindingOf symbols.now terms.old) anchor.now bound →
         AllZip (IsBindingOf symbols.now terms.new) list.items (put_in_each q bound)) }
     ensures placed { (q : Replacement) (bound : List (Var × Term)) → StandForReplacement symbols.now terms.old (all_bindings outer.old) q → AllZip (IsBindingOf symbols.now terms.old) anchor.now bound →
-        PlacesOf symbols.now terms.old.pass terms.new.pass (IsImageIn q bound) }
+        PlacesCellsOf symbols.now terms.old.pass terms.new.pass (IsImageIn q bound) }
     ensures full { IfErr result (λ e. e ≡ TermStop.PoolFull → (q : Replacement) (bound : List (Var × Term)) → StandForReplacement symbols.now terms.old (all_bindings outer.old) q → AllZip (IsBindingOf symbols.now terms.old) anchor.now bound →
-        LacksRoomForSome symbols.now terms.new.pass (IsImageIn q bound)) }
+        LacksCellOf symbols.now terms.new.pass (IsImageIn q bound)) }
     ensures right { IsRight terms.new outer.new }
     ensures same { frames_of outer.new ≡ frames_of outer.old }
     ensures keeps { KeepsTerms terms.old terms.new }

@@ -1,11 +1,10 @@
 -- What holds of a draft, as commands and scopes are added.
-use Rattle.std.proofs.Common.{◌≡◌, ◌≤◌, ◌<◌, ◌+◌, ◌-◌, ◌^◌, ℕ, zero, suc, List, [], ◌∷◌, ◌++◌, map, length, slice_get, Option, Some, None, refl, sym, ◌∙◌, ap, subst, arith}
+use Rattle.std.proofs.Common.{◌≡◌, ◌≤◌, ◌<◌, ◌+◌, ◌-◌, ◌^◌, ℕ, zero, suc, List, [], ◌∷◌, ◌++◌, map, length, slice_get, Option, Some, refl, sym, ◌∙◌, ap, subst, arith}
 use Rattle.std.specs.List.{AllByRecursion}
 use Rattle.std.specs.Option.{option_map}
 use Rattle.std.proofs.lemmas.List.{length-append, length-map, map-append}
-use Rattle.std.proofs.lemmas.Option.{slice_get_within}
 use Rattle.rule_model.specs.Scopes.{Nesting, outermost, inside, Scope, scope_number, next_index}
-use Rattle.rule_model.specs.Commands.{Line, ScopeEntry, lines_to, scopes_to}
+use Rattle.rule_model.specs.Commands.{Line, lines_to, scopes_to}
 use Rattle.rule_model.specs.WellFormed.{AreWellFormed, IsWellPlaced}
 use Rattle.rule_model.proofs.Numbers.{lines_count}
 use Rattle.rule_model.proofs.Writing.{entry_last}
@@ -13,8 +12,7 @@ use Rattle.proof_store.specs.declared.drafts.Draft.{Draft}
 use Rattle.proof_store.specs.Stored.{Stored}
 use Rattle.proof_store.specs.StoredScopes.{StoredScope, with_last}
 use Rattle.proof_store.specs.Events.{apply}
-use Rattle.proof_store.specs.Drafts.{event_of, anchors_of, events_from, fresh_in, proof_of, kept, kept_of, IsAnchored, AreAnchored, IsDraft, with_command}
-use Rattle.proof_store.proofs.ListLemmas.{slice_get_kept}
+use Rattle.proof_store.specs.Drafts.{event_of, anchors_of, events_from, fresh_in, proof_of, kept, kept_of, AreAnchored, IsDraft, with_command}
 use Rattle.proof_store.proofs.EventLemmas.{events_push, fresh_push, anchors_last, anchors_count, written_more}
 
 -- as many commands are kept as there are

@@ -1,9 +1,9 @@
 -- The events that flat arrays have, as commands and scopes are added.
-use Rattle.std.proofs.Common.{◌≡◌, ◌≤◌, ◌+◌, ◌-◌, ℕ, zero, suc, List, [], ◌∷◌, ◌++◌, map, take, drop, length, refl, sym, ◌∙◌, ap, arith}
+use Rattle.std.proofs.Common.{◌≡◌, ◌≤◌, ◌+◌, ℕ, zero, suc, List, [], ◌∷◌, ◌++◌, map, take, drop, length, refl, sym, ap, arith}
 use Rattle.std.proofs.lemmas.List.{append_assoc, map-append, take-append-le, drop-append-le, length-drop, length-map}
 use Rattle.std.proofs.Math.Seq.{take-length, drop-length}
-use Rattle.rule_model.specs.Scopes.{Anchor, Scope}
-use Rattle.rule_model.specs.Writing.{unwritten, open_anchor}
+use Rattle.rule_model.specs.Scopes.{Anchor}
+use Rattle.rule_model.specs.Writing.{unwritten}
 use Rattle.proof_store.specs.Stored.{Stored}
 use Rattle.proof_store.specs.StoredScopes.{StoredScope, with_last}
 use Rattle.proof_store.specs.Events.{Event, opened, apply, written, fold_append}

@@ -1,16 +1,16 @@
 -- The id, the scope and the closed scope of a command, from its line.
-use Rattle.std.proofs.Common.{◌≡◌, ◌≤◌, ◌<◌, ◌+◌, ℕ, zero, suc, Bool, true, false, List, [], ◌∷◌, ◌++◌, map, length, slice_get, Option, Some, None, refl, sym, ◌∙◌, ap, subst, arith}
+use Rattle.std.proofs.Common.{◌≡◌, ◌<◌, ◌+◌, ℕ, zero, suc, Bool, true, false, List, [], ◌∷◌, ◌++◌, map, length, slice_get, Option, Some, None, refl, sym, ◌∙◌, ap, subst, arith}
 use Rattle.std.specs.List.{AllByRecursion}
 use Rattle.std.specs.Option.{option_map, option_map_or, unwrap_or}
 use Rattle.std.proofs.lemmas.Option.{slice_get-map, slice_get_within}
 use Rattle.rule_model.specs.Proofs.{Step, ProofItems, no_items, with_assume, with_step, with_subproof}
-use Rattle.rule_model.specs.Scopes.{Anchor, Nesting, outermost, inside, Scope, at, inner, scope_number, subproofs_in}
-use Rattle.rule_model.specs.Commands.{IndexedCommand, assume, step, closing, Line, Entry, entry_of, own_scope, around_number, closed_scope, lines_in, ScopeEntry, scopes}
+use Rattle.rule_model.specs.Scopes.{Nesting, outermost, inside, at, inner, scope_number, subproofs_in}
+use Rattle.rule_model.specs.Commands.{IndexedCommand, assume, step, closing, Line, entry_of, own_scope, closed_scope, lines_in, ScopeEntry, scopes}
 use Rattle.rule_model.specs.Reading.{id_of, id_at, scope_at, closes_at, parent_at, bindings_at, last_inside_at}
 use Rattle.proof_store.specs.declared.drafts.Draft.{Draft}
 use Rattle.proof_store.specs.Stored.{Stored}
 use Rattle.proof_store.specs.StoredScopes.{StoredScope}
-use Rattle.proof_store.specs.Drafts.{kept, kept_of, kept_step, closes_own, IsAnchored, AreAnchored, IsDraft}
+use Rattle.proof_store.specs.Drafts.{kept, kept_step, closes_own, AreAnchored, IsDraft}
 use Rattle.proof_store.proofs.ReadingLemmas.{some_of, line_at}
 use Rattle.proof_store.proofs.WritingLemmas.{scope_count}
 

@@ -1,17 +1,8 @@
 -- Lists that are put at a place, and what stands before it.
 use Rattle.std.proofs.Common.{◌≡◌, ◌≤◌, ◌<◌, ℕ, zero, suc, List, [], ◌∷◌, ◌++◌, length, take, slice_get, slice_index_or, Some, refl, sym, ◌∙◌, ap, subst, arith}
 use Rattle.std.proofs.lemmas.List.{length-append, length-take-le, take-take}
+use Rattle.term_model.proofs.Lists.{slice_get-last}
 use Rattle.proof_store.specs.Lists.{SameBelow}
-
--- what is pushed stands last, and what stood before stays
-pub slice_get_last : {X : Type 0} (xs : List X) (x : X) → slice_get (xs ++ x ∷ []) (length xs) ≡ Some x
-slice_get_last [] x = refl
-slice_get_last (y ∷ ys) x = slice_get_last ys x
-
-pub slice_get_kept : {X : Type 0} (xs ys : List X) (k : ℕ) → k < length xs → slice_get (xs ++ ys) k ≡ slice_get xs k
-slice_get_kept [] ys k h = absurd (omega arith)
-slice_get_kept (x ∷ xs) ys zero h = refl
-slice_get_kept (x ∷ xs) ys (suc k) h = slice_get_kept xs ys k (omega arith)
 
 pub slice_get_put : {X : Type 0} (i : ℕ) (xs : List X) (x : X) → i ≤ length xs → slice_get (take i xs ++ x ∷ []) i ≡ Some x
 slice_get_put zero xs x h = refl
@@ -65,7 +56,7 @@ same_put i old new same k h = same k h ∙ same_cut i old k h
 
 -- a list that is put behind those that are as before
 pub get_put_behind : {X : Type 0} (i : ℕ) (ls : List (List X)) (l : List X) → length ls ≡ i → slice_index_or (ls ++ l ∷ []) i [] ≡ l
-get_put_behind i ls l e = get_from_slice_get (ls ++ l ∷ []) i l [] (subst (λ k. slice_get (ls ++ l ∷ []) k ≡ Some l) e (slice_get_last ls l))
+get_put_behind i ls l e = get_from_slice_get (ls ++ l ∷ []) i l [] (subst (λ k. slice_get (ls ++ l ∷ []) k ≡ Some l) e (slice_get-last ls l))
 
 pub same_put_behind : {X : Type 0} (i : ℕ) (old ls : List (List X)) (l : List X) → length ls ≡ i → SameBelow i old ls → SameBelow i old (ls ++ l ∷ [])
 same_put_behind i old ls l e same k h = kept ls l k (rw e h) ∙ same k h

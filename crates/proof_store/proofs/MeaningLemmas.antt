@@ -1,14 +1,14 @@
 -- Cited by crates above. What a proof over references has, and what the proof over terms has for which it stands.
-use Rattle.std.proofs.Common.{◌≡◌, ◌+◌, ℕ, zero, suc, Bool, List, [], ◌∷◌, ◌++◌, map, length, slice_get, Option, Some, None, refl, sym, ◌∙◌, ap, subst, arith}
+use Rattle.std.proofs.Common.{◌≡◌, ℕ, zero, suc, List, [], ◌∷◌, ◌++◌, map, slice_get, Some, refl, ap, arith}
 use Rattle.std.specs.List.{AllZip}
 use Rattle.std.specs.Option.{option_map_or}
 use Rattle.sym_table.specs.Table.{Table, Keeps}
 use Rattle.term_model.proofs.Zips.{zip_append, zip_weaken}
 use Rattle.term_model.specs.Terms.{Var, Term}
-use Rattle.term_pool.specs.Views.{TermsView, RefersTo, KeepsTerms}
-use Rattle.rule_model.specs.Proofs.{Step, ProofItems, no_items, with_assume, with_step, with_subproof}
-use Rattle.rule_model.specs.Scopes.{Nesting, outermost, inside, at, inner, commands_in, subproofs_in, scope_number, first_index, parent_number, last_index}
-use Rattle.rule_model.specs.Commands.{IndexedCommand, assume, step, closing, Line, Entry, entry_of, around_number, lines_in, ScopeEntry, scope_entry, scopes_in, scopes}
+use Rattle.term_pool.specs.Views.{TermsView, RefersTo}
+use Rattle.rule_model.specs.Proofs.{Step, ProofItems}
+use Rattle.rule_model.specs.Scopes.{Nesting, outermost, inner, commands_in, subproofs_in, scope_number, first_index, parent_number, last_index}
+use Rattle.rule_model.specs.Commands.{IndexedCommand, assume, step, closing, Entry, entry_of, around_number, lines_in, ScopeEntry, scopes_in, scopes}
 use Rattle.rule_model.specs.Reading.{id_of, rule_of, rule_name_of, clause_of, premises_of, discharged_of, pivots_of, ratios_of}
 use Rattle.term_pool.specs.Bindings.{IsBindingOf}
 use Rattle.proof_store.specs.Meaning.{IsPivotOf, IsStepOf, StandForItems, no_items_stand, assume_stands, step_stands, subproof_stands}

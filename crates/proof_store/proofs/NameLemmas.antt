@@ -1,14 +1,14 @@
 -- The set of names.
-use Rattle.std.proofs.Common.{◌≡◌, ◌≤◌, ◌<◌, ◌+◌, ℕ, zero, suc, Bool, true, false, List, [], ◌∷◌, ◌++◌, length, map, slice_get, Some, refl, sym, ◌∙◌, ap, Vec, if◌then◌else◌, arith}
+use Rattle.std.proofs.Common.{◌≡◌, ℕ, Bool, true, false, List, [], ◌∷◌, ◌++◌, map, slice_get, Some, sym, ◌∙◌, ap, Vec, if◌then◌else◌}
 use Rattle.std.specs.declared.alloc.Global.{Global}
 use Rattle.std.specs.Option.{option_map}
 use Rattle.std.specs.List.{list_any}
 use Rattle.std.specs.Str.{bytes_eq}
 use Rattle.std.proofs.lemmas.Slice.Eq.{bytes_eq-Decides}
-use Rattle.std.proofs.lemmas.List.{map-append, length-map, length-append}
+use Rattle.std.proofs.lemmas.List.{map-append}
 use Rattle.std.proofs.lemmas.Option.{slice_get-map, slice_get_within}
 use Rattle.indexmap.specs.IndexSet.{insert_key}
-use Rattle.proof_store.proofs.ListLemmas.{slice_get_kept}
+use Rattle.sym_table.proofs.Lists.{slice_get-kept}
 
 abbrev pub texts : List (Vec ℕ Global) → List (List ℕ)
 texts keys = map (λ name. name.items) keys
@@ -24,4 +24,4 @@ kept_name eq keys value k x h = go (list_any (eq value) keys)
   where
     go : (b : Bool) → slice_get (texts (if b then keys else keys ++ value ∷ [])) k ≡ Some x
     go true = h
-    go false = rw (map-append (λ name. name.items) keys (value ∷ [])) (slice_get_kept (texts keys) _ k (slice_get_within (texts keys) k x h) ∙ h)
+    go false = rw (map-append (λ name. name.items) keys (value ∷ [])) (slice_get-kept (texts keys) _ k (slice_get_within (texts keys) k x h) ∙ h)

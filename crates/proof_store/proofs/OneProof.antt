@@ -1,14 +1,15 @@
 -- A proof over references stands for at most one proof over terms, and for one where its references stand for terms.
 use Rattle.std.proofs.Common.{◌≡◌, ℕ, Bool, List, [], ◌∷◌, refl, sym, ◌∙◌, subst}
 use Rattle.std.specs.List.{AllZip, AllByRecursion}
-use Rattle.pair_pool.specs.Trees.{Tree, leaf}
+use Rattle.pair_pool.specs.Trees.{Tree}
 use Rattle.pair_pool.specs.Views.{IsOneToOne}
-use Rattle.sym_table.specs.Table.{Table, IsLeaf}
-use Rattle.term_model.specs.Terms.{Var, Term, variable}
-use Rattle.term_pool.specs.StandsFor.{variable_leaf, StandsFor}
+use Rattle.sym_table.specs.Table.{Table}
+use Rattle.term_model.specs.Terms.{Var, Term}
+use Rattle.term_pool.specs.StandsFor.{StandsFor}
 use Rattle.term_pool.specs.Views.{TermsView, RefersTo, IsTerm}
 use Rattle.rule_model.specs.Proofs.{Step, ProofItems, no_items, with_assume, with_step, with_subproof}
 use Rattle.term_pool.specs.Bindings.{IsBindingOf}
+use Rattle.term_pool.proofs.Leaves.{one_variable}
 use Rattle.proof_store.specs.Meaning.{IsPivotOf, IsStepOf, StandForItems, no_items_stand, assume_stands, step_stands, subproof_stands, BindsTerm, IsOfTerms, AreOfTerms, IsMeant}
 
 -- lists in step with one list
@@ -43,15 +44,9 @@ module _ (s : Table) (v : TermsView) (known : IsOneToOne v.pass) (one_term : (a 
       let same = known.one_tree r k.tree h.tree k.known h.known in
       one_term h.tree t u h.stands (subst (λ (a : Tree). StandsFor s a u) same k.stands)
 
-  one_variable : (k : ℕ) (x y : Var) → IsLeaf s k (variable_leaf x) → IsLeaf s k (variable_leaf y) → x ≡ y
-  one_variable k x y g h = same (one_term (leaf k) (variable x) (variable y) g h)
-    where
-      same : variable x ≡ variable y → x ≡ y
-      same e = cc
-
   one_binding : (b : ℕ × ℕ) (c d : Var × Term) → IsBindingOf s v b c → IsBindingOf s v b d → c ≡ d
   one_binding b c d h k =
-      let first = one_variable b.0 c.0 d.0 h.variable k.variable in
+      let first = one_variable s b.0 c.0 d.0 h.variable k.variable in
       let second = one_reference b.1 c.1 d.1 h.term k.term in
       λ i. (first i, second i)
 

@@ -1,24 +1,19 @@
 -- What the arrays have at an index, and at a scope's number.
-use Rattle.std.proofs.Common.{◌≡◌, ◌≤◌, ◌<◌, ◌+◌, ◌-◌, ◌^◌, ℕ, zero, suc, Bool, true, false, List, [], ◌∷◌, ◌++◌, map, length, slice_get, Option, Some, None, refl, sym, ◌∙◌, ap, subst, arith}
+use Rattle.std.proofs.Common.{◌≡◌, ℕ, Bool, List, [], map, length, slice_get, Option, Some, None, refl, sym, ◌∙◌, ap, subst, arith}
 use Rattle.std.specs.Borrow.{Bor}
-use Rattle.std.specs.List.{AllByRecursion}
-use Rattle.std.specs.Option.{option_map, option_map_or, unwrap_or}
-use Rattle.std.proofs.lemmas.List.{length-map}
-use Rattle.std.proofs.lemmas.Option.{slice_get-map, slice_get_within}
+use Rattle.std.specs.Option.{option_map, option_map_or}
+use Rattle.std.proofs.lemmas.Option.{slice_get-map}
 use Rattle.rule_model.specs.declared.rules.Rule.{Rule}
-use Rattle.rule_model.specs.Proofs.{Fraction, Step, ProofItems, no_items, with_assume, with_step, with_subproof}
-use Rattle.rule_model.specs.Scopes.{Anchor, Nesting, outermost, inside, Scope, at, inner, commands_in, subproofs_in, scope_number}
-use Rattle.rule_model.specs.Commands.{IndexedCommand, assume, step, closing, Line, Entry, entry_of, lines_in, lines_to, ScopeEntry, scopes_to}
-use Rattle.rule_model.specs.Reading.{id_at, rule_of, rule_at, rule_name_of, rule_name_at, clause_of, clause_at, premises_of, premises_at, discharged_of, discharged_at, pivots_of, pivots_at, ratios_of, ratios_at, scope_at, closes_at, parent_at, bindings_at, last_inside_at}
-use Rattle.rule_model.proofs.Numbers.{lines_in_count, scopes_count}
+use Rattle.rule_model.specs.Proofs.{Step, ProofItems}
+use Rattle.rule_model.specs.Scopes.{outermost, at, commands_in}
+use Rattle.rule_model.specs.Commands.{IndexedCommand, assume, step, closing, Line, entry_of, lines_in}
+use Rattle.rule_model.specs.Reading.{rule_of, rule_at, rule_name_of, rule_name_at, clause_of, clause_at, premises_of, premises_at, discharged_of, discharged_at, pivots_of, pivots_at, ratios_of, ratios_at}
 use Rattle.proof_store.specs.declared.answers.Ratio.{Ratio}
 use Rattle.proof_store.specs.declared.drafts.Draft.{Draft}
 use Rattle.proof_store.specs.Ratios.{fraction_of_ratio, fractions}
 use Rattle.proof_store.specs.Stored.{Stored}
-use Rattle.proof_store.specs.StoredScopes.{StoredScope}
-use Rattle.proof_store.specs.Drafts.{proof_of, kept, kept_of, kept_step, closes_own, IsAnchored, AreAnchored, IsDraft}
+use Rattle.proof_store.specs.Drafts.{proof_of, kept, kept_of, kept_step, IsDraft}
 use Rattle.proof_store.proofs.DraftLemmas.{command_count}
-use Rattle.proof_store.proofs.WritingLemmas.{scope_count}
 
 pub whole : (d : Draft) → IsDraft d (proof_of d) → (proof_of d).nesting ≡ outermost → IsDraft d (at outermost (proof_of d).items)
 whole d h e = subst (λ n. IsDraft d (at n (proof_of d).items)) e h

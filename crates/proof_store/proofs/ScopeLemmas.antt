@@ -1,12 +1,11 @@
 -- What is kept of scopes, row by row.
-use Rattle.std.proofs.Common.{◌≡◌, ◌≤◌, ◌<◌, ◌+◌, ◌-◌, ◌^◌, ℕ, zero, suc, List, [], ◌∷◌, ◌++◌, length, take, slice_get, slice_set, slice_index_or, get_or, Option, Some, None, refl, sym, ◌∙◌, ap, subst, arith}
+use Rattle.std.proofs.Common.{◌≡◌, ◌≤◌, ◌<◌, ◌+◌, ◌-◌, ◌^◌, ℕ, zero, suc, List, [], ◌∷◌, ◌++◌, length, slice_get, slice_set, slice_index_or, Option, Some, None, refl, ◌∙◌, ap, subst, arith}
 use Rattle.std.specs.Option.{option_map}
-use Rattle.std.proofs.lemmas.Option.{slice_get-get_or, slice_get_within}
+use Rattle.std.proofs.lemmas.Option.{slice_get_within}
 use Rattle.std.proofs.lemmas.List.{length-append}
-use Rattle.rule_model.specs.Commands.{ScopeEntry}
 use Rattle.proof_store.specs.declared.scopes.ScopeRow.{ScopeRow}
 use Rattle.proof_store.specs.declared.scopes.ScopeLists.{ScopeLists}
-use Rattle.proof_store.specs.StoredScopes.{StoredScope, first_scope, scope_with, inner_at, inner_from, scopes_of, AreLong, AgreeTo, HaveAt, HaveLists, row_last, noted, with_last}
+use Rattle.proof_store.specs.StoredScopes.{StoredScope, first_scope, scope_with, inner_at, inner_from, scopes_of, AreLong, AgreeTo, HaveAt, HaveLists, row_last, with_last}
 use Rattle.proof_store.proofs.ListLemmas.{get_agreed, get_from_slice_get}
 
 pub set_row : (k last : ℕ) (rows : List ScopeRow) (d : ScopeRow) → k < length rows → slice_set rows k (record (slice_index_or rows k d) { last = Some last }) ≡ row_last k last rows

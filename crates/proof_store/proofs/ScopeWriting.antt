@@ -1,24 +1,22 @@
 -- What opening and closing a scope writes.
-use Rattle.std.proofs.Common.{◌≡◌, ◌≢◌, ◌≤◌, ◌<◌, ◌+◌, ◌-◌, ◌^◌, ℕ, zero, suc, Bool, true, false, List, [], ◌∷◌, ◌++◌, map, length, slice_get, Option, Some, None, refl, sym, ◌∙◌, ap, subst, arith, if◌then◌else◌}
+use Rattle.std.proofs.Common.{◌≡◌, ◌≤◌, ◌<◌, ◌+◌, ◌-◌, ◌^◌, ℕ, zero, suc, true, false, List, [], ◌∷◌, ◌++◌, map, length, slice_get, Some, None, refl, sym, ◌∙◌, ap, subst, arith}
 use Rattle.std.specs.Option.{option_map}
 use Rattle.std.specs.Str.{bytes_eq}
 use Rattle.std.proofs.lemmas.List.{length-append, map-append}
 use Rattle.std.proofs.lemmas.Slice.Eq.{bytes_eq-Decides}
-use Rattle.std.proofs.lemmas.Option.{slice_get-map, slice_get_within}
-use Rattle.rule_model.specs.Proofs.{Step, ProofItems, no_items, with_subproof}
-use Rattle.rule_model.specs.Scopes.{Anchor, Nesting, outermost, inside, Scope, at, inner, scope_number, next_index, next_scope}
-use Rattle.rule_model.specs.Commands.{closing, lines_to, scopes_to}
-use Rattle.rule_model.specs.WellFormed.{HasRule, MayOpen, MayClose, AreWellFormed}
-use Rattle.rule_model.specs.Writing.{is_open_id, add_step, open_anchor, close_scope, take_step, MayTake}
-use Rattle.rule_model.proofs.Writing.{entry_last, lines_open, lines_close, scopes_open, scopes_close, same_nesting}
+use Rattle.term_model.proofs.Lists.{slice_get-last}
+use Rattle.rule_model.specs.Proofs.{Step, ProofItems}
+use Rattle.rule_model.specs.Scopes.{Nesting, outermost, inside, at, scope_number, next_index, next_scope}
+use Rattle.rule_model.specs.Commands.{closing, lines_to}
+use Rattle.rule_model.specs.WellFormed.{MayOpen, MayClose, AreWellFormed}
+use Rattle.rule_model.specs.Writing.{is_open_id, open_anchor, close_scope, take_step, MayTake}
+use Rattle.rule_model.proofs.Writing.{lines_open, lines_close, scopes_close, same_nesting}
 use Rattle.proof_store.specs.declared.commands.NewCommand.{NewCommand}
 use Rattle.proof_store.specs.declared.drafts.Draft.{Draft}
 use Rattle.proof_store.specs.Steps.{anchor_with}
-use Rattle.proof_store.specs.Stored.{Stored}
-use Rattle.proof_store.specs.StoredScopes.{StoredScope, scope_with}
-use Rattle.proof_store.specs.Events.{Event, opened, closed, apply}
+use Rattle.proof_store.specs.StoredScopes.{scope_with}
+use Rattle.proof_store.specs.Events.{opened, apply}
 use Rattle.proof_store.specs.Drafts.{event_of, step_of, anchors_of, events_from, fresh_in, proof_of, kept, IsAnchored, AreAnchored, IsDraft, with_command, step_of_new, Writes}
-use Rattle.proof_store.proofs.ListLemmas.{slice_get_last}
 use Rattle.proof_store.proofs.EventLemmas.{events_open, anchors_push, anchors_count, written_more}
 use Rattle.proof_store.proofs.DraftLemmas.{command_count, anchored_stays, lines_stay, push_keeps, proof_more, draft_more}
 use Rattle.proof_store.proofs.WritingLemmas.{scope_count, stored_in, step_same}
@@ -119,7 +117,7 @@ open_writes d id bindings h may few =
     let pending : fresh_in d.commands ≤ length (anchors_of d.scopes) = let n = h.fresh in omega arith in
     let number : scope_number (inside scope.nesting scope.items anchor) ≡ length d.scopes = omega arith in
     let keeps = push_keeps d.scopes stored in
-    let here = slice_get_last d.scopes stored in
+    let here = slice_get-last d.scopes stored in
     record {
       proof = rw (anchors_push d.scopes stored some, events_open (anchors_of d.scopes) anchor d.commands pending) (written_more (events_from (anchors_of d.scopes) d.commands) (opened anchor));
       draft = record {

@@ -1,32 +1,25 @@
 -- What each call of a draft writes.
-use Rattle.std.proofs.Common.{◌≡◌, ◌≢◌, ◌≤◌, ◌<◌, ◌+◌, ◌-◌, ◌^◌, ℕ, zero, suc, Bool, true, false, List, [], ◌∷◌, ◌++◌, map, length, slice_get, Option, Some, None, refl, sym, ◌∙◌, ap, subst, arith, if◌then◌else◌}
+use Rattle.std.proofs.Common.{◌≡◌, ◌<◌, ◌-◌, ◌^◌, ℕ, suc, Bool, true, false, List, map, length, Option, Some, None, refl, sym, ◌∙◌, ap, subst, arith, if◌then◌else◌}
 use Rattle.std.specs.Borrow.{Bor}
 use Rattle.std.specs.Option.{option_map}
-use Rattle.std.specs.Str.{bytes_eq}
-use Rattle.std.proofs.lemmas.List.{length-append, length-map, map-append}
-use Rattle.std.proofs.lemmas.Slice.Eq.{bytes_eq-Decides}
-use Rattle.rule_model.specs.declared.rules.Rule.{Rule}
-use Rattle.rule_model.specs.RuleNames.{word_of, is_assume, is_unknown, rule_named}
-use Rattle.rule_model.specs.Proofs.{Step, ProofItems, with_subproof}
-use Rattle.rule_model.specs.Scopes.{Anchor, Nesting, outermost, inside, Scope, at, inner, scope_number, next_index, next_scope}
-use Rattle.rule_model.specs.Commands.{assume, step, closing, lines_to, scopes_to}
-use Rattle.rule_model.specs.WellFormed.{IsNewId, HasRule, MayOpen, MayStand, MayClose, AreWellFormed}
-use Rattle.rule_model.specs.Writing.{is_open_id, add_assume, add_step, open_anchor, close_scope, take_step, MayTake}
+use Rattle.std.proofs.lemmas.List.{length-map}
+use Rattle.rule_model.specs.RuleNames.{word_of, is_assume, is_unknown}
+use Rattle.rule_model.specs.Proofs.{Step}
+use Rattle.rule_model.specs.Scopes.{Scope, next_index, next_scope}
+use Rattle.rule_model.specs.Commands.{assume, step, scopes_to}
+use Rattle.rule_model.specs.WellFormed.{IsNewId, HasRule}
+use Rattle.rule_model.specs.Writing.{is_open_id, add_assume, add_step, take_step, MayTake}
 use Rattle.rule_model.proofs.Numbers.{scopes_count}
 use Rattle.rule_model.proofs.RuleWords.{named_has_word, named_no_assume}
-use Rattle.rule_model.proofs.Writing.{entry_last, lines_assume, lines_step, lines_open, lines_close, scopes_assume, scopes_step, scopes_open, scopes_close, same_nesting}
+use Rattle.rule_model.proofs.Writing.{entry_last, lines_assume, lines_step, scopes_assume, scopes_step}
 use Rattle.proof_store.specs.declared.answers.Ratio.{Ratio}
 use Rattle.proof_store.specs.declared.commands.NewCommand.{NewCommand}
 use Rattle.proof_store.specs.declared.drafts.Draft.{Draft}
 use Rattle.proof_store.specs.Ratios.{fraction_of_ratio, fractions}
-use Rattle.proof_store.specs.Steps.{anchor_with}
-use Rattle.proof_store.specs.Stored.{Stored, named, stored}
-use Rattle.proof_store.specs.StoredScopes.{StoredScope, scope_with}
-use Rattle.proof_store.specs.Events.{Event, opened, closed, stepped, apply}
-use Rattle.proof_store.specs.Drafts.{step_of, event_of, anchors_of, events_from, fresh_in, proof_of, kept, assume_step, stored_assume, IsAnchored, AreAnchored, IsDraft, with_command, step_of_new, Writes}
-use Rattle.proof_store.proofs.ListLemmas.{slice_get_last}
-use Rattle.proof_store.proofs.EventLemmas.{events_open, anchors_push, anchors_count, written_more}
-use Rattle.proof_store.proofs.DraftLemmas.{command_count, anchored_stays, lines_stay, push_keeps, proof_more, draft_more}
+use Rattle.proof_store.specs.Stored.{Stored, named}
+use Rattle.proof_store.specs.Events.{stepped, apply}
+use Rattle.proof_store.specs.Drafts.{step_of, event_of, proof_of, assume_step, stored_assume, IsDraft, with_command, step_of_new, Writes}
+use Rattle.proof_store.proofs.DraftLemmas.{command_count, proof_more, draft_more}
 
 -- the proof that is written is the one that the arrays stand for
 pub writes_draft : (d : Draft) (scope : Scope ℕ ℕ) → Writes d scope → IsDraft d (proof_of d)

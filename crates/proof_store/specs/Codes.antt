@@ -1,6 +1,5 @@
 -- Private. How the logic stores proofs: as the list of their events, each as one tuple.
-use Rattle.std.proofs.Common.{◌≡◌, ◌⊎◌, inl, inr, ap, ℕ, zero, suc, ℤ, List, [], ◌∷◌, Bool, Option, Some, None, refl}
-use Rattle.std.specs.Option.{option_map}
+use Rattle.std.proofs.Common.{◌≡◌, ◌⊎◌, inl, inr, ap, ℕ, zero, suc, ℤ, List, [], ◌∷◌, Bool, Option, refl}
 use Rattle.std.specs.Coded.{Coded, code_by, coded×, coded⊎, coded_ℕ, coded_ℤ, coded_bool, coded_list, coded_option}
 use Rattle.rule_model.specs.declared.rules.Rule.{Rule}
 use Rattle.rule_model.specs.Proofs.{Fraction, Step, ProofItems}

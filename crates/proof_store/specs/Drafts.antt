@@ -1,14 +1,13 @@
 -- Private. The proof that the flat arrays stand for, and what holds of them.
-use Rattle.std.specs.Prelude.{◌≡◌, ◌<◌, ◌+◌, ◌-◌, ◌^◌, ℕ, suc, List, [], ◌∷◌, ◌++◌, map, take, drop, length, slice_get, slice_index, Bool, true, false, if◌then◌else◌, Option, Some, None, ⊤}
+use Rattle.std.specs.Prelude.{◌≡◌, ◌<◌, ◌+◌, ◌-◌, ◌^◌, ℕ, suc, List, [], ◌∷◌, ◌++◌, map, take, drop, length, slice_get, slice_index, Bool, true, false, if◌then◌else◌, Some, None, ⊤}
 use Rattle.std.specs.List.{AllByRecursion}
 use Rattle.std.specs.Option.{option_map}
 use Rattle.rule_model.specs.declared.rules.Rule.{Rule}
 use Rattle.rule_model.specs.RuleNames.{is_assume}
-use Rattle.rule_model.specs.Proofs.{Fraction, Step}
+use Rattle.rule_model.specs.Proofs.{Step}
 use Rattle.rule_model.specs.Scopes.{Anchor, Nesting, outermost, inside, Scope, scope_number}
 use Rattle.rule_model.specs.Commands.{Line, IndexedCommand, assume, step, closing, lines_to, scopes_to}
 use Rattle.rule_model.specs.WellFormed.{AreWellFormed, IsWellPlaced}
-use Rattle.proof_store.specs.declared.answers.Ratio.{Ratio}
 use Rattle.proof_store.specs.declared.commands.NewCommand.{NewCommand}
 use Rattle.proof_store.specs.declared.drafts.Draft.{Draft}
 use Rattle.proof_store.specs.Ratios.{fraction_of_ratio}

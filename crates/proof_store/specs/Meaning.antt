@@ -8,7 +8,6 @@ use Rattle.term_pool.specs.Bindings.{IsBindingOf}
 use Rattle.term_pool.specs.StandsFor.{variable_leaf}
 use Rattle.term_pool.specs.Views.{TermsView, RefersTo, IsTerm}
 use Rattle.rule_model.specs.Proofs.{Step, ProofItems, no_items, with_assume, with_step, with_subproof}
-use Rattle.rule_model.specs.Scopes.{Anchor, Nesting, outermost, inside, Scope}
 
 -- a pivot stands for one, with the same truth value
 pub record IsPivotOf (s : Table) (v : TermsView) (p : ℕ × Bool) (q : Term × Bool) : Type 0 where

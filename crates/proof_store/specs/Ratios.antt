@@ -1,5 +1,5 @@
 -- Public. What a coefficient is.
-use Rattle.std.specs.Prelude.{ℤ, List, map, Option}
+use Rattle.std.specs.Prelude.{List, map, Option}
 use Rattle.std.specs.Borrow.{Bor}
 use Rattle.std.specs.Option.{option_map}
 use Rattle.rule_model.specs.Proofs.{Fraction}

@@ -2,20 +2,17 @@
 use Rattle.std.proofs.Common.{◌≡◌, ◌⊎◌, inl, inr, List, [], ◌∷◌, map, Bool, true, false, refl, sym, ap, ◌∙◌, subst, All, Any, Contains}
 use Rattle.std.proofs.lemmas.List.Elements.{All-nil, All-cons, All-contains}
 use Rattle.term_model.specs.declared.symbols.Op.{Op}
-use Rattle.term_model.specs.Terms.{Term, operation, list_of, terms_of, not_of}
+use Rattle.term_model.specs.Terms.{Term, operation, list_of, terms_of, not_of, Terms}
 use Rattle.term_model.specs.Values.{as_truth}
 use Rattle.term_model.specs.Interpretations.{Interpretation}
 use Rattle.term_model.specs.Meaning.{Valuation, value}
 use Rattle.term_model.specs.Unsatisfiable.{MakesTrue}
+use Rattle.term_model.specs.Flips.{equality}
 use Rattle.term_model.proofs.Basics.{any_here, any_later}
 use Rattle.term_model.proofs.Meanings.{is_true, true_is, negation_is, conjunction_is, disjunction_is}
+use Rattle.term_model.proofs.Lists.{list_of-terms_of}
 use Rattle.rule_model.specs.Clauses.{MakesClauseTrue}
 use Rattle.rule_model.specs.Clausal.{as_it_stands, GivesOne, GivesAll}
-
--- arguments from a list are that list
-pub list_of-terms_of : (ts : List Term) → list_of (terms_of ts) ≡ ts
-list_of-terms_of [] = refl
-list_of-terms_of (t ∷ ts) = ap (λ us. t ∷ us) (list_of-terms_of ts)
 
 pub any_contained : {X : Type 0} (P : X → Type 0) (xs : List X) (x : X) → Contains xs x → P x → Any P xs
 any_contained P xs x (k, below, same) p = (k, x, below, same, p)
@@ -116,3 +113,17 @@ module _ (I : Interpretation) (r : Valuation) where
       let ts = g.first ∷ g.others in
       let fails = (negation_is I r (operation Op.And (terms_of ts))).0 (subst (MakesTrue I r) g.whole_is h) in
       rw g.rest_is (some_negation ts (λ all. fails (and_of_all ts all)))
+
+-- applications of one operator are equal where their arguments are
+pub same_arguments : (op : Op) (ts us : List Term) → operation op (terms_of ts) ≡ operation op (terms_of us) → ts ≡ us
+same_arguments op ts us e = sym (list_of-terms_of ts) ∙ (ap list_of (let f : terms_of ts ≡ terms_of us = cc in f) ∙ list_of-terms_of us)
+
+-- what an equality has as its sides, and a negation inside
+pub same_sides : (x y z w : Term) → equality x y ∷ [] ≡ equality z w ∷ [] → (x ≡ z) × (y ≡ w)
+same_sides x y z w e = (let f : x ≡ z = cc in f, let f : y ≡ w = cc in f)
+
+pub same_inside : (t u : Term) → not_of t ≡ not_of u → t ≡ u
+same_inside t u e = cc
+
+pub same_operands : (op : Op) (ts us : Terms) → operation op ts ≡ operation op us → ts ≡ us
+same_operands op ts us e = cc

@@ -31,7 +31,7 @@ use Rattle.rule_model.proofs.LinearForms.{value_is_form, part_is_dot, one_form_p
 use Rattle.rule_model.proofs.Ring.{mul-add, mul_assoc, one-mul, mul_le}
 
 -- a multiple of whole numbers
-whole_sum : (m : ℕ) (x y : ℤ) → IsWhole m x → IsWhole m y → IsWhole m (x +ℤ y)
+pub whole_sum : (m : ℕ) (x y : ℤ) → IsWhole m x → IsWhole m y → IsWhole m (x +ℤ y)
 whole_sum m x y (j, e) (k, f) = (j +ℤ k, omega (arith, ints, e, f, mul-add (pos m) j k))
 
 whole_times : (m : ℕ) (x y : ℤ) → IsWhole m x → IsWhole m (x *ℤ y)
@@ -42,7 +42,7 @@ whole_dot m c v [] each = (pos 0, omega (arith, ints, *ℤ_comm (pos m) (pos 0),
 whole_dot m c v (u ∷ us) each = whole_sum m (c u *ℤ v u) (dot c v us) (whole_times m (c u) (v u) (each u)) (whole_dot m c v us each)
 
 -- between two multiples that are less than one apart nothing lies
-no_step : (n : ℕ) (k j : ℤ) → (pos n *ℤ k) <ℤ (pos n *ℤ j +ℤ pos n) → k ≤ℤ j
+pub no_step : (n : ℕ) (k j : ℤ) → (pos n *ℤ k) <ℤ (pos n *ℤ j +ℤ pos n) → k ≤ℤ j
 no_step n k j h = go (true_le k j)
   where
     true_le : (k j : ℤ) → (k ≤ℤ j) ⊎ ((j +ℤ pos 1) ≤ℤ k)

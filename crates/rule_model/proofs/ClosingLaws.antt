@@ -9,7 +9,7 @@ use Rattle.term_model.specs.Meaning.{Valuation, value, bound}
 use Rattle.term_model.specs.Terms.{Var, Term, let_in, Bindings, no_bindings, binding, not_of}
 use Rattle.term_model.specs.Unsatisfiable.{MakesTrue}
 use Rattle.term_model.specs.Values.{Value, truth, whole}
-use Rattle.term_model.proofs.Basics.{any_here, any_later, any_cases}
+use Rattle.term_model.proofs.Basics.{any_here, any_later, any_cases, any_none}
 use Rattle.term_model.proofs.Meanings.{negation_is, equality_is}
 use Rattle.rule_model.specs.declared.rules.Mode.{Mode}
 use Rattle.rule_model.specs.Clauses.{MakesClauseTrue}
@@ -27,12 +27,9 @@ pub any_back : {X : Type 0} (P : X → Type 0) (xs ys : List X) → Any P ys →
 any_back P [] ys h = h
 any_back P (x ∷ xs) ys h = any_later P x (xs ++ ys) (any_back P xs ys h)
 
-pub none_of : {X : Type 0} (P : X → Type 0) → Any P [] → ⊥
-none_of P (k, x, below, same, p) = omega (arith, below)
-
 module _ (I : Interpretation) (r : Valuation) where
   pub unit_true : (t : Term) → MakesClauseTrue I r (t ∷ []) → MakesTrue I r t
-  unit_true t some = elim (any_cases (MakesTrue I r) t [] some) [ inl here ↦ here | inr later ↦ absurd (none_of (MakesTrue I r) later) ]
+  unit_true t some = elim (any_cases (MakesTrue I r) t [] some) [ inl here ↦ here | inr later ↦ absurd (any_none (MakesTrue I r) later) ]
 
   -- a term is true, or its negation is
   true_or_denied : (t : Term) → MakesTrue I r t ⊎ MakesTrue I r (not_of t)
@@ -59,7 +56,7 @@ module _ (I : Interpretation) (r : Valuation) where
       go (inl here) (inl all) = inl (here, all)
 
   ending_true : (inner end : List Term) → IsEnding inner end → MakesClauseTrue I r inner → MakesClauseTrue I r end
-  ending_true [] end h some = absurd (none_of (MakesTrue I r) some)
+  ending_true [] end h some = absurd (any_none (MakesTrue I r) some)
   ending_true (t ∷ ts) end h some = rw h some
 
   -- subproof: where what it discharges is true, the clause is in which the scope ends

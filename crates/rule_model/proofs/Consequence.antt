@@ -2,6 +2,7 @@
 use Rattle.std.proofs.Common.{◌≡◌, ◌⊎◌, inl, inr, ⊎_elim, ℕ, zero, suc, ◌<◌, Bool, true, false, not, List, [], ◌∷◌, ◌++◌, length, refl, sym, ◌∙◌, ap, arith, All, Contains}
 use Rattle.std.proofs.lemmas.List.{get_or_default}
 use Rattle.std.proofs.lemmas.List.Elements.{All-get_or, Contains-push_cases}
+use Rattle.std.proofs.lemmas.Bool.{cases_Bool}
 use Rattle.rule_model.specs.declared.literal.Literal.{Literal}
 use Rattle.rule_model.specs.declared.literal.Literal.TheVariants.{Plain, Always, Never}
 use Rattle.rule_model.specs.Literals.{negation_of, is_true_under, ClauseTrue, Entails}
@@ -22,10 +23,6 @@ negation_of-truth v (Plain a true) = not_not (v a)
 negation_of-truth v (Plain a false) = refl
 negation_of-truth v Always = refl
 negation_of-truth v Never = refl
-
-true_or_false : (b : Bool) → (b ≡ true) ⊎ (b ≡ false)
-true_or_false true = inl refl
-true_or_false false = inr refl
 
 -- every literal that counts as false is false under these truth values
 abbrev pub AreFalse : {A : Type 0} → (A → Bool) → List (Literal A) → Type 0
@@ -48,7 +45,7 @@ true_from_place v (l ∷ ls) (suc k) h e = inr (true_from_place v ls k (omega (a
 true_or_all_false : {A : Type 0} (v : A → Bool) (clause : List (Literal A)) → ClauseTrue v clause ⊎ ((k : ℕ) → k < length clause → is_true_under v (literal_at clause k) ≡ false)
 true_or_all_false v [] = inr (λ k h. absurd (omega (arith, h)))
 true_or_all_false v (l ∷ ls) =
-    elim (true_or_false (is_true_under v l)) [
+    elim (cases_Bool (is_true_under v l)) [
       | inl here ↦ inl (inl here)
       | inr not_here ↦
           elim (true_or_all_false v ls) [

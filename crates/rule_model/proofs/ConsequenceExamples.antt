@@ -1,13 +1,13 @@
 -- What follows from a few clauses, and what does not.
 use Rattle.std.proofs.Common.{◌≡◌, ◌⊎◌, inl, inr, ℕ, zero, suc, ◌<◌, Bool, true, false, not, List, [], ◌∷◌, length, refl, sym, ap, arith, All}
 use Rattle.std.proofs.lemmas.List.Elements.{All-nil, All-cons}
+use Rattle.term_model.proofs.Lists.{contains_none, contains_cases, contains_head, contains_later}
 use Rattle.rule_model.specs.declared.literal.Literal.{Literal}
 use Rattle.rule_model.specs.declared.literal.Literal.TheVariants.{Plain, Never}
 use Rattle.rule_model.specs.Literals.{ClauseTrue, Entails}
 use Rattle.rule_model.specs.Consequence.{IsFalse, premise_at, IsOnly, IsUnit, Leads, Follows}
 use Rattle.rule_model.specs.ConsequenceExamples.{yes_atom, no_atom, four_clauses, all_signs}
 use Rattle.rule_model.proofs.Consequence.{consequence_sound}
-use Rattle.rule_model.proofs.Lists.{contains_none, contains_cases, contains_head, contains_later}
 
 -- nothing is false but the constant
 none_false : (a : ℕ) (s : Bool) → IsFalse [] (Plain a s) → ⊥

@@ -8,11 +8,11 @@ use Rattle.term_model.specs.Meaning.{Valuation, value}
 use Rattle.term_model.specs.Sorts.{IsOf}
 use Rattle.term_model.specs.Unsatisfiable.{MakesAllTrue, Unsatisfiable}
 use Rattle.term_model.proofs.Coincidence.{value_coincides}
+use Rattle.term_model.proofs.Lists.{all_joined}
 use Rattle.rule_model.specs.Clauses.{MakesClauseTrue}
 use Rattle.rule_model.specs.Replacement.{Replacement, values_put}
 use Rattle.rule_model.specs.Substitution.{put_in, Replaces, AreClosed, HaveTheirSorts}
 use Rattle.rule_model.specs.Contexts.{put_in_each, images, IsBoundBy, IsClosedUnder, AreAnchorsNested, context_values, IsTrueInScope}
-use Rattle.rule_model.proofs.ReplacementLists.{all_joined}
 use Rattle.rule_model.proofs.Replacing.{values_put-joined}
 use Rattle.rule_model.proofs.Substituting.{put_in_sort, result_closed}
 use Rattle.rule_model.proofs.SubstitutedValues.{value_put_in, value_at-others}

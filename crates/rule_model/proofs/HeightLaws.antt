@@ -46,7 +46,3 @@ pub bound_higher : (bs : Bindings) (u : Term) → AllByRecursion (λ t. height t
 unfolding height
 bound_higher bs u =
     all_lower (λ t. height t < 1 + highest_bound bs) (λ t. height t < 1 + max (highest_bound bs) (height u)) (bound_terms bs) (λ t h. omega arith) (bound_lower bs)
-
-pub body_higher : (bs : Bindings) (u : Term) → height u < height (let_in bs u)
-unfolding height
-body_higher bs u = omega arith

@@ -2,6 +2,7 @@
 use Rattle.std.proofs.Common.{◌≡◌, List, [], ◌∷◌, map, Bool, true, false, not, ◌&&◌, ◌||◌, ◌⊎◌, All, inl, inr, refl, sym, ap, ◌∙◌, subst, arith}
 use Rattle.std.specs.List.{AllByRecursion, list_all, list_any}
 use Rattle.std.proofs.lemmas.List.Elements.{All-head, All-tail, recursion_from_All}
+use Rattle.std.proofs.lemmas.Bool.{or_cases, or_left, or_right}
 use Rattle.term_model.specs.declared.symbols.Sort.{Sort}
 use Rattle.term_model.specs.Terms.{Term}
 use Rattle.term_model.specs.Values.{Value, truth, as_truth}
@@ -9,14 +10,14 @@ use Rattle.term_model.specs.Interpretations.{Interpretation}
 use Rattle.term_model.specs.Meaning.{Valuation, ValuationFits, value}
 use Rattle.term_model.specs.Sorts.{IsOf}
 use Rattle.term_model.specs.Unsatisfiable.{MakesTrue}
-use Rattle.term_model.proofs.Basics.{and-left, and-right, any_here, any_later, any_cases}
+use Rattle.term_model.proofs.Basics.{and-left, and-right, any_here, any_later, any_cases, not_both}
 use Rattle.term_model.proofs.Meanings.{is_true, true_is}
 use Rattle.term_model.proofs.Sorting.{value_has_sort, bool_value}
 use Rattle.rule_model.specs.declared.letter.Letter.{Letter}
 use Rattle.rule_model.specs.Clauses.{MakesClauseTrue}
 use Rattle.rule_model.specs.Conditions.{IsClauseOfTruths}
 use Rattle.rule_model.specs.Schemas.{Pattern, fill, Schema, IsInstance}
-use Rattle.rule_model.proofs.TruthTables.{fill_value, is_in, is_truth_in, or_cases, or_left, or_right, same_values, truth_letter, table, holds, keeps_truth_at, both, keeps_truth, is_known, are_letters_known, is_sound}
+use Rattle.rule_model.proofs.TruthTables.{fill_value, is_in, is_truth_in, same_values, truth_letter, table, holds, keeps_truth_at, both, keeps_truth, is_known, are_letters_known, is_sound}
 
 both_at : (f : Bool → Bool) (b : Bool) → both f ≡ true → f b ≡ true
 both_at f true e = and-left (f true) (f false) e
@@ -51,10 +52,6 @@ each_known schema e l =
     each a b c d e Letter.B = and-left b (c && d) (and-right a (b && (c && d)) e)
     each a b c d e Letter.C = and-left c d (and-right b (c && d) (and-right a (b && (c && d)) e))
     each a b c d e Letter.D = and-right c d (and-right b (c && d) (and-right a (b && (c && d)) e))
-
-not_both : (b : Bool) → not b ≡ true → b ≡ true → ⊥
-not_both true e f = cc
-not_both false e f = cc
 
 implied : (a b : Bool) → (not a || b) ≡ true → a ≡ true → b ≡ true
 implied true b e f = e

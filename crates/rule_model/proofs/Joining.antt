@@ -11,7 +11,7 @@ use Rattle.term_model.specs.Terms.{sort_eq, Term, operation, no_terms, terms_of}
 use Rattle.term_model.specs.Unsatisfiable.{MakesTrue}
 use Rattle.term_model.specs.Values.{truth, as_truth}
 use Rattle.term_model.proofs.Tests.{sort_eq_decides}
-use Rattle.term_model.proofs.Basics.{and-left, any_here, any_later, any_cases}
+use Rattle.term_model.proofs.Basics.{and-left, any_here, any_later, any_cases, same_tests}
 use Rattle.term_model.proofs.Meanings.{is_true, true_is, not_not, equality_is}
 use Rattle.term_model.proofs.Sorting.{value_has_sort, bool_value, when-same, when-true}
 use Rattle.rule_model.specs.Simplification.{negated, AreOpposed, IsWithout, end, drop, keep, IsOnceEach, end_of, repeat, fresh, IsShortened, StandsAs, JoinsTo, MeetsJoining, MeetsAndSimplify, MeetsOrSimplify}
@@ -182,12 +182,6 @@ module _ (I : Interpretation) (r : Valuation) where
       same_from_failure (operation Op.Or (terms_of ts)) t
       (joined_is FailsAt Op.Or (operation Op.False no_terms) (operation Op.True no_terms) or_joins false_fails (λ fails. fails true_holds) not_both_fail ts t h)
 
-  -- two terms of Bool that are true together have one value
-  one_truth : (x y : Bool) → (x ≡ true → y ≡ true) → (y ≡ true → x ≡ true) → x ≡ y
-  one_truth true y f g = sym (f refl)
-  one_truth false true f g = g refl
-  one_truth false false f g = refl
-
   truth_of : ValuationFits r → (t : Term) → IsOf t Sort.Bool → value I r t ≡ truth (truth_at t)
   truth_of fits t h = go (bool_value (value I r t) (value_has_sort I r fits t Sort.Bool h))
     where
@@ -197,7 +191,7 @@ module _ (I : Interpretation) (r : Valuation) where
   pub same_value : ValuationFits r → (t u : Term) → IsOf t Sort.Bool → IsOf u Sort.Bool → Holds t ↔ Holds u → value I r t ≡ value I r u
   same_value fits t u h k (f, g) =
       truth_of fits t h
-      ∙ ap truth (one_truth (truth_at t) (truth_at u)
+      ∙ ap truth (same_tests (truth_at t) (truth_at u)
       (λ e. true_is (value I r u) (f (is_true (value I r t) e)))
       (λ e. true_is (value I r t) (g (is_true (value I r u) e))))
       ∙ sym (truth_of fits u k)

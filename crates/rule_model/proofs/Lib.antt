@@ -2,7 +2,6 @@ pub mod Consequence
 pub mod Renamings
 pub mod Resolution
 pub mod StrictResolution
-pub mod Lists
 pub mod ConsequenceExamples
 pub mod Sets
 pub mod Numbers

@@ -3,6 +3,7 @@ use Rattle.std.proofs.Common.{◌≡◌, ◌+◌, ℕ, zero, suc, List, [], ◌�
 use Rattle.std.specs.List.{AllByRecursion}
 use Rattle.std.specs.Option.{option_map, option_map_or}
 use Rattle.std.proofs.lemmas.Option.{slice_get-map}
+use Rattle.term_model.proofs.Lists.{all_joined}
 use Rattle.rule_model.specs.declared.rules.Rule.{Rule}
 use Rattle.rule_model.specs.Proofs.{Step, ProofItems, no_items, with_assume, with_step, with_subproof}
 use Rattle.rule_model.specs.Scopes.{Nesting, outermost, inner, subproofs_in, scope_number, own_bindings, last_index}
@@ -10,7 +11,6 @@ use Rattle.rule_model.specs.Commands.{closing, Line, Entry, entry_of, entries, l
 use Rattle.rule_model.specs.Judged.{open_anchors, anchors_at}
 use Rattle.rule_model.specs.Reading.{rule_of, clause_of, premises_of, discharged_of, rule_at, clause_at, premises_at, discharged_at, scope_at, closes_at, bindings_at, last_inside_at}
 use Rattle.rule_model.proofs.Numbers.{scopes_in_count}
-use Rattle.rule_model.proofs.ReplacementLists.{all_joined}
 
 module _ {V T : Type 0} (proof : ProofItems V T) (i : ℕ) (l : Line V T) (here : slice_get (lines_in outermost proof) i ≡ Some l) where
   entry_here : slice_get (entries proof) i ≡ Some (entry_of l)

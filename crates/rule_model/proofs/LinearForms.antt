@@ -3,6 +3,7 @@ use Rattle.std.proofs.Common.{◌≡◌, ◌+◌, ◌≤◌, ℕ, ℤ, pos, neg_
 use Rattle.std.specs.List.{AllByRecursion}
 use Rattle.std.proofs.Math.IntN.{zero-*ℤ, *ℤ_comm}
 use Rattle.std.proofs.lemmas.Int.{ints}
+use Rattle.std.proofs.lemmas.Bool.{or_parts}
 use Rattle.term_model.specs.declared.symbols.Op.{Op}
 use Rattle.term_model.specs.Interpretations.{Interpretation}
 use Rattle.term_model.specs.Meaning.{Valuation, value, values}
@@ -177,14 +178,10 @@ pub dot_nothing : (c v : Term → ℤ) (us : List Term) → ((u : Term) → c u 
 dot_nothing c v [] h = refl
 dot_nothing c v (u ∷ us) h = omega (arith, ints, dot_nothing c v us h, ap (λ x. x *ℤ v u) (h u), zero-*ℤ (v u))
 
-pub or_false : (a b : Bool) → (a || b) ≡ false → (a ≡ false) × (b ≡ false)
-or_false true b e = absurd cc
-or_false false b e = (refl, e)
-
 dot_unlisted : (t : Term) (v : Term → ℤ) (us : List Term) → is_listed us t ≡ false → dot (λ u. one_at u t) v us ≡ pos 0
 dot_unlisted t v [] e = refl
 dot_unlisted t v (u ∷ us) e =
-    let parts_are = or_false (term_eq t u) (is_listed us t) e in
+    let parts_are = or_parts (term_eq t u) (is_listed us t) e in
     let here = ap (λ (b : Bool). (if b then pos 1 else pos 0) *ℤ v u) parts_are.0 in
     omega (arith, ints, here, zero-*ℤ (v u), dot_unlisted t v us parts_are.1)
 

@@ -1,10 +1,6 @@
 -- What holds of each item of lists that are joined or filtered.
-use Rattle.std.proofs.Common.{List, [], ◌∷◌, ◌++◌, Bool, true, false, cond, filter}
+use Rattle.std.proofs.Common.{List, [], ◌∷◌, Bool, true, false, cond, filter}
 use Rattle.std.specs.List.{AllByRecursion}
-
-pub all_joined : {X : Type 0} (P : X → Type 0) (xs ys : List X) → AllByRecursion P xs → AllByRecursion P ys → AllByRecursion P (xs ++ ys)
-all_joined P [] ys h k = k
-all_joined P (x ∷ xs) ys h k = (h.0, all_joined P xs ys h.1 k)
 
 pub all_filtered : {X : Type 0} (P : X → Type 0) (test : X → Bool) (xs : List X) → AllByRecursion P xs → AllByRecursion P (filter test xs)
 all_filtered P test [] h = tt

@@ -8,9 +8,9 @@ use Rattle.term_model.specs.Operators.{meaning}
 use Rattle.term_model.specs.Interpretations.{Interpretation, first_row}
 use Rattle.term_model.specs.Meaning.{Valuation, value_at, value, values, bound}
 use Rattle.term_model.proofs.Tests.{var_eq_decides}
+use Rattle.term_model.proofs.Lists.{all_joined}
 use Rattle.rule_model.specs.Replacement.{Replacement, replaced_by, replaced, replaced_all, replaced_bindings, HasNoLet, HaveNoLet, values_put}
 use Rattle.rule_model.specs.Substitution.{HaveTheirSorts}
-use Rattle.rule_model.proofs.ReplacementLists.{all_joined}
 
 pub term_at-sort : (r : Replacement) (x : Var) → HaveTheirSorts r → IsOf (replaced_by r x) x.sort
 term_at-sort [] x h = refl

@@ -1,5 +1,6 @@
 -- Rows of a table of rewrites keep values and sorts. What makes a row over truth values do so is computed from it.
 use Rattle.std.proofs.Common.{◌≡◌, inl, inr, List, [], ◌∷◌, Bool, true, false, not, ◌&&◌, ◌||◌, Some, refl, sym, ap, ◌∙◌, subst}
+use Rattle.std.proofs.lemmas.Bool.{or_cases, or_left, or_right}
 use Rattle.term_model.specs.declared.symbols.Op.{Op}
 use Rattle.term_model.specs.declared.symbols.Sort.{Sort}
 use Rattle.term_model.specs.Interpretations.{Interpretation}
@@ -7,13 +8,13 @@ use Rattle.term_model.specs.Meaning.{Valuation, ValuationFits, value}
 use Rattle.term_model.specs.Sorts.{IsOf, AreOf, choice_sort}
 use Rattle.term_model.specs.Terms.{Term, Terms, operation, term, no_terms, terms_of}
 use Rattle.term_model.specs.Values.{Value, truth, whole, as_truth}
-use Rattle.term_model.proofs.Basics.{and-left, and-right}
+use Rattle.term_model.proofs.Basics.{and-left, and-right, not_both}
 use Rattle.term_model.proofs.Sorting.{when-same, choice_sort-branches, value_has_sort, bool_value}
 use Rattle.term_model.proofs.Tests.{sort_eq_decides}
 use Rattle.rule_model.specs.declared.letter.Letter.{Letter}
 use Rattle.rule_model.specs.Rewriting.{Guard, always, truths, one_number, two_numbers, below, at_most, PassesGuard, RewriteRow}
 use Rattle.rule_model.specs.Schemas.{Pattern, letter, constant, unary, binary, ternary, fill}
-use Rattle.rule_model.proofs.TruthTables.{pattern_value, fill_value, is_in, is_truth_in, or_cases, or_left, or_right, same_values, truth_letter, table, both}
+use Rattle.rule_model.proofs.TruthTables.{pattern_value, fill_value, is_in, is_truth_in, same_values, truth_letter, table, both}
 
 -- whether an operator gives a truth value, and whether a pattern has one where it is well sorted
 abbrev gives_truth : Op → Bool
@@ -211,10 +212,6 @@ each_known row e Letter.A = and-left _ _ e
 each_known row e Letter.B = and-left _ _ (and-right (is_known_in row Letter.A) _ e)
 each_known row e Letter.C = and-left _ _ (and-right (is_known_in row Letter.B) _ (and-right (is_known_in row Letter.A) _ e))
 each_known row e Letter.D = and-right (is_known_in row Letter.C) _ (and-right (is_known_in row Letter.B) _ (and-right (is_known_in row Letter.A) _ e))
-
-not_both : (x : Bool) → not x ≡ true → x ≡ true → ⊥
-not_both true e f = cc
-not_both false e f = cc
 
 guarded_truth : (terms : Letter → Term) (l : Letter) (g : Guard) → is_truth_guarded l g ≡ true → PassesGuard terms g → IsOf (terms l) Sort.Bool
 guarded_truth terms l always e h = absurd cc

@@ -1,14 +1,15 @@
 -- The commands of a scope, and of those inside it, stand together.
-use Rattle.std.proofs.Common.{◌≡◌, ◌<◌, ◌≤◌, ◌+◌, ◌-◌, ◌⊎◌, ◌↔◌, inl, inr, ℕ, zero, suc, List, [], ◌∷◌, ◌++◌, length, take, slice_get, Option, Some, None, refl, sym, ◌∙◌, subst, arith}
+use Rattle.std.proofs.Common.{◌≡◌, ◌<◌, ◌≤◌, ◌+◌, ◌-◌, ◌⊎◌, ◌↔◌, inl, inr, ℕ, ◌++◌, length, slice_get, Option, Some, None, refl, sym, ◌∙◌, subst, arith}
 use Rattle.std.specs.List.{AllByRecursion}
 use Rattle.std.proofs.lemmas.Option.{slice_get_within}
+use Rattle.term_model.proofs.Lists.{all_joined, get_taken, nth_there}
+use Rattle.term_model.proofs.Basics.{same_some}
 use Rattle.rule_model.specs.Proofs.{ProofItems, no_items, with_assume, with_step, with_subproof}
 use Rattle.rule_model.specs.Scopes.{Nesting, outermost, inside, inner, subproofs_in, scope_number}
 use Rattle.rule_model.specs.Commands.{IndexedCommand, assume, step, closing, Line, lines_in, lines_around, own_scope, closed_scope}
 use Rattle.rule_model.specs.Reading.{scope_at, closes_at}
 use Rattle.rule_model.proofs.LineReading.{scope_is, closes_is, none_closes}
 use Rattle.rule_model.proofs.Lines.{get_append, lines_before}
-use Rattle.rule_model.proofs.ReplacementLists.{all_joined}
 use Rattle.rule_model.proofs.ScopedTruth.{all_changed}
 use Rattle.rule_model.proofs.Standing.{all_at}
 
@@ -40,25 +41,11 @@ module _ {V T : Type 0} where
       (all_changed _ _ (λ l h. let w = h.1 in omega arith) (lines_in around before) (numbers_in around before))
 
   module _ (proof : ProofItems V T) where
-    get_within : {X : Type 0} (xs : List X) (j : ℕ) → j < length xs → (x : X) × (slice_get xs j ≡ Some x)
-    get_within [] j h = absurd (omega arith)
-    get_within (x ∷ xs) zero h = (x, refl)
-    get_within (x ∷ xs) (suc j) h = get_within xs j (omega arith)
-
-    get_taken : {X : Type 0} (n : ℕ) (xs : List X) (j : ℕ) (x : X) → j < n → slice_get xs j ≡ Some x → slice_get (take n xs) j ≡ Some x
-    get_taken zero xs j x h e = absurd (omega arith)
-    get_taken (suc n) [] j x h e = absurd cc
-    get_taken (suc n) (y ∷ xs) zero x h e = e
-    get_taken (suc n) (y ∷ xs) (suc j) x h e = get_taken n xs j x (omega arith) e
-
-    some_same : {X : Type 0} {a b : X} → Some a ≡ Some b → a ≡ b
-    some_same e = cc
-
     -- a command before a place stands before the anchor of the scope there, or behind it
     together_at : (i j : ℕ) (l : Line V T) → slice_get (lines_in outermost proof) i ≡ Some l → j < i → length (lines_around l.scope.nesting) ≤ j ↔ scope_number l.scope.nesting ≤ scope_at proof j
     together_at i j l here less =
         let within = slice_get_within (lines_in outermost proof) i l here in
-        let m = get_within (lines_in outermost proof) j (omega arith) in
+        let m = nth_there (lines_in outermost proof) j (omega arith) in
         let there = subst (λ ls. slice_get ls j ≡ Some m.0) (sym (lines_before outermost proof i l here)) (get_taken i (lines_in outermost proof) j m.0 less m.1) in
         go m.0 (scope_is proof j m.0 m.1) (get_append (lines_around l.scope.nesting) (lines_in l.scope.nesting l.scope.items) j m.0 there)
       where
@@ -79,7 +66,7 @@ module _ {V T : Type 0} where
         number_of : (nesting : Nesting V T) (command : IndexedCommand T) → closed_scope nesting command ≡ Some k → scope_number nesting ≡ k
         number_of nesting (assume id t) e = absurd cc
         number_of nesting (step s) e = absurd cc
-        number_of nesting (closing s) e = some_same e
+        number_of nesting (closing s) e = same_some e
 
         go : (o : Option (Line V T)) → slice_get (lines_in outermost proof) i ≡ o → (first : ℕ) × ((j : ℕ) → j < i → first ≤ j ↔ k ≤ scope_at proof j)
         go (Some l) here =

@@ -7,6 +7,7 @@ use Rattle.term_model.specs.Meaning.{Valuation, ValuationFits, value}
 use Rattle.term_model.specs.Terms.{Var, Term}
 use Rattle.term_model.specs.Unsatisfiable.{MakesTrue, MakesAllTrue}
 use Rattle.term_model.proofs.Sorting.{value_has_sort}
+use Rattle.term_model.proofs.Lists.{all_joined}
 use Rattle.rule_model.specs.Clauses.{MakesClauseTrue}
 use Rattle.rule_model.specs.Contexts.{AreAnchorsNested, IsBoundBy, IsClosedUnder, context_values, images}
 use Rattle.rule_model.specs.Judged.{open_anchors}
@@ -18,7 +19,6 @@ use Rattle.rule_model.specs.Truth.{assumed_in, open_assumes, IsTrueWhere, IsLite
 use Rattle.rule_model.specs.Visibility.{open_bindings}
 use Rattle.rule_model.specs.WellFormed.{MayOpen}
 use Rattle.rule_model.proofs.ContextLaws.{anchor_keeps_others, images_sorted}
-use Rattle.rule_model.proofs.ReplacementLists.{all_joined}
 use Rattle.rule_model.proofs.Sights.{IsFront, whole, assume_more, step_more, subproof_more, IsOpenAt, own, outside}
 
 -- lists

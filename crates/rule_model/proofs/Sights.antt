@@ -2,6 +2,7 @@
 use Rattle.std.proofs.Common.{◌≡◌, ◌<◌, ◌+◌, ℕ, zero, suc, List, [], ◌∷◌, ◌++◌, map, length, slice_get, slice_index_or, Some, Contains, refl, sym, ◌∙◌, ap, subst, arith}
 use Rattle.std.specs.List.{AllByRecursion}
 use Rattle.std.proofs.lemmas.List.{length-append, append_assoc}
+use Rattle.term_model.proofs.Lists.{slice_get-left, slice_get-last, all_joined, all_last}
 use Rattle.rule_model.specs.Proofs.{Step, ProofItems, no_items, with_assume, with_step, with_subproof}
 use Rattle.rule_model.specs.Scopes.{Anchor, Nesting, outermost, inside, Scope, at, inner, commands_in, first_index, last_index}
 use Rattle.rule_model.specs.Commands.{assume, step, closing, Line, lines_in, lines_around, lines_to}
@@ -9,20 +10,6 @@ use Rattle.rule_model.specs.Truth.{assumed_in}
 use Rattle.rule_model.specs.Visibility.{Sight, sight, direct, seen_around, seen, visible}
 use Rattle.rule_model.specs.Writing.{add_command}
 use Rattle.rule_model.proofs.Numbers.{lines_in_count, lines_count}
-use Rattle.rule_model.proofs.ReplacementLists.{all_joined}
-
-slice_get_last : {X : Type 0} (xs : List X) (x : X) → slice_get (xs ++ x ∷ []) (length xs) ≡ Some x
-slice_get_last [] x = refl
-slice_get_last (y ∷ ys) x = slice_get_last ys x
-
-pub slice_get_more : {X : Type 0} (xs ys : List X) (k : ℕ) (x : X) → slice_get xs k ≡ Some x → slice_get (xs ++ ys) k ≡ Some x
-slice_get_more [] ys k x e = absurd (cc)
-slice_get_more (y ∷ xs) ys zero x e = e
-slice_get_more (y ∷ xs) ys (suc k) x e = slice_get_more xs ys k x e
-
-pub all_last : {X : Type 0} (P : X → Type 0) (xs : List X) (x : X) → AllByRecursion P (xs ++ x ∷ []) → P x
-all_last P [] x h = h.0
-all_last P (y ∷ xs) x h = all_last P xs x h.1
 
 -- the items are the first ones of others
 pub data IsFront {V T : Type 0} : ProofItems V T → ProofItems V T → Type 0 where
@@ -51,12 +38,12 @@ module _ {V T : Type 0} where
   seen_more : (P Q : Line V T → Type 0) → ((l : Line V T) → P l → Q l) → (lines more next : List (Line V T)) (sights : List Sight) → next ≡ lines ++ more → AreSeen P lines sights → AreSeen Q next sights
   seen_more P Q f lines more next [] e h = tt
   seen_more P Q f lines more next (s ∷ sights) e h =
-      ((h.0.0, rw e (slice_get_more lines more s.index h.0.0 h.0.1), f h.0.0 h.0.2), seen_more P Q f lines more next sights e h.1)
+      ((h.0.0, rw e (slice_get-left lines more s.index h.0.0 h.0.1), f h.0.0 h.0.2), seen_more P Q f lines more next sights e h.1)
 
   -- the last line, at its index
   seen_last : (P : Line V T → Type 0) (lines next : List (Line V T)) (l : Line V T) (index : ℕ) (id : List ℕ) → P l → next ≡ lines ++ l ∷ [] → length lines ≡ index → AreSeen P next (sight index id ∷ [])
   seen_last P lines next l index id p join e =
-      ((l, rw join (subst (λ k. slice_get (lines ++ l ∷ []) k ≡ Some l) e (slice_get_last lines l)), p), tt)
+      ((l, rw join (subst (λ k. slice_get (lines ++ l ∷ []) k ≡ Some l) e (slice_get-last lines l)), p), tt)
 
   opens_more : (nesting : Nesting V T) (items more : ProofItems V T) → ((front : ProofItems V T) → IsFront front items → IsFront front more) → (s : Scope V T) → IsOpenAt s nesting items → IsOpenAt s nesting more
   opens_more _ _ more grows _ (own nesting items items' f) = own nesting items more (grows items f)
@@ -150,7 +137,7 @@ module _ {V T : Type 0} where
   assumed_more : (nesting : Nesting V T) (lines more next : List (Line V T)) (ts : List T) → next ≡ lines ++ more → AllByRecursion (IsAssumedIn nesting lines) ts → AllByRecursion (IsAssumedIn nesting next) ts
   assumed_more nesting lines more next [] e h = tt
   assumed_more nesting lines more next (t ∷ ts) e h =
-      ((h.0.0, (h.0.1.0, rw e (slice_get_more lines more h.0.0 h.0.1.0 h.0.1.1), h.0.1.2)), assumed_more nesting lines more next ts e h.1)
+      ((h.0.0, (h.0.1.0, rw e (slice_get-left lines more h.0.0 h.0.1.0 h.0.1.1), h.0.1.2)), assumed_more nesting lines more next ts e h.1)
 
   pub assumed_seen : (nesting : Nesting V T) (items : ProofItems V T) → AllByRecursion (IsAssumedIn nesting (lines_around nesting ++ lines_in nesting items)) (assumed_in items)
   assumed_seen nesting no_items = tt
@@ -160,7 +147,7 @@ module _ {V T : Type 0} where
       let join = sym (append_assoc (lines_around nesting) (lines_in nesting items) (l ∷ [])) in
       all_joined _ (assumed_in items) _
       (assumed_more nesting _ (l ∷ []) _ (assumed_in items) join (assumed_seen nesting items))
-      ((length lines, (l, rw join (slice_get_last lines l), record { own = refl; id = id; is = refl })), tt)
+      ((length lines, (l, rw join (slice_get-last lines l), record { own = refl; id = id; is = refl })), tt)
   assumed_seen nesting (with_step items s) =
       let l : Line V T = record { scope = at nesting items; command = step s } in
       assumed_more nesting _ (l ∷ []) _ (assumed_in items) (sym (append_assoc (lines_around nesting) (lines_in nesting items) (l ∷ []))) (assumed_seen nesting items)

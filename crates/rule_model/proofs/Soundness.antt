@@ -13,6 +13,7 @@ use Rattle.term_model.specs.Unsatisfiable.{MakesTrue, MakesAllTrue}
 use Rattle.term_model.proofs.Basics.{any_here}
 use Rattle.term_model.proofs.Flips.{flips_value}
 use Rattle.term_model.proofs.Meanings.{equality_is}
+use Rattle.term_model.proofs.Lists.{slice_get-left, all_joined, all_last}
 use Rattle.rule_model.specs.declared.rules.Mode.{Mode}
 use Rattle.rule_model.specs.declared.rules.Rule.{Rule}
 use Rattle.rule_model.specs.declared.statuses.Status.{Status}
@@ -37,10 +38,9 @@ use Rattle.rule_model.proofs.ConditionLaws.{met_keeps}
 use Rattle.rule_model.proofs.ContextLaws.{anchor_binds, anchor_keeps_others}
 use Rattle.rule_model.proofs.LineReading.{rule_is, clause_is, premises_are, scope_is, closes_is, anchors_are, bindings_are, last_is}
 use Rattle.rule_model.proofs.Lines.{lines_before}
-use Rattle.rule_model.proofs.ReplacementLists.{all_joined}
 use Rattle.rule_model.proofs.RuleWords.{named_no_assume}
 use Rattle.rule_model.proofs.ScopedTruth.{IsGood, good_nested, context_fits, values_in, Holds, holds_inside, holds_front, true_inside, all_changed, all_back}
-use Rattle.rule_model.proofs.Sights.{slice_get_more, whole, step_more, subproof_more, Opens, IsSeen, Assumes, visible_seen, last_seen, assumed_seen, all_last}
+use Rattle.rule_model.proofs.Sights.{whole, step_more, subproof_more, Opens, IsSeen, Assumes, visible_seen, last_seen, assumed_seen}
 use Rattle.rule_model.proofs.Standing.{all_at, command_may, slice_get_taken, taken_few}
 
 -- what is well formed and well sorted around a line, and its literals
@@ -222,7 +222,7 @@ module _ (c : Checking) (proof : ProofItems Var Term) (formed : IsWellFormed pro
     premise_outside j has =
         let may = command_may proof i line formed here in
         let out = visible_seen around before j (All-contains (Contains (visible around before)) s.premises j may.premises has) in
-        (out.0, slice_get_more (lines_around around ++ lines_in around before) (lines_in deep items) j out.0 out.1, out.2)
+        (out.0, slice_get-left (lines_around around ++ lines_in around before) (lines_in deep items) j out.0 out.1, out.2)
 
     -- subproof
     subproof_true : IsSubproof proof i closed → (I : Interpretation) → MakesAllTrue I c.assertions → Holds I around before → MakesClauseTrue I (values_in I around) s.clause

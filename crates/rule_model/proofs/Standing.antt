@@ -1,18 +1,20 @@
 -- Each command of a well-formed proof may stand where it is reached, and its premises stand before it.
-use Rattle.std.proofs.Common.{◌≡◌, ◌<◌, ◌≤◌, ℕ, zero, suc, List, [], ◌∷◌, ◌++◌, length, take, slice_get, Some, Contains, refl, sym, ◌∙◌, subst, arith}
+use Rattle.std.proofs.Common.{◌≡◌, ◌<◌, ◌≤◌, ℕ, zero, suc, List, [], ◌∷◌, ◌++◌, length, take, slice_get, Some, Contains, refl, sym, ◌∙◌, subst, arith, ap, map, get_or}
 use Rattle.std.specs.List.{AllByRecursion}
-use Rattle.std.proofs.lemmas.List.{length-append}
+use Rattle.std.specs.Option.{option_map_or}
+use Rattle.std.proofs.lemmas.List.{length-append, get_or_default}
 use Rattle.std.proofs.lemmas.Option.{slice_get_within}
+use Rattle.std.proofs.lemmas.List.Elements.{Contains-push}
+use Rattle.term_model.proofs.Lists.{slice_get-left, all_joined}
 use Rattle.rule_model.specs.Proofs.{ProofItems, no_items, with_assume, with_step, with_subproof}
-use Rattle.rule_model.specs.Scopes.{Nesting, outermost, inside, Scope, at, inner, scope_number}
-use Rattle.rule_model.specs.Commands.{IndexedCommand, assume, step, closing, Line, lines_in, lines_around, lines_to, own_scope}
-use Rattle.rule_model.specs.Reading.{premises_of}
+use Rattle.rule_model.specs.Scopes.{Nesting, outermost, inside, Scope, at, inner, scope_number, commands_in}
+use Rattle.rule_model.specs.Commands.{IndexedCommand, assume, step, closing, Line, lines_in, lines_around, lines_to, own_scope, entry_of}
+use Rattle.rule_model.specs.Reading.{premises_of, premises_at}
 use Rattle.rule_model.specs.Visibility.{visible, open_scopes}
-use Rattle.rule_model.specs.WellFormed.{AreWellFormed}
+use Rattle.rule_model.specs.WellFormed.{AreWellFormed, IsWellFormed}
 use Rattle.rule_model.specs.Writing.{add_command, MayAddHere, own_nesting}
 use Rattle.rule_model.proofs.Lines.{lines_before}
-use Rattle.rule_model.proofs.ReplacementLists.{all_joined}
-use Rattle.rule_model.proofs.Sights.{IsOpenAt, own, outside, Opens, IsSeen, slice_get_more, visible_seen}
+use Rattle.rule_model.proofs.Sights.{IsOpenAt, own, outside, Opens, IsSeen, visible_seen}
 
 pub all_at : {X : Type 0} (P : X → Type 0) (xs : List X) (i : ℕ) (x : X) → AllByRecursion P xs → slice_get xs i ≡ Some x → P x
 all_at P [] i x h at = absurd (cc)
@@ -50,13 +52,9 @@ contains_more : (xs ys : List ℕ) (x : ℕ) → Contains xs x → Contains (xs 
 contains_more xs ys x (k, h, e) =
     (k, rw (length-append xs ys) (omega arith), Rattle.std.proofs.Math.ListN.get_or-append xs ys x k h ∙ e)
 
-contains_last : (xs : List ℕ) (x : ℕ) → Contains (xs ++ x ∷ []) x
-contains_last xs x =
-    (length xs, rw (length-append xs (x ∷ [])) (omega arith), Rattle.std.proofs.Math.Seq.get_or-append_seam xs x [] x)
-
 own_open : {V T : Type 0} (nesting : Nesting V T) → Contains (open_scopes nesting) (scope_number nesting)
 own_open outermost = (0, omega arith, refl)
-own_open (inside around before anchor) = contains_last (open_scopes around) _
+own_open (inside around before anchor) = Contains-push (open_scopes around) _
 
 -- the number of an open scope is one of theirs
 number_open : {V T : Type 0} (scope : Scope V T) (nesting : Nesting V T) (items : ProofItems V T) → IsOpenAt scope nesting items → Contains (open_scopes nesting) (scope_number scope.nesting)
@@ -81,7 +79,7 @@ premise_seen {V} {T} scope (closing s) j may has = close scope.nesting scope.ite
     close outermost items may = absurd may
     close (inside around before anchor) items may =
         let out = visible_seen around before j (subst (Contains (visible around before)) has.2 (may.premises has.0 j has.1)) in
-        (before, (out.0, slice_get_more (lines_around around ++ lines_in around before) (lines_in (inside around before anchor) items) j out.0 out.1, out.2))
+        (before, (out.0, slice_get-left (lines_around around ++ lines_in around before) (lines_in (inside around before anchor) items) j out.0 out.1, out.2))
 
 pub premise_visible : {V T : Type 0} (scope : Scope V T) (c : IndexedCommand T) (j : ℕ) → MayAddHere scope c → Contains (premises_of c) j → (l : Line V T) × (slice_get (lines_to scope) j ≡ Some l) × Contains (open_scopes (own_nesting scope.nesting c)) (own_scope l.scope.nesting l.command)
 premise_visible scope c j may has =
@@ -104,3 +102,20 @@ premise_encloses {V} {T} proof i j l m h e has there_is =
   where
     some_same : {Y : Type 0} {a b : Y} → Some a ≡ Some b → a ≡ b
     some_same e = cc
+
+-- a premise is that of the command at its place, and the index of a command
+pub premise_line : (ls : List (Line ℕ ℕ)) (i k : ℕ) → k < length (option_map_or (λ e. premises_of e.command) (slice_get (map entry_of ls) i) [])
+    → (l : Line ℕ ℕ) × (slice_get ls i ≡ Some l) × (premises_of l.command ≡ option_map_or (λ e. premises_of e.command) (slice_get (map entry_of ls) i) [])
+premise_line [] i k h = absurd (omega (arith, h))
+premise_line (l ∷ ls) zero k h = (l, refl, refl)
+premise_line (l ∷ ls) (suc i) k h = premise_line ls i k h
+
+pub premise_within : (proof : ProofItems ℕ ℕ) (i k d : ℕ) → IsWellFormed proof → i < commands_in proof → k < length (premises_at proof i) → get_or (premises_at proof i) k d < commands_in proof
+premise_within proof i k d formed h within =
+    let line = premise_line (lines_in outermost proof) i k within in
+    let size : length (premises_of line.0.command) ≡ length (premises_at proof i) = ap length line.2 in
+    let below : k < length (premises_of line.0.command) = omega arith in
+    let here : get_or (premises_of line.0.command) k (get_or (premises_at proof i) k d) ≡ get_or (premises_at proof i) k d =
+    ap (λ (js : List ℕ). get_or js k (get_or (premises_at proof i) k d)) line.2 ∙ get_or_default (premises_at proof i) k (get_or (premises_at proof i) k d) d within in
+    let earlier = premise_earlier proof i (get_or (premises_at proof i) k d) line.0 formed line.1 (k, below, here) in
+    omega arith

@@ -6,7 +6,7 @@ use Rattle.term_model.specs.Interpretations.{Interpretation}
 use Rattle.term_model.specs.Meaning.{Valuation}
 use Rattle.term_model.specs.Unsatisfiable.{MakesTrue}
 use Rattle.term_model.proofs.Meanings.{negation_is}
-use Rattle.rule_model.proofs.Lists.{contains_none, contains_cases, contains_head, contains_later}
+use Rattle.term_model.proofs.Lists.{contains_none, contains_cases, contains_head, contains_later}
 use Rattle.rule_model.specs.Clauses.{MakesClauseTrue}
 use Rattle.rule_model.specs.Resolution.{LeavesWithout, IsFirstsOf, with_sign, IsResolvent, Chains, ResolvesStrictly}
 

@@ -1,12 +1,10 @@
 -- The tests whether two terms are one decide it.
-use Rattle.std.proofs.Common.{◌≡◌, ℕ, List, Decides, ◌&&◌, bytes_eq, refl, ap}
+use Rattle.std.proofs.Common.{◌≡◌, Decides, ◌&&◌, refl, ap}
 use Rattle.std.proofs.lemmas.Bool.Decides.{Decides-eqb, Decides-and, Decides-like}
-use Rattle.std.proofs.lemmas.Slice.Eq.{bytes_eq-Decides}
 use Rattle.term_model.specs.declared.symbols.Op.{Op}
-use Rattle.term_model.specs.declared.symbols.Sort.{Sort}
-use Rattle.term_model.specs.Terms.{sort_eq, var_eq, Fun, Term, numeral, variable, operation, call, let_in, Terms, no_terms, term, Bindings, no_bindings, binding}
-use Rattle.term_model.specs.Sorts.{sorts_eq}
-use Rattle.term_model.proofs.Tests.{sort_eq_decides, sorts_eq_decides, var_eq_decides}
+use Rattle.term_model.specs.Terms.{var_eq, Term, numeral, variable, operation, call, let_in, Terms, no_terms, term, Bindings, no_bindings, binding}
+use Rattle.term_model.proofs.Tests.{var_eq_decides}
+use Rattle.term_model.proofs.Existence.{fun_eq_decides}
 use Rattle.rule_model.specs.TermTests.{op_eq, fun_eq, term_eq, terms_eq, bindings_eq}
 
 pub op_eq_decides : (o p : Op) → Decides (op_eq o p) (o ≡ p)
@@ -28,21 +26,6 @@ op_eq_decides Op.Less Op.Less = (λ e. refl, λ e. refl)
 op_eq_decides Op.GreaterEq Op.GreaterEq = (λ e. refl, λ e. refl)
 op_eq_decides Op.Greater Op.Greater = (λ e. refl, λ e. refl)
 op_eq_decides _ _ = (λ e. cc, λ e. cc)
-
-fun_of : List ℕ → List Sort → Sort → Fun
-fun_of n ss s = record { name = n; arguments = ss; target = s }
-
-same_fun : (n m : List ℕ) (ss ts : List Sort) (s t : Sort) → n ≡ m → ss ≡ ts → s ≡ t → fun_of n ss s ≡ fun_of m ts t
-same_fun n m ss ts s t e f g = cc
-
-pub fun_eq_decides : (f g : Fun) → Decides (fun_eq f g) (f ≡ g)
-unfolding fun_of
-fun_eq_decides f g =
-    Decides-like (fun_eq f g) (λ h. same_fun f.name g.name f.arguments g.arguments f.target g.target h.0 h.1.0 h.1.1)
-    (λ e. (ap (λ v. v.name) e, (ap (λ v. v.arguments) e, ap (λ v. v.target) e)))
-    (Decides-and (bytes_eq f.name g.name) (sorts_eq f.arguments g.arguments && sort_eq f.target g.target)
-    (bytes_eq-Decides f.name g.name)
-    (Decides-and (sorts_eq f.arguments g.arguments) (sort_eq f.target g.target) (sorts_eq_decides f.arguments g.arguments) (sort_eq_decides f.target g.target)))
 
 mutual
   pub term_eq_decides : (t u : Term) → Decides (term_eq t u) (t ≡ u)

@@ -2,6 +2,7 @@
 use Rattle.std.proofs.Common.{◌≡◌, ◌<◌, ◌≤◌, ◌+◌, ◌-◌, ◌⊎◌, inl, inr, ℕ, zero, suc, List, [], ◌∷◌, ◌++◌, map, length, slice_get, Some, refl, sym, ◌∙◌, ap, subst, arith}
 use Rattle.std.specs.Option.{option_map}
 use Rattle.std.proofs.lemmas.Option.{slice_get-map, slice_get_within}
+use Rattle.term_model.proofs.Lists.{nth_there}
 use Rattle.rule_model.specs.Proofs.{ProofItems, no_items, with_assume, with_step, with_subproof}
 use Rattle.rule_model.specs.Scopes.{Nesting, outermost, at, inner, commands_in, subproofs_in, scope_number}
 use Rattle.rule_model.specs.Commands.{closing, Line, entry_of, lines_in, own_scope, closed_scope, ScopeEntry, scope_entry, scopes_in}
@@ -66,17 +67,11 @@ module _ {V T : Type 0} where
       go outer within (inl p) = closes_left (lines_in nesting items ++ lines_in (inner nesting items bindings s) proof) _ _ e (closes_left (lines_in nesting items) _ _ e (outer p.1))
       go outer within (inr p) = own (k - length (scopes_in nesting items)) refl p.0 within p.1
 
--- a scope of an anchor
-some_scope : {X : Type 0} (xs : List X) (k : ℕ) → k < length xs → (x : X) × (slice_get xs k ≡ Some x)
-some_scope [] k h = absurd (omega arith)
-some_scope (x ∷ xs) zero h = (x, refl)
-some_scope (x ∷ xs) (suc k) h = some_scope xs k (omega arith)
-
 pub scope_closed : {V T : Type 0} (proof : ProofItems V T) (k : ℕ) → 0 < k → k ≤ subproofs_in proof → (i : ℕ) × (i < commands_in proof) × (closes_at proof i ≡ Some k) × (parent_at proof k ≡ Some (scope_at proof i)) × (scope_at proof i < k)
 scope_closed proof zero h l = absurd (omega arith)
 scope_closed proof (suc k) h l =
     let count = scopes_in_count outermost proof in
-    let s = some_scope (scopes_in outermost proof) k (omega arith) in
+    let s = nth_there (scopes_in outermost proof) k (omega arith) in
     let c = scopes_close outermost proof k s.0 s.1 in
     let entry : slice_get (map entry_of (lines_in outermost proof)) c.index ≡ Some (entry_of c.line) = slice_get-map entry_of (lines_in outermost proof) c.index ∙ ap (option_map entry_of) c.here in
     let number : suc (0 + k) ≡ suc k = omega arith in

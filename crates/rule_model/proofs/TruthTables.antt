@@ -1,5 +1,6 @@
 -- Schemas by truth tables: what makes each instance of a schema keep truth is computed from the schema.
-use Rattle.std.proofs.Common.{◌≡◌, [], ◌∷◌, Bool, true, false, not, ◌&&◌, ◌||◌, ◌⊎◌, inl, inr, refl}
+use Rattle.std.proofs.Common.{◌≡◌, [], ◌∷◌, Bool, true, false, not, ◌&&◌, ◌||◌, inl, inr, refl}
+use Rattle.std.proofs.lemmas.Bool.{or_cases, or_left, or_right}
 use Rattle.std.specs.List.{list_all, list_any}
 use Rattle.term_model.specs.declared.symbols.Sort.{Sort}
 use Rattle.term_model.specs.declared.symbols.Op.{Op}
@@ -60,18 +61,6 @@ same_letter P Letter.B Letter.B e p = p
 same_letter P Letter.C Letter.C e p = p
 same_letter P Letter.D Letter.D e p = p
 same_letter P _ _ e p = absurd cc
-
-pub or_cases : (a b : Bool) → (a || b) ≡ true → (a ≡ true) ⊎ (b ≡ true)
-or_cases true b e = inl refl
-or_cases false b e = inr e
-
-pub or_left : (a b : Bool) → a ≡ true → (a || b) ≡ true
-or_left true b e = refl
-or_left false b e = absurd cc
-
-pub or_right : (a b : Bool) → b ≡ true → (a || b) ≡ true
-or_right true b e = refl
-or_right false b e = e
 
 -- patterns have one value where their letters do
 pub same_values : (v w : Letter → Value) (p : Pattern) → ((l : Letter) → is_in l p ≡ true → v l ≡ w l) → pattern_value v p ≡ pattern_value w p

@@ -3,13 +3,14 @@ use Rattle.std.proofs.Common.{◌≡◌, ◌+◌, ◌*◌, ◌≤◌, ℤ, pos, 
 use Rattle.std.proofs.Math.Nat.{mul-le-mul, mul_comm, mul-add}
 use Rattle.std.proofs.Math.IntN.{*ℤ_comm}
 use Rattle.std.proofs.lemmas.Int.{ints, unsigned_abs-mul}
+use Rattle.std.proofs.lemmas.Bool.{or_parts}
 use Rattle.term_model.specs.declared.symbols.Op.{Op}
 use Rattle.term_model.specs.Operators.{from_left, difference}
 use Rattle.term_model.specs.Terms.{Term, numeral, operation, Terms, no_terms, term}
 use Rattle.rule_model.specs.LinearForms.{is_constant, is_linear, product, constant, constants, form_parts, product_part, one_at, coefficient, is_listed, AreDistinct}
 use Rattle.rule_model.specs.TermTests.{term_eq}
 use Rattle.rule_model.specs.Weights.{weight, weight_sum, weight_product, sizes}
-use Rattle.rule_model.proofs.LinearForms.{summed, lessened, product_is, or_false}
+use Rattle.rule_model.proofs.LinearForms.{summed, lessened, product_is}
 use Rattle.rule_model.proofs.TermTests.{term_eq_decides}
 
 sizes_added : (c d e : Term → ℤ) (us : List Term) → ((u : Term) → e u ≡ c u +ℤ d u) → sizes e us ≤ sizes c us + sizes d us
@@ -31,7 +32,7 @@ sizes_nothing c (u ∷ us) h = omega (arith, ints, h u, sizes_nothing c us h)
 unlisted_size : (t : Term) (us : List Term) → is_listed us t ≡ false → sizes (λ u. one_at u t) us ≡ 0
 unlisted_size t [] e = refl
 unlisted_size t (u ∷ us) e =
-    let parts_are = or_false (term_eq t u) (is_listed us t) e in
+    let parts_are = or_parts (term_eq t u) (is_listed us t) e in
     let here = ap (λ (b : Bool). unsigned_abs (if b then pos 1 else pos 0)) parts_are.0 in
     omega (arith, here, unlisted_size t us parts_are.1)
 

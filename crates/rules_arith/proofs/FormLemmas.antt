@@ -16,6 +16,7 @@ use Rattle.rule_model.specs.Arithmetic.{EquatesNumbers, MeetsFormSimplification,
 use Rattle.rule_model.specs.LinearForms.{HaveOneForm}
 use Rattle.rule_model.specs.Weights.{weight}
 use Rattle.rule_model.specs.Conditions.{IsClauseOfTruths}
+use Rattle.rule_model.proofs.ArgumentLists.{same_sides}
 use Rattle.schema_match.specs.Equations.{StatesEquality}
 use Rattle.linear_lines.proofs.ComparisonLemmas.{both_sorted}
 use Rattle.rules_arith.specs.Answers.{Tells}
@@ -52,12 +53,6 @@ module _ (s : Table) (v : TermsView) where
       let whole : IsWellSorted (equality is.left is.right) = All-head IsWellSorted (equality is.left is.right) [] (subst (All IsWellSorted) is.literal there.2) in
       let both = both_sorted Op.Equal is.left is.right whole in
       (record { means = is.left; refers = is.left_refers; sorted = both.0 }, record { means = is.right; refers = is.right_refers; sorted = both.1 })
-
-  pub sorted_is_term : (r : ℕ) → IsWellSortedTerm s v r → IsTerm s v r
-  sorted_is_term r is = record { means = is.means; refers = is.refers }
-
-same_sides : (x y z w : Term) → equality x y ∷ [] ≡ equality z w ∷ [] → (x ≡ z) × (y ≡ w)
-same_sides x y z w e = (let f : x ≡ z = cc in f, let f : y ≡ w = cc in f)
 
 -- no equality of numbers
 pub states_none : (ts : List Term) → ((u w : Term) → ts ≢ equality u w ∷ []) → Tells Answer.NotMet (IsWideFormSimplification [] ts) (MeetsFormSimplification [] ts)

@@ -82,12 +82,6 @@ term_at s v (r ∷ rs) [] k d refer below = absurd refer
 term_at s v (r ∷ rs) (t ∷ ts) zero d refer below = (t, refl, refer.0)
 term_at s v (r ∷ rs) (t ∷ ts) (suc k) d refer below = term_at s v rs ts k d refer.1 (omega (arith, below))
 
-pub there_are : (s : Table) (v : TermsView) (rs : List ℕ) (ts : List Term) → ReferToAll s v rs ts → length rs ≡ length ts
-there_are s v [] [] refer = refl
-there_are s v [] (t ∷ ts) refer = absurd refer
-there_are s v (r ∷ rs) [] refer = absurd refer
-there_are s v (r ∷ rs) (t ∷ ts) refer = ap suc (there_are s v rs ts refer.1)
-
 module _ (s : Table) (v : TermsView) (ts : List Term) (qs : List Fraction) where
   pub no_line : (k : ℕ) (t : Term) (q : Fraction) (lines : List Line) → slice_get ts k ≡ Some t → slice_get qs k ≡ Some q → IsLineFound s v t q None → AreLinesFound s v ts qs lines false
   no_line k t q lines e f none ls are =

@@ -5,12 +5,14 @@ use Rattle.std.proofs.lemmas.Bool.{eqb-true, eq-eqb}
 use Rattle.std.proofs.lemmas.List.{take_more, take_all, map-append, get_or-map}
 use Rattle.sym_table.specs.Table.{Table}
 use Rattle.term_model.specs.Terms.{Term, numeral}
+use Rattle.term_model.proofs.Lists.{same_one}
 use Rattle.term_pool.specs.Views.{TermsView, RefersTo, ReferToAll}
+use Rattle.term_pool.proofs.References.{AreOne}
 use Rattle.schema_match.specs.declared.signs.Sign.{Sign}
 use Rattle.rules_clausal.specs.ArgumentRules.{IsOneOf}
 use Rattle.schema_match.specs.Signs.{sign_of, IsSigned}
 use Rattle.schema_match.proofs.ArgumentLemmas.{one_term}
-use Rattle.schema_match.proofs.ReferLemmas.{AreOne, contains_terms, contains_references, refer_length, refer_at}
+use Rattle.schema_match.proofs.ReferLemmas.{contains_terms, contains_references, refer_length, refer_at}
 
 module _ (s : Table) (v : TermsView) (sign : Sign) (arguments literals : List ℕ) (us ts : List Term) (refer_arguments : ReferToAll s v arguments us) (refer_literals : ReferToAll s v literals ts) where
   -- there are two literals or more, or none
@@ -23,9 +25,6 @@ module _ (s : Table) (v : TermsView) (sign : Sign) (arguments literals : List �
   only (q ∷ []) (x ∷ []) r some few is h = (x, refl, rw is h.0)
   only (q ∷ []) (x ∷ y ∷ xs) r some few is h = absurd h.1
   only (q ∷ p ∷ rs) xs r some few is h = absurd (omega arith)
-
-  same_head : (t u : Term) → t ∷ [] ≡ u ∷ [] → t ≡ u
-  same_head t u e = cc
 
   -- there is one literal, and the term for which it stands is tested
   pub one_is : (r a : ℕ) (b : Bool) → AreOne s v → 1 ≤ length literals → length literals < 2 → r ≡ get_or literals 0 r → ((t : Term) → RefersTo s v r t → IsSigned s v sign a t) → IsTrue b ↔ Contains arguments a → IsTrue b ↔ IsOneOf sign us ts
@@ -40,7 +39,7 @@ module _ (s : Table) (v : TermsView) (sign : Sign) (arguments literals : List �
               is = same ∙ ap (λ y. y ∷ []) h.is;
             },
             λ o.
-                (let term = one_term sign h.means o.term (sym h.is ∙ same_head x (sign_of sign o.term) (sym same ∙ o.is)) in
+                (let term = one_term sign h.means o.term (sym h.is ∙ same_one x (sign_of sign o.term) (sym same ∙ o.is)) in
                 test.1 (contains_references s v one arguments us a h.means refer_arguments h.refers (rw term o.among))),
           ))
 
@@ -49,7 +48,7 @@ module _ (s : Table) (v : TermsView) (sign : Sign) (arguments literals : List �
   none_is r some few is other = go (only literals ts r some few is refer_literals)
     where
       go : ((x : Term) × (ts ≡ x ∷ []) × RefersTo s v r x) → IsTrue false ↔ IsOneOf sign us ts
-      go (x, same, refers) = (λ e. absurd cc, λ o. absurd (other x o.term refers (same_head x (sign_of sign o.term) (sym same ∙ o.is))))
+      go (x, same, refers) = (λ e. absurd cc, λ o. absurd (other x o.term refers (same_one x (sign_of sign o.term) (sym same ∙ o.is))))
 
   -- as many literals as arguments, up to a place
   abbrev pub AreSoFar : ℕ → Type 0

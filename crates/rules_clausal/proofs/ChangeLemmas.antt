@@ -8,10 +8,11 @@ use Rattle.std.proofs.lemmas.List.Sorted.{IsPermutation-refl, IsPermutation-tran
 use Rattle.sym_table.specs.Table.{Table}
 use Rattle.term_model.specs.Terms.{Term, numeral}
 use Rattle.term_pool.specs.Views.{TermsView, RefersTo, ReferToAll}
+use Rattle.term_pool.proofs.References.{AreOne}
 use Rattle.rule_model.specs.Clausal.{Changes, HasEach, HasEachOnce}
 use Rattle.rules_clausal.specs.Sorting.{HasAllOnce}
 use Rattle.schema_match.specs.Steps.{ReferToClauses}
-use Rattle.schema_match.proofs.ReferLemmas.{AreOne, contains_terms, contains_references, refer_length, refer_at}
+use Rattle.schema_match.proofs.ReferLemmas.{contains_terms, contains_references, refer_length, refer_at}
 
 abbrev some_term : Term
 some_term = numeral 0

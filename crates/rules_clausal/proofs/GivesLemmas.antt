@@ -3,11 +3,11 @@ use Rattle.std.proofs.Common.{◌≡◌, ◌≢◌, ◌↔◌, ◌∷◌, [], Li
 use Rattle.std.specs.Borrow.{Bor}
 use Rattle.sym_table.specs.Table.{Table}
 use Rattle.term_model.specs.declared.symbols.Op.{Op}
-use Rattle.term_model.specs.Terms.{Term, Terms, operation, list_of, terms_of}
+use Rattle.term_model.specs.Terms.{Term, operation, list_of, terms_of}
+use Rattle.term_model.proofs.Lists.{contains_none, list_of-terms_of}
 use Rattle.term_pool.specs.Views.{TermsView, RefersTo, ReferToAll}
 use Rattle.rule_model.specs.Clausal.{Begins, IsOnlyPremise}
-use Rattle.rule_model.proofs.ArgumentLists.{list_of-terms_of}
-use Rattle.rule_model.proofs.Lists.{contains_none}
+use Rattle.rule_model.proofs.ArgumentLists.{same_operands}
 use Rattle.rules_clausal.specs.declared.argument_rules.Which.{Which}
 use Rattle.schema_match.specs.declared.signs.Sign.{Sign}
 use Rattle.rules_clausal.specs.ArgumentRules.{Gives, IsOneOf}
@@ -19,14 +19,11 @@ use Rattle.schema_match.proofs.ArgumentLemmas.{one_term}
 use Rattle.schema_match.proofs.PremiseLemmas.{no_premises, some_premises, unit_term, no_unit}
 use Rattle.schema_match.proofs.ReferLemmas.{refer_length}
 
-same_terms : (op : Op) (us ws : Terms) → operation op us ≡ operation op ws → us ≡ ws
-same_terms op us ws e = cc
-
 -- applications of one operator with a sign are equal only where their arguments are
 pub same_arguments : (op : Op) (sign : Sign) (ts us : List Term) → sign_of sign (operation op (terms_of ts)) ≡ sign_of sign (operation op (terms_of us)) → ts ≡ us
 same_arguments op sign ts us e =
     sym (list_of-terms_of ts)
-    ∙ (ap list_of (same_terms op (terms_of ts) (terms_of us) (one_term sign (operation op (terms_of ts)) (operation op (terms_of us)) e)) ∙ list_of-terms_of us)
+    ∙ (ap list_of (same_operands op (terms_of ts) (terms_of us) (one_term sign (operation op (terms_of ts)) (operation op (terms_of us)) e)) ∙ list_of-terms_of us)
 
 -- no application to one argument or more
 pub gives_none : (which : Which) (op : Op) (sign each : Sign) (t : Term) (ts : List Term) → HasNoArguments op sign t → IsTrue false ↔ Gives which op sign each t ts

@@ -7,6 +7,7 @@ use Rattle.sym_table.specs.Table.{Table}
 use Rattle.term_model.specs.declared.symbols.Op.{Op}
 use Rattle.term_model.specs.Terms.{Term, numeral, operation, no_terms, not_of}
 use Rattle.term_pool.specs.Views.{TermsView, RefersTo, ReferToAll}
+use Rattle.term_pool.proofs.References.{AreOne}
 use Rattle.rule_model.specs.Clausal.{IsTautology}
 use Rattle.schema_match.specs.declared.signs.Sign.TheVariants.{Negation}
 use Rattle.rules_clausal.specs.Changes.{HasOpposites, NegatesOne}
@@ -16,7 +17,7 @@ use Rattle.rules_clausal.specs.Sorting.{IsInOrder}
 use Rattle.schema_match.proofs.ArgumentLemmas.{one_term}
 use Rattle.schema_match.proofs.Counts.{none}
 use Rattle.schema_match.proofs.OverLemmas.{over_term}
-use Rattle.schema_match.proofs.ReferLemmas.{AreOne, contains_terms, contains_references, refer_length, refer_at}
+use Rattle.schema_match.proofs.ReferLemmas.{contains_terms, contains_references, refer_length, refer_at}
 
 abbrev some_term : Term
 some_term = numeral 0

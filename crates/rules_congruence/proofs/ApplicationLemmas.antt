@@ -1,23 +1,16 @@
 -- Two applications of one head.
-use Rattle.std.proofs.Common.{◌≡◌, ◌≢◌, ℕ, List, [], ◌∷◌, length, refl, sym, ap, ◌∙◌, subst, arith, Some}
-use Rattle.rule_model.proofs.ArgumentLists.{list_of-terms_of}
+use Rattle.std.proofs.Common.{◌≡◌, ◌≢◌, ℕ, List, [], ◌∷◌, length, refl, sym, ap, ◌∙◌, subst, arith}
 use Rattle.rule_model.specs.Congruence.{Head, operator, function, applied}
 use Rattle.schema_match.specs.Arguments.{HasSoMany}
-use Rattle.sym_table.specs.Leaf.{Leaf}
 use Rattle.sym_table.specs.Table.{Table, IsTable, IsLeaf}
-use Rattle.term_model.specs.Terms.{Fun, Term, Terms, numeral, variable, operation, call, let_in, no_terms, term, list_of, terms_of}
+use Rattle.sym_table.proofs.Tables.{one_symbol}
+use Rattle.term_model.specs.Terms.{Fun, Term, numeral, variable, operation, call, let_in}
+use Rattle.term_model.proofs.Lists.{list_of-terms_of, terms_of-list_of}
 use Rattle.term_pool.specs.Reading.{arguments_of, IsLet}
 use Rattle.term_pool.specs.Views.{TermsView, RefersTo, ReferToAll, IsTerm}
 use Rattle.rules_congruence.specs.Applications.{leaf_of, HasHead, IsNoLetTerm, AreApplied}
 use Rattle.rules_congruence.specs.Steps.{ReferTo}
 use Rattle.rules_congruence.proofs.Referring.{zip_none, none_zip}
-
-terms_of-list_of : (ts : Terms) → terms_of (list_of ts) ≡ ts
-terms_of-list_of no_terms = refl
-terms_of-list_of (term t ts) = ap (term t) (terms_of-list_of ts)
-
-one_leaf : (s : Table) (k : ℕ) (l m : Leaf) → IsLeaf s k l → IsLeaf s k m → l ≡ m
-one_leaf s k l m h e = let f : Some l ≡ Some m = sym h ∙ e in cc
 
 pub no_let : (head : Head) (ts : List Term) (t : Term) → t ≡ applied head ts → IsLet t → ⊥
 no_let (operator op) ts t e is = subst IsLet e is
@@ -48,19 +41,19 @@ has_applied s k (call f ts) h some =
 has_applied s k (let_in bs u) h some = absurd h
 
 pub same_head : (s : Table) (k : ℕ) (head : Head) (u : Term) → IsLeaf s k (leaf_of head) → HasHead s k u → u ≡ applied head (arguments_of u)
-same_head s k (operator op) (numeral n) leaf h = absurd (let e = one_leaf s k _ _ leaf h.0 in cc)
-same_head s k (operator op) (variable x) leaf h = absurd (let e = one_leaf s k _ _ leaf h.0 in cc)
+same_head s k (operator op) (numeral n) leaf h = absurd (let e = one_symbol s k _ _ leaf h.0 in cc)
+same_head s k (operator op) (variable x) leaf h = absurd (let e = one_symbol s k _ _ leaf h.0 in cc)
 same_head s k (operator op) (operation o ts) leaf h =
-    let e = one_leaf s k _ _ leaf h.0 in
+    let e = one_symbol s k _ _ leaf h.0 in
     let f : o ≡ op = cc in
     ap (λ x. operation x ts) f ∙ ap (operation op) (sym (terms_of-list_of ts))
-same_head s k (operator op) (call f ts) leaf h = absurd (let e = one_leaf s k _ _ leaf h.0 in cc)
+same_head s k (operator op) (call f ts) leaf h = absurd (let e = one_symbol s k _ _ leaf h.0 in cc)
 same_head s k (operator op) (let_in bs u) leaf h = absurd h
-same_head s k (function g) (numeral n) leaf h = absurd (let e = one_leaf s k _ _ leaf h.0 in cc)
-same_head s k (function g) (variable x) leaf h = absurd (let e = one_leaf s k _ _ leaf h.0 in cc)
-same_head s k (function g) (operation o ts) leaf h = absurd (let e = one_leaf s k _ _ leaf h.0 in cc)
+same_head s k (function g) (numeral n) leaf h = absurd (let e = one_symbol s k _ _ leaf h.0 in cc)
+same_head s k (function g) (variable x) leaf h = absurd (let e = one_symbol s k _ _ leaf h.0 in cc)
+same_head s k (function g) (operation o ts) leaf h = absurd (let e = one_symbol s k _ _ leaf h.0 in cc)
 same_head s k (function g) (call f ts) leaf h =
-    let e = one_leaf s k _ _ leaf h.0 in
+    let e = one_symbol s k _ _ leaf h.0 in
     let n : g.name ≡ f.name = cc in
     let a : g.arguments ≡ f.arguments = cc in
     let t : g.target ≡ f.target = cc in

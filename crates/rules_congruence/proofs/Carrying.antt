@@ -3,15 +3,15 @@ use Rattle.std.proofs.Common.{◌≡◌, ◌≢◌, ◌↔◌, inl, inr, ℕ, Bo
 use Rattle.std.specs.List.{AllZip}
 use Rattle.rule_model.specs.Congruence.{IsConnected, here, further, AreSides, IsChain, IsWay}
 use Rattle.rule_model.specs.declared.rules.Mode.{Mode}
-use Rattle.rule_model.proofs.Lists.{contains_none, contains_cases, contains_head, contains_later}
 use Rattle.sym_table.specs.Table.{Table}
 use Rattle.term_model.specs.Flips.{equality}
 use Rattle.term_model.specs.Terms.{Term}
+use Rattle.term_model.proofs.Lists.{contains_none, contains_cases, contains_head, contains_later}
 use Rattle.term_pool.specs.Views.{TermsView, RefersTo}
+use Rattle.term_pool.proofs.References.{AreOne}
 use Rattle.rules_congruence.specs.Pairs.{AreEnds, IsPath}
 use Rattle.rules_congruence.specs.Sides.{ReferToPair, ReferToPairs, AreEqualitiesOf, nothing, one, other, IsGiven}
 use Rattle.rules_congruence.specs.Ways.{IsWayBy}
-use Rattle.rules_congruence.proofs.TurningLemmas.{AreOne}
 use Rattle.rules_congruence.proofs.WayLemmas.{connected_both}
 
 -- the premises' equalities

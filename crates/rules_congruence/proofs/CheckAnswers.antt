@@ -31,6 +31,3 @@ module _ (mode : Mode) (of : ProofItems Var Term) (i : ℕ) where
   pub met_where : (o : Option ℕ) (b : Bool) → is_some o ≡ false → o ≡ closes_at of i → IsTrue b ↔ Met (judged_at mode of i) → IsTrue b ↔ IsMetAt mode of i
   met_where o b none same test =
       let where_none = closes_none o none same in (λ h. where_none.1 (test.0 h), λ h. test.1 (where_none.0 h))
-
-  pub condition_met : (o : Option ℕ) → is_some o ≡ false → o ≡ closes_at of i → IsMetAt mode of i → Met (judged_at mode of i)
-  condition_met o none same h = (closes_none o none same).0 h

@@ -5,7 +5,7 @@ use Rattle.std.proofs.lemmas.Bool.{cases_lt}
 use Rattle.std.proofs.lemmas.List.{take_more}
 use Rattle.std.proofs.lemmas.List.Elements.{All-push}
 use Rattle.std.proofs.lemmas.List.Sorted.{Contains-permutation, All-permutation, IsPermutation-sym}
-use Rattle.rule_model.proofs.Lists.{contains_none, contains_cases, contains_head, contains_later}
+use Rattle.term_model.proofs.Lists.{contains_none, contains_cases, contains_head, contains_later}
 use Rattle.rules_congruence.specs.declared.links.Link.{Link}
 use Rattle.rules_congruence.specs.Links.{link, link_rank, links_of, AreSmall, IsTableOf, IsFirstFrom}
 use Rattle.rules_congruence.specs.Pairs.{AreEnds}

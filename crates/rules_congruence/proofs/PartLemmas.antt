@@ -1,12 +1,9 @@
 -- What the parts of a term come to.
-use Rattle.std.proofs.Common.{◌↔◌, ℕ, false, IsTrue}
+use Rattle.std.proofs.Common.{ℕ}
 use Rattle.sym_table.specs.Table.{Table}
 use Rattle.term_model.specs.Terms.{Term}
 use Rattle.term_pool.specs.Views.{TermsView, RefersTo, IsTerm}
 use Rattle.term_parts.specs.Parts.{AreSidesOf}
-
-pub false_is : {P : Type 0} → ¬ P → IsTrue false ↔ P
-false_is n = (λ e. absurd cc, λ h. absurd (n h))
 
 -- the sides of an equality are terms
 pub left_is_term : (s : Table) (v : TermsView) (sign : Term → Term) (r : ℕ) (p : ℕ × ℕ) → IsTerm s v r → ((t : Term) → RefersTo s v r t → AreSidesOf s v sign p t) → IsTerm s v p.0

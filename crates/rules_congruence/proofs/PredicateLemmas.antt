@@ -15,6 +15,7 @@ use Rattle.term_model.specs.Terms.{Term, not_of}
 use Rattle.term_model.proofs.Sorting.{one_sort}
 use Rattle.term_parts.specs.Parts.{AreSidesOf}
 use Rattle.term_pool.specs.Views.{TermsView, RefersTo, IsTerm}
+use Rattle.term_pool.proofs.References.{AreOne}
 use Rattle.rules_congruence.specs.Clauses.{clauses_of}
 use Rattle.rules_congruence.specs.Predicates.{IsTruth, AreTruths, GivesOther, GivesPredicate}
 use Rattle.rules_congruence.specs.declared.uses.Uses.{Uses}
@@ -23,7 +24,7 @@ use Rattle.rules_congruence.specs.Steps.{ReferTo, ReferToClauses, AreTerms}
 use Rattle.rules_congruence.specs.Uses.{Together}
 use Rattle.rules_congruence.proofs.Literals.{same_last, same_denials, denied_equalities}
 use Rattle.rules_congruence.proofs.Referring.{zip_split}
-use Rattle.rules_congruence.proofs.TurningLemmas.{AreOne, premised_none}
+use Rattle.rules_congruence.proofs.TurningLemmas.{premised_none}
 
 -- references that stand for terms of Bool
 module _ (s : Table) (v : TermsView) where

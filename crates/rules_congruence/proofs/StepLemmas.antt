@@ -1,12 +1,11 @@
 -- A step of a proof: the clauses of its premises, its own, and its rule.
-use Rattle.std.proofs.Common.{◌≡◌, ◌≢◌, ◌↔◌, ℕ, zero, suc, ◌+◌, ◌<◌, ◌≤◌, List, [], ◌∷◌, ◌++◌, Bool, length, map, get_or, take, slice_get, Some, IsTrue, refl, sym, ◌∙◌, ap, subst, arith}
+use Rattle.std.proofs.Common.{◌≡◌, ◌≢◌, ◌↔◌, ℕ, ◌+◌, ◌<◌, ◌≤◌, List, [], ◌∷◌, ◌++◌, Bool, length, map, get_or, take, IsTrue, refl, sym, ◌∙◌, ap, subst, arith}
 use Rattle.std.specs.Borrow.{Bor}
-use Rattle.std.specs.Option.{option_map_or}
 use Rattle.std.proofs.lemmas.List.{get_or_default, map_push, map_more}
 use Rattle.std.proofs.lemmas.List.Elements.{All-nil, All-cons}
 use Rattle.rule_model.specs.declared.rules.Mode.{Mode}
 use Rattle.rule_model.specs.declared.rules.Rule.{Rule}
-use Rattle.rule_model.specs.Commands.{Line, entry_of, lines_in}
+use Rattle.rule_model.specs.Commands.{lines_in}
 use Rattle.rule_model.specs.Conditions.{MeetsRule, Met}
 use Rattle.rule_model.specs.Congruence.{IsOfEquality, Equates, Denies, AreCongruent, MeetsCong, MeetsEqCongruent, MeetsEqCongruentPred}
 use Rattle.rule_model.specs.Judged.{Judged, judged_at}
@@ -14,7 +13,7 @@ use Rattle.rule_model.specs.Proofs.{ProofItems}
 use Rattle.rule_model.specs.Reading.{clause_at, premises_at, premises_of, rule_at}
 use Rattle.rule_model.specs.Scopes.{outermost, commands_in}
 use Rattle.rule_model.specs.WellFormed.{IsWellFormed}
-use Rattle.rule_model.proofs.Standing.{premise_earlier}
+use Rattle.rule_model.proofs.Standing.{premise_earlier, premise_line}
 use Rattle.sym_table.specs.Table.{Table}
 use Rattle.term_model.specs.Terms.{Var, Term}
 use Rattle.term_pool.specs.Views.{TermsView, IsTerm}
@@ -23,11 +22,6 @@ use Rattle.rules_congruence.specs.Predicates.{GivesPredicate}
 use Rattle.rules_congruence.specs.Steps.{ReferTo, ReferToClauses, AreTerms, AreClauses}
 use Rattle.rules_congruence.specs.Uses.{Together}
 use Rattle.rules_congruence.specs.Rules.{uses_of, denied_uses_of, MeetsEquality}
-
-premise_line : (ls : List (Line ℕ ℕ)) (i k : ℕ) → k < length (option_map_or (λ e. premises_of e.command) (slice_get (map entry_of ls) i) []) → (l : Line ℕ ℕ) × (slice_get ls i ≡ Some l) × (premises_of l.command ≡ option_map_or (λ e. premises_of e.command) (slice_get (map entry_of ls) i) [])
-premise_line [] i k h = absurd (omega (arith, h))
-premise_line (l ∷ ls) zero k h = (l, refl, refl)
-premise_line (l ∷ ls) (suc i) k h = premise_line ls i k h
 
 -- a premise is the index of a command
 pub premise_within : (proof : ProofItems ℕ ℕ) (i k : ℕ) → IsWellFormed proof → i < commands_in proof → k < length (premises_at proof i) → get_or (premises_at proof i) k 0 < commands_in proof

@@ -2,9 +2,9 @@
 use Rattle.std.proofs.Common.{inl, inr, List, [], ◌∷◌, sym, subst}
 use Rattle.std.specs.List.{AllZip}
 use Rattle.rule_model.specs.Congruence.{AreDifferences, IsLinked}
-use Rattle.rule_model.proofs.Lists.{contains_head, contains_later}
 use Rattle.term_model.specs.Flips.{EqualUpToFlips, same, equality}
 use Rattle.term_model.specs.Terms.{Term}
+use Rattle.term_model.proofs.Lists.{contains_head, contains_later}
 
 -- more premises link as much
 wider : (p : List Term) (ps : List (List Term)) (t u : Term) → IsLinked ps t u → IsLinked (p ∷ ps) t u

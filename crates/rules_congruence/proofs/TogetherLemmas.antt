@@ -7,6 +7,7 @@ use Rattle.sym_table.specs.Table.{Table}
 use Rattle.term_model.specs.Flips.{equality}
 use Rattle.term_model.specs.Terms.{Term}
 use Rattle.term_pool.specs.Views.{TermsView, RefersTo, IsTerm}
+use Rattle.term_pool.proofs.References.{AreOne}
 use Rattle.rules_congruence.specs.Applications.{AreApplied}
 use Rattle.rules_congruence.specs.Links.{IsTableOf, TellsSides}
 use Rattle.rules_congruence.specs.declared.links.Link.{Link}
@@ -15,7 +16,7 @@ use Rattle.rules_congruence.specs.Sides.{ReferToPair, ReferToPairs, AreEqualitie
 use Rattle.rules_congruence.specs.Steps.{ReferTo, AreTerms}
 use Rattle.rules_congruence.proofs.ApplicationLemmas.{arguments_are}
 use Rattle.rules_congruence.proofs.Carrying.{sides_both, ends_told}
-use Rattle.rules_congruence.proofs.TurningLemmas.{AreOne, iff_trans}
+use Rattle.rules_congruence.proofs.TurningLemmas.{iff_trans}
 
 -- the table tells the sides of the premises
 pub sides_told : (s : Table) (v : TermsView) → AreOne s v → (pairs : List (ℕ × ℕ)) (only : Bool) (ps : List (List Term)) (links : List Link) → IsGiven s v pairs only ps → IsTableOf pairs links → TellsSides s v links ps

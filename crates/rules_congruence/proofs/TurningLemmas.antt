@@ -7,18 +7,15 @@ use Rattle.sym_table.specs.Table.{Table}
 use Rattle.term_model.specs.Flips.{equality}
 use Rattle.term_model.specs.Terms.{Term}
 use Rattle.term_pool.specs.Views.{TermsView, RefersTo, IsTerm}
+use Rattle.term_pool.proofs.References.{AreOne}
 use Rattle.rule_model.specs.Clausal.{as_it_stands}
 use Rattle.rule_model.specs.Congruence.{TurnsRound, IsReflexive, IsSymmetric}
-use Rattle.rules_congruence.specs.Clauses.{IsOneUnit, IsNoUnit, IsLone, clauses_of}
+use Rattle.rules_congruence.specs.Clauses.{IsOneUnit, IsLone, clauses_of}
 use Rattle.rules_congruence.specs.Signs.{sign_of}
 use Rattle.term_parts.specs.Parts.{AreSidesOf}
 use Rattle.rules_congruence.specs.Steps.{ReferTo, ReferToClauses, AreTerms, AreClauses}
 use Rattle.rules_congruence.specs.Turning.{AreTurned, HasEqualSides, HasTurnedSides}
 use Rattle.rules_congruence.proofs.Referring.{one_zip, zip_one, zip_none, none_zip, IsBeside}
-
--- references are equal exactly where their terms are
-abbrev pub AreOne : Table → TermsView → Type 0
-AreOne s v = (p q : ℕ) (t u : Term) → RefersTo s v p t → RefersTo s v q u → (p ≡ q) ↔ (t ≡ u)
 
 -- the sides of an equality, as it stands or denied, are its own
 same_sides : (denied : Bool) (a b c d : Term) → sign_of denied (equality a b) ≡ sign_of denied (equality c d) → (a ≡ c) × (b ≡ d)
@@ -84,13 +81,6 @@ unit_term s v premises r ps unit refer =
     let first = one_zip (ReferTo s v) (r ∷ []) ps (rw unit at (clauses_refer s v premises ps refer)) in
     let here = one_zip (RefersTo s v) r first.item first.zip in
     record { literal = here.item; is = first.is ∙ ap (λ c. c ∷ []) here.is; refers = here.zip }
-
-pub no_unit_term : (s : Table) (v : TermsView) (premises : List (Bor (List ℕ))) (ps : List (List Term)) (t : Term) → IsNoUnit premises → ReferToClauses s v premises ps → ps ≢ (t ∷ []) ∷ []
-no_unit_term s v premises ps t none refer e =
-    let first = zip_one (ReferTo s v) (clauses_of premises) (t ∷ []) (rw e at (clauses_refer s v premises ps refer)) in
-    let zip = subst (λ xs. AllZip (ReferTo s v) xs ((t ∷ []) ∷ [])) first.1 (subst (AllZip (ReferTo s v) (clauses_of premises)) e (clauses_refer s v premises ps refer)) in
-    let here = zip_one (RefersTo s v) first.0 t zip.0 in
-    none here.0 (first.1 ∙ ap (λ c. c ∷ []) here.1)
 
 pub no_literal_term : (s : Table) (v : TermsView) (rs : List ℕ) (ts : List Term) (t : Term) → ((r : ℕ) → rs ≢ r ∷ []) → ReferTo s v rs ts → ts ≢ t ∷ []
 no_literal_term s v rs ts t none refer e =

@@ -1,8 +1,9 @@
 -- Pairs that are used in order.
 use Rattle.std.proofs.Common.{◌≡◌, ◌↔◌, inl, inr, ◌<◌, ◌≤◌, ◌+◌, ℕ, zero, suc, Bool, List, [], ◌∷◌, length, get_or, drop, refl, sym, ap, ◌∙◌, subst, arith}
+use Rattle.std.proofs.lemmas.List.{drop_all}
 use Rattle.rules_congruence.specs.Pairs.{AreUsed}
 use Rattle.rules_congruence.proofs.TurningLemmas.{iff_trans}
-use Rattle.rules_congruence.proofs.WayLemmas.{drop_next, drop_end}
+use Rattle.rules_congruence.proofs.WayLemmas.{drop_next}
 
 pub used_length : (all : Bool) (pairs : List (ℕ × ℕ)) (xs ys : List ℕ) → AreUsed all pairs xs ys → length xs ≡ length ys
 used_length all pairs [] [] h = refl
@@ -34,16 +35,16 @@ none_left (x ∷ xs) (suc n) within e = ap suc (none_left xs n (omega (arith, wi
 
 pub used_end : (all : Bool) (pairs : List (ℕ × ℕ)) (xs ys : List ℕ) (i used : ℕ) → length xs ≤ i → length ys ≤ i → used ≤ length pairs → AreUsed all pairs xs ys ↔ AreUsed all (drop used pairs) (drop i xs) (drop i ys) → (used ≡ length pairs) ↔ AreUsed all pairs xs ys
 used_end all pairs xs ys i used past over within before = (
-  λ e. before.1 (nothing_left (drop_end pairs used (omega (arith, e)))),
+  λ e. before.1 (nothing_left (drop_all used pairs (omega (arith, e)))),
   λ h. none_left pairs used within (left_nothing (before.0 h)),
 )
   where
     nothing_left : drop used pairs ≡ [] → AreUsed all (drop used pairs) (drop i xs) (drop i ys)
     nothing_left e =
-        subst (λ us. AreUsed all (drop used pairs) us (drop i ys)) (sym (drop_end xs i past))
-        (subst (λ ws. AreUsed all (drop used pairs) [] ws) (sym (drop_end ys i over)) e)
+        subst (λ us. AreUsed all (drop used pairs) us (drop i ys)) (sym (drop_all i xs past))
+        (subst (λ ws. AreUsed all (drop used pairs) [] ws) (sym (drop_all i ys over)) e)
 
     left_nothing : AreUsed all (drop used pairs) (drop i xs) (drop i ys) → drop used pairs ≡ []
     left_nothing h =
-        subst (λ ws. AreUsed all (drop used pairs) [] ws) (drop_end ys i over)
-        (subst (λ us. AreUsed all (drop used pairs) us (drop i ys)) (drop_end xs i past) h)
+        subst (λ ws. AreUsed all (drop used pairs) [] ws) (drop_all i ys over)
+        (subst (λ us. AreUsed all (drop used pairs) us (drop i ys)) (drop_all i xs past) h)

@@ -1,11 +1,12 @@
 -- Ways over pairs.
-use Rattle.std.proofs.Common.{◌≡◌, ◌≢◌, ◌↔◌, ◌⊎◌, inl, inr, ◌<◌, ◌≤◌, ◌+◌, ◌*◌, ◌^◌, ℕ, zero, suc, Bool, true, false, List, [], ◌∷◌, ◌++◌, length, get_or, take, drop, refl, sym, ap, ◌∙◌, subst, arith, Contains, IsTrue, nat_eq, ◌||◌, if◌then◌else◌}
+use Rattle.std.proofs.Common.{◌≡◌, ◌≢◌, ◌↔◌, ◌⊎◌, inl, inr, ◌<◌, ◌≤◌, ◌+◌, ◌*◌, ◌^◌, ℕ, zero, suc, Bool, true, false, List, [], ◌∷◌, ◌++◌, length, get_or, take, drop, refl, sym, ap, ◌∙◌, subst, arith, Contains, IsTrue, nat_eq, if◌then◌else◌}
 use Rattle.std.specs.List.{list_any}
-use Rattle.std.proofs.lemmas.List.{get_or_default}
-use Rattle.std.proofs.lemmas.Bool.{cases_lt, eqb-true, eq-eqb}
+use Rattle.std.proofs.lemmas.List.{get_or_default, nil_from_length}
+use Rattle.std.proofs.lemmas.Bool.{cases_lt}
+use Rattle.std.proofs.lemmas.List.Elements.{Contains-push}
 use Rattle.rule_model.specs.Congruence.{IsConnected, here, further}
-use Rattle.rule_model.proofs.Lists.{contains_none, contains_cases, contains_head, contains_later}
 use Rattle.indexmap.specs.IndexSet.{insert_key}
+use Rattle.term_model.proofs.Lists.{contains_none, contains_cases, contains_head, contains_later, has_number, any_of}
 use Rattle.rules_congruence.specs.declared.links.Link.{Link}
 use Rattle.rules_congruence.specs.Links.{link, link_rank, AreSmall, IsFirstFrom}
 use Rattle.rules_congruence.specs.Pairs.{AreEnds, IsPath}
@@ -18,12 +19,6 @@ drop_next (x ∷ xs) zero d below = refl
 drop_next (x ∷ xs) (suc i) d below =
     let on : suc i + 1 ≡ suc (i + 1) = omega arith in
     subst (λ n. drop i xs ≡ get_or xs i d ∷ drop n (x ∷ xs)) (sym on) (drop_next xs i d (omega arith))
-
-pub drop_end : {X : Type 0} (xs : List X) (i : ℕ) → length xs ≤ i → drop i xs ≡ []
-drop_end [] zero past = refl
-drop_end [] (suc i) past = refl
-drop_end (x ∷ xs) zero past = absurd (omega arith)
-drop_end (x ∷ xs) (suc i) past = drop_end xs i (omega arith)
 
 -- a path in order
 pub path_from : (pairs : List (ℕ × ℕ)) (i : ℕ) (p : ℕ × ℕ) (at to : ℕ) → i < length pairs → p ≡ get_or pairs i p → p.0 ≡ at → IsPath (drop i pairs) at to ↔ IsPath (drop (i + 1) pairs) p.1 to
@@ -38,30 +33,6 @@ no_path_from pairs i p at to below is ne =
     (sym (drop_next pairs i p below ∙ ap (λ q. q ∷ drop (i + 1) pairs) (sym is)))
     (λ h. ne h.0)
 
--- the keys of a set
-any_of : (k : ℕ) (ks : List ℕ) → list_any (nat_eq k) ks ≡ true → Contains ks k
-any_of k [] e = absurd (cc)
-any_of k (x ∷ ks) e = go (nat_eq k x) refl e (any_of k ks)
-  where
-    go : (b : Bool) → nat_eq k x ≡ b → (b || list_any (nat_eq k) ks) ≡ true → (list_any (nat_eq k) ks ≡ true → Contains ks k) → Contains (x ∷ ks) k
-    go true h e rest = subst (λ y. Contains (y ∷ ks) k) (eqb-true k x h) (contains_head k ks)
-    go false h e rest = contains_later x k ks (rest e)
-
-of_any : (k : ℕ) (ks : List ℕ) → Contains ks k → list_any (nat_eq k) ks ≡ true
-of_any k [] h = absurd (contains_none k h)
-of_any k (x ∷ ks) h =
-    elim (contains_cases x k ks h) [
-      | inl e ↦ rw (eq-eqb k x (sym e)) refl
-      | inr later ↦ (let rest = of_any k ks later in rw rest (or_true (nat_eq k x)))
-    ]
-  where
-    or_true : (b : Bool) → (b || true) ≡ true
-    or_true true = refl
-    or_true false = refl
-
-pub has_key : (k : ℕ) (ks : List ℕ) → IsTrue (list_any (nat_eq k) ks) ↔ Contains ks k
-has_key k ks = (any_of k ks, of_any k ks)
-
 contains_push : (ks : List ℕ) (k b : ℕ) → Contains ks b → Contains (ks ++ k ∷ []) b
 contains_push [] k b h = absurd (contains_none b h)
 contains_push (x ∷ ks) k b h =
@@ -69,10 +40,6 @@ contains_push (x ∷ ks) k b h =
       | inl e ↦ subst (λ y. Contains (y ∷ (ks ++ k ∷ [])) b) (sym e) (contains_head b (ks ++ k ∷ []))
       | inr later ↦ contains_later x b (ks ++ k ∷ []) (contains_push ks k b later)
     ]
-
-contains_last : (ks : List ℕ) (k : ℕ) → Contains (ks ++ k ∷ []) k
-contains_last [] k = contains_head k []
-contains_last (x ∷ ks) k = contains_later x k (ks ++ k ∷ []) (contains_last ks k)
 
 push_contains : (ks : List ℕ) (k b : ℕ) → Contains (ks ++ k ∷ []) b → Contains ks b ⊎ (k ≡ b)
 push_contains [] k b h = elim (contains_cases k b [] h) [ inl e ↦ inr e | inr later ↦ absurd (contains_none b later) ]
@@ -102,7 +69,7 @@ inserts ks k = go (list_any (nat_eq k) ks) refl
       long = let long = length_push ks k in omega (arith, long);
       kept = λ n below. take_push ks k n below;
       stays = λ b h. contains_push ks k b h;
-      key = contains_last ks k;
+      key = Contains-push ks k;
       only = λ b h. push_contains ks k b h;
     }
 
@@ -201,12 +168,8 @@ reached_only links from keys small i = record {
   closed = λ k b below near. absurd (omega arith);
 }
 
-none_of_length : (ks : List ℕ) → length ks ≡ 0 → ks ≡ []
-none_of_length [] e = refl
-none_of_length (k ∷ ks) e = absurd (omega (arith, e))
-
 pub reached_first : (links : List Link) (from : ℕ) (old keys : List ℕ) → from < 2 ^ 31 → length old ≡ 0 → Inserts old from keys → IsWayReached links from 0 keys
-reached_first links from old keys small empty i = reached_only links from keys small (subst (λ ks. Inserts ks from keys) (none_of_length old empty) i)
+reached_first links from old keys small empty i = reached_only links from keys small (subst (λ ks. Inserts ks from keys) (nil_from_length old empty) i)
 
 pub key_there : (keys : List ℕ) (at next : ℕ) → at < length keys → ((d : ℕ) → get_or keys at d ≡ next) → Contains keys next
 key_there keys at next below is = (at, below, is next)
@@ -238,8 +201,8 @@ reached_next links from at next keys new small below is there h adds = record {
 
 pub reached_all : (links : List Link) (from at to : ℕ) (keys : List ℕ) → length keys ≤ at → IsWayReached links from at keys → IsTrue (list_any (nat_eq to) keys) ↔ IsConnected (IsNear links) from to
 reached_all links from at to keys past h = (
-  λ e. h.sound to ((has_key to keys).0 e),
-  λ way. (has_key to keys).1 (carried from to way h.first),
+  λ e. h.sound to ((has_number keys to).0 e),
+  λ way. (has_number keys to).1 (carried from to way h.first),
 )
   where
     carried : (x y : ℕ) → IsConnected (IsNear links) x y → Contains keys x → Contains keys y

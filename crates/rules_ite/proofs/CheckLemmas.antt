@@ -6,6 +6,7 @@ use Rattle.term_model.specs.declared.symbols.Sort.{Sort}
 use Rattle.term_model.specs.Sorts.{IsOf}
 use Rattle.term_model.specs.Terms.{Var, Term}
 use Rattle.term_pool.specs.Views.{TermsView, IsTerm, ReferToAll}
+use Rattle.term_pool.proofs.References.{AreOne}
 use Rattle.rule_model.specs.declared.rules.Rule.{Rule}
 use Rattle.rule_model.specs.Conditions.{IsClauseOfTruths, MeetsRule}
 use Rattle.rule_model.specs.Definitions.{choice_schema_of}
@@ -13,7 +14,6 @@ use Rattle.rule_model.specs.Judged.{Judged}
 use Rattle.rule_model.specs.Proofs.{ProofItems}
 use Rattle.rule_model.specs.Reading.{rule_at}
 use Rattle.schema_match.proofs.FewPremises.{has_few_premises, few_instance}
-use Rattle.schema_match.proofs.ReferLemmas.{AreOne}
 use Rattle.rules_ite.specs.Families.{IsOfDefinition}
 use Rattle.rules_ite.specs.Steps.{MeetsDefinition}
 use Rattle.rules_ite.specs.Truths.{IsTruth, AreTruths}

@@ -7,13 +7,10 @@ use Rattle.term_model.proofs.Zips.{zip_length}
 use Rattle.term_model.specs.Flips.{equality}
 use Rattle.term_model.specs.Terms.{Term, not_of}
 use Rattle.term_pool.specs.Views.{TermsView, RefersTo}
+use Rattle.term_pool.proofs.References.{AreOne}
 use Rattle.rule_model.specs.Definitions.{AreInequalities, IsInequality}
+use Rattle.rule_model.proofs.ArgumentLists.{same_inside}
 use Rattle.term_parts.specs.Parts.{AreSidesOf}
-use Rattle.schema_match.proofs.ReferLemmas.{AreOne}
-
--- one inequality
-not_inner : (t u : Term) → not_of t ≡ not_of u → t ≡ u
-not_inner t u e = cc
 
 same_sides : (x y z w : Term) → equality x y ≡ equality z w → (x ≡ z) × (y ≡ w)
 same_sides x y z w e = (let f : x ≡ z = cc in f, let f : y ≡ w = cc in f)
@@ -34,7 +31,7 @@ module _ (s : Table) (v : TermsView) (one : AreOne s v) (p : ℕ × ℕ) (l : Te
         let right : sides.right ≡ u = (one p.1 b sides.right u sides.right_refers second).0 f in
         sides.is ∙ ap not_of (ap (λ z. equality z sides.right) left ∙ ap (equality t) right)),
     λ e.
-        (let same = same_sides sides.left sides.right t u (not_inner (equality sides.left sides.right) (equality t u) (sym sides.is ∙ e)) in (
+        (let same = same_sides sides.left sides.right t u (same_inside (equality sides.left sides.right) (equality t u) (sym sides.is ∙ e)) in (
           (one p.0 a sides.left t sides.left_refers first).1 same.0,
           (one p.1 b sides.right u sides.right_refers second).1 same.1,
         )),

@@ -10,17 +10,16 @@ use Rattle.term_model.specs.Flips.{equality}
 use Rattle.term_model.specs.Sorts.{IsOf, AreOf, IsWellSorted}
 use Rattle.term_model.specs.Terms.{Term, operation, terms_of}
 use Rattle.term_model.proofs.Arities.{equality_sort}
-use Rattle.term_pool.specs.Views.{TermsView, IsTerm, ReferToAll}
+use Rattle.term_pool.specs.Views.{TermsView, IsTerm}
 use Rattle.rule_model.specs.Conditions.{IsClauseOfTruths}
 use Rattle.rule_model.specs.Definitions.{MeetsIteIntro, MeetsDistinctElim}
+use Rattle.rule_model.proofs.ArgumentLists.{same_sides}
 use Rattle.schema_match.specs.Equations.{StatesEquality}
 use Rattle.schema_match.specs.Steps.{ReferToClauses}
+use Rattle.schema_match.proofs.InstanceLemmas.{terms_of_references}
 use Rattle.rules_ite.specs.Distinct.{AreOfOneSort, Eliminates}
 use Rattle.rules_ite.specs.Facts.{Introduces}
 use Rattle.rules_ite.proofs.ConnectiveLemmas.{two_of}
-
-same_sides : (x y z w : Term) → equality x y ∷ [] ≡ equality z w ∷ [] → (x ≡ z) × (y ≡ w)
-same_sides x y z w e = (let f : x ≡ z = cc in f, let f : y ≡ w = cc in f)
 
 -- the two rules
 module _ (s : Table) (v : TermsView) (p : ℕ × ℕ) (ps : List (List Term)) (ts : List Term) (is : StatesEquality s v p ps ts) (told : Bool) where
@@ -69,17 +68,10 @@ distinct_of_one_sort ts s h =
 
 -- references that are terms stand for clauses
 module _ (s : Table) (v : TermsView) where
-  pub terms_of_references : (rs : List ℕ) → All (IsTerm s v) rs → (ts : List Term) × ReferToAll s v rs ts
-  terms_of_references [] all = ([], tt)
-  terms_of_references (r ∷ rs) all =
-      let first = All-head (IsTerm s v) r rs all in
-      let others = terms_of_references rs (All-tail (IsTerm s v) r rs all) in
-      (first.means ∷ others.0, (first.refers, others.1))
-
   pub clauses_of_references : (premises : List (Bor (List ℕ))) → All (λ p. All (IsTerm s v) p.now) premises → (ps : List (List Term)) × ReferToClauses s v premises ps
   clauses_of_references [] all = ([], tt)
   clauses_of_references (p ∷ premises) all =
-      let first = terms_of_references p.now (All-head (λ q. All (IsTerm s v) q.now) p premises all) in
+      let first = terms_of_references s v p.now (All-head (λ q. All (IsTerm s v) q.now) p premises all) in
       let others = clauses_of_references premises (All-tail (λ q. All (IsTerm s v) q.now) p premises all) in
       (first.0 ∷ others.0, (first.1, others.1))
 

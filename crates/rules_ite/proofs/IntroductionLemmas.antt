@@ -1,15 +1,14 @@
 -- The sides of an equality by ite_intro: a term, and the conjunction of it and of facts.
-use Rattle.std.proofs.Common.{◌≡◌, ◌≢◌, ◌↔◌, ℕ, List, [], ◌∷◌, Bool, false, IsTrue, All, sym, ◌∙◌, subst, arith}
-use Rattle.std.proofs.lemmas.List.Elements.{All-cons}
+use Rattle.std.proofs.Common.{◌≡◌, ◌≢◌, ◌↔◌, ℕ, List, [], ◌∷◌, Bool, false, IsTrue, All, sym, ◌∙◌, subst}
 use Rattle.pair_pool.specs.Views.{IsKnown}
 use Rattle.sym_table.specs.Table.{Table}
 use Rattle.term_model.specs.declared.symbols.Op.{Op}
 use Rattle.term_model.specs.Flips.{EqualUpToFlips}
 use Rattle.term_model.specs.Terms.{Term, operation, terms_of}
-use Rattle.term_pool.specs.Views.{TermsView, RefersTo, IsTerm, ReferToAll}
+use Rattle.term_pool.specs.Views.{TermsView, RefersTo, ReferToAll}
 use Rattle.rule_model.specs.Definitions.{IsFactOfChoice}
+use Rattle.rule_model.proofs.ArgumentLists.{same_arguments}
 use Rattle.rules_ite.specs.Facts.{Introduces}
-use Rattle.rules_ite.proofs.StandingLemmas.{same_terms}
 
 -- the second term is no conjunction
 pub nothing_introduced : (t u : Term) → ((first : Term) (others : List Term) → u ≢ operation Op.And (terms_of (first ∷ others))) → IsTrue false ↔ Introduces t u
@@ -19,7 +18,7 @@ nothing_introduced t u other = (λ e. absurd cc, λ h. absurd (other h.first h.f
 module _ (t u first : Term) (facts : List Term) (is : u ≡ operation Op.And (terms_of (first ∷ facts))) where
   parts_are : (h : Introduces t u) → (h.first ≡ first) × (h.facts ≡ facts)
   parts_are h =
-      let same : h.first ∷ h.facts ≡ first ∷ facts = same_terms Op.And (h.first ∷ h.facts) (first ∷ facts) (sym h.is ∙ is) in (
+      let same : h.first ∷ h.facts ≡ first ∷ facts = same_arguments Op.And (h.first ∷ h.facts) (first ∷ facts) (sym h.is ∙ is) in (
         let e : h.first ≡ first = cc in e,
         let e : h.facts ≡ facts = cc in e,
       )
@@ -43,11 +42,6 @@ module _ (s : Table) (v : TermsView) where
 
   pub refer_none : (list : List ℕ) (t : Term) (ts : List Term) → list ≡ [] → ReferToAll s v list (t ∷ ts) → ⊥
   refer_none list t ts e h = subst (λ qs. ReferToAll s v qs (t ∷ ts)) e h
-
-  pub refer_are_terms : (rs : List ℕ) (ts : List Term) → ReferToAll s v rs ts → All (IsTerm s v) rs
-  refer_are_terms [] ts h = λ k d below. absurd (omega (arith, below))
-  refer_are_terms (r ∷ rs) [] h = absurd h
-  refer_are_terms (r ∷ rs) (t ∷ ts) h = All-cons (IsTerm s v) r rs (record { means = t; refers = h.0 }) (refer_are_terms rs ts h.1)
 
   -- what stands for a term is known
   pub refers_is_known : (w : TermsView) (r : ℕ) (t : Term) → w ≡ v → RefersTo s v r t → IsKnown w.pass r

@@ -6,6 +6,7 @@ use Rattle.sym_table.specs.Table.{Table}
 use Rattle.term_model.specs.Flips.{equality}
 use Rattle.term_model.specs.Terms.{Term}
 use Rattle.term_pool.specs.Views.{TermsView, IsTerm, ReferToAll}
+use Rattle.term_pool.proofs.References.{AreOne}
 use Rattle.rule_model.specs.declared.rules.Rule.{Rule}
 use Rattle.rule_model.specs.Definitions.{choice_schema_of}
 use Rattle.rule_model.specs.Schemas.{Schema, IsInstance, IsInstanceOf}
@@ -13,11 +14,11 @@ use Rattle.schema_match.specs.declared.instances.SchemaParts.{SchemaParts}
 use Rattle.schema_match.specs.Equations.{StatesEquality}
 use Rattle.schema_match.specs.Schemas.{AreSchemaParts, HasParts}
 use Rattle.schema_match.specs.Steps.{ReferToClauses}
-use Rattle.schema_match.proofs.ReferLemmas.{AreOne}
+use Rattle.schema_match.proofs.InstanceLemmas.{terms_of_references}
 use Rattle.rules_ite.specs.Steps.{MeetsDefinition}
 use Rattle.rules_ite.specs.Truths.{AreTruths}
 use Rattle.rules_ite.proofs.CheckLemmas.{clause_of_truths, truths_are_terms}
-use Rattle.rules_ite.proofs.EquationLemmas.{no_introduction, no_elimination, clauses_of_references, terms_of_references, sides_are_sorted}
+use Rattle.rules_ite.proofs.EquationLemmas.{no_introduction, no_elimination, clauses_of_references, sides_are_sorted}
 
 module _ (ps : List (List Term)) (ts : List Term) where
   -- the rule has a schema
@@ -54,6 +55,3 @@ sides_of_truths s v premises clause p one premises_are truths states =
     let ps = clauses_of_references s v premises premises_are in
     let ts = terms_of_references s v clause (truths_are_terms s v clause truths) in
     sides_are_sorted s v p ps.0 ts.0 (states ps.0 ts.0 ps.1 ts.1) (clause_of_truths s v one clause ts.0 truths ts.1)
-
-pub sorted_is_term : (s : Table) (v : TermsView) (r : ℕ) → IsWellSortedTerm s v r → IsTerm s v r
-sorted_is_term s v r is = record { means = is.means; refers = is.refers }

@@ -5,11 +5,11 @@ use Rattle.sym_table.specs.Table.{Table}
 use Rattle.term_model.specs.declared.symbols.Op.{Op}
 use Rattle.term_model.specs.declared.symbols.Sort.{Sort}
 use Rattle.term_model.specs.Sorts.{IsOf}
-use Rattle.term_model.specs.Terms.{Term, operation, no_terms, terms_of, list_of}
+use Rattle.term_model.specs.Terms.{Term, operation, no_terms, terms_of}
 use Rattle.term_model.proofs.Sorting.{one_sort}
 use Rattle.term_pool.specs.Views.{TermsView, ReferToAll}
 use Rattle.rule_model.specs.Definitions.{AreInequalities, IsInequality}
-use Rattle.rule_model.proofs.ArgumentLists.{list_of-terms_of}
+use Rattle.rule_model.proofs.ArgumentLists.{same_arguments}
 use Rattle.schema_match.proofs.ReferLemmas.{refer_length}
 use Rattle.rules_ite.specs.Distinct.{AreOfOneSort, IsConjunction, IsOfDistinct, Eliminates}
 
@@ -74,10 +74,6 @@ module _ (x : Term) (us : List Term) (t : Term) (many : 3 ≤ length (x ∷ us))
       go (inr (inl h)) = absurd (other (one_sort x sort Sort.Bool first (All-head (λ u. IsOf u Sort.Bool) x us h.truths)))
       go (inr (inr h)) = test.1 (record { literals = h.literals; each = h.each; is = h.is })
 
--- the conjunction has these literals, or is none: three terms have inequalities
-pub same_terms : (op : Op) (ts us : List Term) → operation op (terms_of ts) ≡ operation op (terms_of us) → ts ≡ us
-same_terms op ts us e = sym (list_of-terms_of ts) ∙ (ap list_of (let f : terms_of ts ≡ terms_of us = cc in f) ∙ list_of-terms_of us)
-
 some_inequality : (us ls : List Term) → 3 ≤ length us → AreInequalities us ls → (l : Term) × (rest : List Term) × (ls ≡ l ∷ rest)
 some_inequality [] ls many h = absurd (omega (arith, many))
 some_inequality (x ∷ []) ls many h = absurd (omega (arith, many))
@@ -93,7 +89,7 @@ no_conjunction us t many other = (
 pub conjunction_is : (us ls : List Term) (t : Term) (told : Bool) → t ≡ operation Op.And (terms_of ls) → IsTrue told ↔ AreInequalities us ls → IsTrue told ↔ IsConjunction us t
 conjunction_is us ls t told is test = (
   λ e. record { literals = ls; each = test.0 e; is = is },
-  λ h. test.1 (subst (AreInequalities us) (sym (same_terms Op.And ls h.literals (sym is ∙ h.is))) h.each),
+  λ h. test.1 (subst (AreInequalities us) (sym (same_arguments Op.And ls h.literals (sym is ∙ h.is))) h.each),
 )
 
 -- the sides of the equality
@@ -112,5 +108,5 @@ nothing_eliminated t u other = (λ e. absurd cc, λ h. absurd (go h.ts h.is h.st
 pub eliminated_is : (t u : Term) (ts : List Term) (told : Bool) → t ≡ operation Op.Distinct (terms_of ts) → IsTrue told ↔ IsOfDistinct ts u → IsTrue told ↔ Eliminates t u
 eliminated_is t u ts told is test = (
   λ e. record { ts = ts; is = is; stands_for = test.0 e },
-  λ h. test.1 (subst (λ xs. IsOfDistinct xs u) (sym (same_terms Op.Distinct ts h.ts (sym is ∙ h.is))) h.stands_for),
+  λ h. test.1 (subst (λ xs. IsOfDistinct xs u) (sym (same_arguments Op.Distinct ts h.ts (sym is ∙ h.is))) h.stands_for),
 )

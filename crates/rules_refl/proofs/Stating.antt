@@ -1,5 +1,5 @@
 -- The sides of the equality that a step states are determined, and whether it meets `refl` is told by them.
-use Rattle.std.proofs.Common.{◌≡◌, ◌↔◌, ℕ, List, [], ◌∷◌, map, length, get_or, Bool, IsTrue, Option, Some, None, IfSome, IfNone, refl, sym, ◌∙◌, ap, subst, arith}
+use Rattle.std.proofs.Common.{◌≡◌, ◌↔◌, ℕ, List, [], ◌∷◌, map, length, get_or, Bool, IsTrue, refl, sym, ◌∙◌, ap, subst, arith}
 use Rattle.std.specs.List.{AllZip}
 use Rattle.rule_model.specs.declared.rules.Mode.{Mode}
 use Rattle.rule_model.specs.Judged.{anchors_at}
@@ -9,14 +9,12 @@ use Rattle.rule_model.specs.Reflexivity.{AreSame, MeetsRefl}
 use Rattle.sym_table.specs.Table.{Table}
 use Rattle.term_model.specs.Flips.{equality}
 use Rattle.term_model.specs.Terms.{Var, Term}
+use Rattle.term_model.proofs.Lists.{same_one}
 use Rattle.rule_model.specs.Clausal.{as_it_stands}
 use Rattle.term_parts.specs.Parts.{AreSidesOf}
 use Rattle.term_pool.specs.Views.{TermsView, RefersTo}
 use Rattle.rules_refl.specs.Sides.{States, substituted}
 use Rattle.rules_refl.specs.StatedSides.{HasSides}
-
-first_same : {X : Type 0} {x y : X} → x ∷ [] ≡ y ∷ [] → x ≡ y
-first_same e = cc
 
 map_none : {X Y : Type 0} (f : X → Y) (xs : List X) → map f xs ≡ [] → xs ≡ []
 map_none f [] e = refl
@@ -40,13 +38,13 @@ module _ (mode : Mode) (of : ProofItems Var Term) (i : ℕ) where
 
       back : MeetsRefl mode (anchors_at of i) (map (clause_at of) (premises_at of i)) (clause_at of i) → AreSame mode (substituted of i t) (substituted of i u)
       back h =
-          let e = first_same (sym h.literal ∙ states.clause) in
+          let e = same_one _ _ (sym h.literal ∙ states.clause) in
           subst (λ x. AreSame mode (substituted of i x) (substituted of i u)) (left_same h.left h.right t u e)
           (subst (λ x. AreSame mode (substituted of i h.left) (substituted of i x)) (right_same h.left h.right t u e) h.same)
 
   pub sides_same : (t u a b : Term) → States of i t u → States of i a b → (t ≡ a) × (u ≡ b)
   sides_same t u a b h g =
-      let e = first_same (sym h.clause ∙ g.clause) in (left_same t u a b e, right_same t u a b e)
+      let e = same_one _ _ (sym h.clause ∙ g.clause) in (left_same t u a b e, right_same t u a b e)
 
 -- the sides that are read
 pub no_premises : (premises ps : List ℕ) → premises ≡ ps → length premises ≡ 0 → ps ≡ []
@@ -90,15 +88,7 @@ module _ (s : Table) (v : TermsView) (of : ProofItems Var Term) (i r : ℕ) (non
       }
 
   pub states_nothing : ((t u w : Term) → RefersTo s v r t → t ≡ equality u w → ⊥) → (t u : Term) → States of i t u → ⊥
-  states_nothing h t u states = h literal.term t u literal.refers (first_same (sym literal.alone ∙ states.clause))
-
-pub some_sides : {X : Type 0} (o : Option X) (P Q : X → Type 0) → ((x : X) → P x → Q x) → IfSome o P → IfSome o Q
-some_sides None P Q f h = h
-some_sides (Some x) P Q f h = f x h
-
-pub no_sides : {X : Type 0} (o : Option X) (P Q : Type 0) → (P → Q) → IfNone o P → IfNone o Q
-no_sides None P Q f h = f h
-no_sides (Some x) P Q f h = h
+  states_nothing h t u states = h literal.term t u literal.refers (same_one _ _ (sym literal.alone ∙ states.clause))
 
 pub strictly : (mode : Mode) → mode ≡ Mode.Strict → (t u : Term) (b : Bool) → IsTrue b ↔ (t ≡ u) → IsTrue b ↔ AreSame mode t u
 strictly mode is t u b h = subst (λ m. IsTrue b ↔ AreSame m t u) (sym is) h

@@ -16,7 +16,7 @@ ghost use Rattle.rule_model.specs.Scopes.{commands_in};
 ghost use Rattle.rule_model.specs.Substitution.{put_in};
 ghost use Rattle.term_model.specs.Terms.{Var, Term};
 ghost use Rattle.term_pool.specs.Views.{IsTerm, RefersTo, KeepsTerms};
-ghost use Rattle.proof_contexts.specs.Placing.{LacksRoomForSome, PlacesOf};
+ghost use Rattle.term_pool.specs.Placing.{LacksCellOf, PlacesCellsOf};
 ghost use Rattle.rules_refl.specs.Sides.{IsEither, IsSideOf};
 
 use crate::comparing::{are_same, refused};
@@ -45,9 +45,9 @@ fn substituted(
     ensures right { IfOk result (λ p. (of : ProofItems Var Term) (anchors : List Replacement) (u : Term) → StandForItems symbols.now terms.old proof.now of → AreOpenIn of (scope_of scopes.old) anchors →
         RefersTo symbols.now terms.old sides.1 u → RefersTo symbols.now terms.new p.1 (put_in (images anchors) u)) }
     ensures placed { (of : ProofItems Var Term) (anchors : List Replacement) (t u : Term) → StandForItems symbols.now terms.old proof.now of → AreOpenIn of (scope_of scopes.old) anchors →
-        RefersTo symbols.now terms.old sides.0 t → RefersTo symbols.now terms.old sides.1 u → PlacesOf symbols.now terms.old.pass terms.new.pass (IsEither (put_in (images anchors) t) (put_in (images anchors) u)) }
+        RefersTo symbols.now terms.old sides.0 t → RefersTo symbols.now terms.old sides.1 u → PlacesCellsOf symbols.now terms.old.pass terms.new.pass (IsEither (put_in (images anchors) t) (put_in (images anchors) u)) }
     ensures full { IfErr result (λ e. e ≡ RuleStop.PoolFull → (of : ProofItems Var Term) (anchors : List Replacement) (t u : Term) → StandForItems symbols.now terms.old proof.now of → AreOpenIn of (scope_of scopes.old) anchors →
-        RefersTo symbols.now terms.old sides.0 t → RefersTo symbols.now terms.old sides.1 u → LacksRoomForSome symbols.now terms.new.pass (IsEither (put_in (images anchors) t) (put_in (images anchors) u))) }
+        RefersTo symbols.now terms.old sides.0 t → RefersTo symbols.now terms.old sides.1 u → LacksCellOf symbols.now terms.new.pass (IsEither (put_in (images anchors) t) (put_in (images anchors) u))) }
     ensures keeps { KeepsTerms terms.old terms.new }
     ensures kept { AreKept symbols.now terms.new proof.now scopes.new }
     ensures scope { scope_of scopes.new ≡ scope_of scopes.old }
@@ -88,8 +88,8 @@ pub fn check(
     ensures narrow { IfOk result (λ answer. answer ≢ Answer.TooWide) }
     // where the anchors' variables have the values of their images, the clause of a step that is met is true
     ensures sound { IfOk result (λ answer. answer ≡ Answer.Met → (of : ProofItems Var Term) → StandForItems symbols.now terms.old proof.now of → KeepsTruthAt mode of i) }
-    ensures placed { (of : ProofItems Var Term) → StandForItems symbols.now terms.old proof.now of → PlacesOf symbols.now terms.old.pass terms.new.pass (IsSideOf of i) }
-    ensures full { IfErr result (λ stop. stop ≡ RuleStop.PoolFull → (of : ProofItems Var Term) → StandForItems symbols.now terms.old proof.now of → LacksRoomForSome symbols.now terms.new.pass (IsSideOf of i)) }
+    ensures placed { (of : ProofItems Var Term) → StandForItems symbols.now terms.old proof.now of → PlacesCellsOf symbols.now terms.old.pass terms.new.pass (IsSideOf of i) }
+    ensures full { IfErr result (λ stop. stop ≡ RuleStop.PoolFull → (of : ProofItems Var Term) → StandForItems symbols.now terms.old proof.now of → LacksCellOf symbols.now terms.new.pass (IsSideOf of i)) }
     ensures keeps { KeepsTerms terms.old terms.new }
     ensures kept { AreKept symbols.now terms.new proof.now scopes.new }
     ensures scope { scope_of scopes.new ≡ scope_of scopes.old }

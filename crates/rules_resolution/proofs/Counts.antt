@@ -4,6 +4,7 @@ use Rattle.std.specs.List.{list_any}
 use Rattle.std.proofs.lemmas.List.{get_or_default}
 use Rattle.std.proofs.lemmas.List.Elements.{All-from_get_or}
 use Rattle.std.proofs.lemmas.List.Sums.{sum_by-cons}
+use Rattle.std.proofs.lemmas.Bool.{cases_Bool}
 use Rattle.rule_model.specs.Consequence.{IsFalse, literal_at, premise_at, IsOnly, IsConflict, IsUnit}
 use Rattle.rule_model.specs.Literals.{negation_of}
 use Rattle.rule_model.specs.declared.literal.Literal.TheVariants.{Plain, Always, Never}
@@ -15,7 +16,7 @@ use Rattle.rules_resolution.specs.Idle.{IsIdle, IsSettled}
 use Rattle.rules_resolution.specs.Occurrence.{literal_in, rank_of, literal_rank}
 use Rattle.rules_resolution.specs.Table.{IsOccurrenceTable}
 use Rattle.rules_resolution.specs.Standing.{is_always, blank_standings, open_at, places_at, one, occurrence_place, stands, tally, IsTallied}
-use Rattle.rules_resolution.proofs.Literals.{true_or_false, false_from_test, only_from_tests, only-others, only-stays}
+use Rattle.rules_resolution.proofs.Literals.{false_from_test, only_from_tests, only-others, only-stays}
 use Rattle.rules_resolution.proofs.Standings.{same_or_not}
 
 abbrev pub nowhere : Occurrence
@@ -31,7 +32,7 @@ EntryCases falses p o =
     ⊎ (((f : Occurrence → ℕ) → stands falses p f o ≡ 0) × (o.premise ≡ p → is_false_in falses (literal_in o) ≡ true))
 
 entry_cases : (falses : List Lit) (p : ℕ) (o : Occurrence) → EntryCases falses p o
-entry_cases falses p o = here (same_or_not o.premise p) (true_or_false (is_false_in falses (literal_in o)))
+entry_cases falses p o = here (same_or_not o.premise p) (cases_Bool (is_false_in falses (literal_in o)))
   where
     here : ((nat_eq o.premise p ≡ true) × (o.premise ≡ p)) ⊎ ((nat_eq o.premise p ≡ false) × (o.premise ≡ p → ⊥)) → (is_false_in falses (literal_in o) ≡ true) ⊎ (is_false_in falses (literal_in o) ≡ false) → EntryCases falses p o
     here (inl (e, same)) (inl gone) =

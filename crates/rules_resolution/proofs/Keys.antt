@@ -3,7 +3,7 @@ use Rattle.std.proofs.Common.{◌≡◌, ◌≢◌, ◌⊎◌, inl, inr, ⊎_eli
 use Rattle.std.specs.List.Sorted.{IsPermutation, IsNonDecreasingBy}
 use Rattle.std.specs.Global.{Vec}
 use Rattle.std.specs.Result.{IfOk}
-use Rattle.std.proofs.lemmas.Bool.{eqb-true, cases_lt}
+use Rattle.std.proofs.lemmas.Bool.{eqb-true, cases_lt, cases_Bool}
 use Rattle.std.proofs.lemmas.List.{append-nil, take_more, take_all, length-take, get_or_default, get_or-set_same, get_or-set_other}
 use Rattle.std.proofs.lemmas.List.Concat.{flat_map-append}
 use Rattle.std.proofs.lemmas.List.Elements.{All-nil, All-cons, All-append, Contains-append_left, Contains-append_right}
@@ -17,7 +17,6 @@ use Rattle.rules_resolution.specs.declared.naming.Key.{Key}
 use Rattle.pair_pool.specs.declared.stops.Memory.{Memory}
 use Rattle.rules_resolution.specs.Renaming.{all_literals, atom_of, atom_name_at, AreNames, joined_clauses}
 use Rattle.rules_resolution.specs.Naming.{key_rank, key_at, keys_from, IsKeyOf, AreKeys, IsRun, key_number_in, HasNames}
-use Rattle.rules_resolution.proofs.Literals.{true_or_false}
 use Rattle.rules_resolution.proofs.Renamings.{StandFrom}
 use Rattle.rules_resolution.proofs.Tables.{clauses_of-take_more}
 
@@ -108,7 +107,7 @@ name_in-first : (keys : List Key) (r : ℕ) (d : Key) → r < length keys → ((
 name_in-first [] r d h new = absurd (omega (arith, h))
 name_in-first (k ∷ ks) zero d h new = rw (eq-eqb k.atom k.atom refl) refl
 name_in-first (k ∷ ks) (suc r) d h new =
-    rw (other (true_or_false (nat_eq k.atom (get_or ks r d).atom)))
+    rw (other (cases_Bool (nat_eq k.atom (get_or ks r d).atom)))
     (name_in-first ks r d (omega (arith, h)) (λ q below. new (suc q) (omega (arith, below))))
   where
     other : (nat_eq k.atom (get_or ks r d).atom ≡ true) ⊎ (nat_eq k.atom (get_or ks r d).atom ≡ false) → nat_eq k.atom (get_or ks r d).atom ≡ false
@@ -119,7 +118,7 @@ name_in-first (k ∷ ks) (suc r) d h new =
 name_in-sound : (literals : List Lit) (keys : List Key) → All (IsKeyOf literals) keys → (a r : ℕ) (d : Key) → r < length keys → (get_or keys r d).atom ≡ a → atom_of (literal_at literals (key_number_in keys a)) ≡ Some a
 name_in-sound literals [] all a r d h e = absurd (omega (arith, h))
 name_in-sound literals (k ∷ ks) all a r d h e =
-    elim (true_or_false (nat_eq k.atom a)) [
+    elim (cases_Bool (nat_eq k.atom a)) [
       | inl same ↦ rw same ((all 0 k (omega arith)).atom ∙ ap (λ (x : ℕ). Some x) (eqb-true k.atom a same))
       | inr other ↦ rw other (later r other (λ s g f. name_in-sound literals ks (λ i x b. all (suc i) x (omega (arith, b))) a s d g f) h e)
     ]
@@ -170,7 +169,7 @@ pub named_more : (keys : List Key) (names : List ℕ) (at x : ℕ) (e : Key) →
     → ((q : ℕ) (d : Key) → q < at → atom_name_at names (get_or keys q d).number ≡ key_number_in keys (get_or keys q d).atom)
     → (q : ℕ) (d : Key) → q < at + 1 → atom_name_at (set names (get_or keys at e).number x) (get_or keys q d).number ≡ key_number_in keys (get_or keys q d).atom
 named_more keys names at x e (literals, size, all) h is named q d below =
-    elim (true_or_false (nat_eq (get_or keys q d).number (get_or keys at e).number)) [
+    elim (cases_Bool (nat_eq (get_or keys q d).number (get_or keys at e).number)) [
       | inl same ↦ written (eqb-true (get_or keys q d).number (get_or keys at e).number same)
       | inr other ↦ kept (λ same. (let t = eq-eqb (get_or keys q d).number (get_or keys at e).number same in cc (t, other)))
     ]

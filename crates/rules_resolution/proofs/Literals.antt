@@ -1,30 +1,14 @@
 -- Literals that are the same, opposite or false.
-use Rattle.std.proofs.Common.{◌≡◌, ◌⊎◌, inl, inr, ℕ, suc, ◌<◌, Bool, true, false, ◌&&◌, ◌||◌, List, [], ◌∷◌, ◌++◌, nat_eq, length, refl, sym, ◌∙◌, ap, arith, eq-eqb}
+use Rattle.std.proofs.Common.{◌≡◌, ◌⊎◌, inl, inr, ℕ, suc, ◌<◌, Bool, true, false, ◌||◌, List, [], ◌∷◌, ◌++◌, nat_eq, length, refl, sym, ◌∙◌, ap, arith, eq-eqb}
 use Rattle.std.specs.List.{list_any}
 use Rattle.std.proofs.lemmas.List.{get_or_default}
 use Rattle.std.proofs.lemmas.List.Elements.{All-from_get_or}
 use Rattle.std.proofs.lemmas.List.Folds.{list_any-append, list_any_at}
-use Rattle.std.proofs.lemmas.Bool.{eqb-true}
+use Rattle.std.proofs.lemmas.Bool.{eqb-true, and_parts, or_cases, or_left, or_right, cases_Bool}
 use Rattle.rule_model.specs.Consequence.{IsFalse, IsOnly, literal_at}
 use Rattle.rule_model.specs.declared.literal.Literal.TheVariants.{Plain, Always, Never}
 use Rattle.rules_resolution.specs.Falsity.{same_bool, same_literal, is_false_in}
 use Rattle.rules_resolution.specs.Literal.{Lit}
-
-pub or_cases : (a b : Bool) → (a || b) ≡ true → (a ≡ true) ⊎ (b ≡ true)
-or_cases true b e = inl refl
-or_cases false b e = inr e
-
-pub or_left : (a b : Bool) → a ≡ true → (a || b) ≡ true
-or_left true b e = refl
-or_left false b e = cc
-
-pub or_right : (a b : Bool) → b ≡ true → (a || b) ≡ true
-or_right true b e = refl
-or_right false b e = e
-
-pub and_both : (a b : Bool) → (a && b) ≡ true → (a ≡ true) × (b ≡ true)
-and_both true b e = (refl, e)
-and_both false b e = cc
 
 pub same_bool-true : (a b : Bool) → same_bool a b ≡ true → a ≡ b
 same_bool-true true b e = sym e
@@ -37,7 +21,7 @@ same_bool-refl false = refl
 
 pub same_literal-true : (a b : Lit) → same_literal a b ≡ true → a ≡ b
 same_literal-true (Plain a m) (Plain b n) e =
-    let p = and_both (nat_eq a b) (same_bool m n) e in
+    let p = and_parts (nat_eq a b) (same_bool m n) e in
     let same : a ≡ b = eqb-true a b p.0 in
     let sign : m ≡ n = same_bool-true m n p.1 in
     cc
@@ -89,10 +73,6 @@ push_cases falses m l e =
           ]
     ]
 
-pub true_or_false : (b : Bool) → (b ≡ true) ⊎ (b ≡ false)
-true_or_false true = inl refl
-true_or_false false = inr refl
-
 -- a literal of the list stands at some place of it
 pub among_place : (l : Lit) (ls : List Lit) → list_any (same_literal l) ls ≡ true → (k : ℕ) × (k < length ls) × (literal_at ls k ≡ l)
 among_place l [] e = cc
@@ -134,7 +114,7 @@ only-others falses clause j only k h =
 
 pub only-stays : (falses clause : List Lit) (j : ℕ) → IsOnly falses clause j → is_false_in falses (literal_at clause j) ≡ false
 only-stays falses clause j only =
-    elim (true_or_false (is_false_in falses (literal_at clause j))) [
+    elim (cases_Bool (is_false_in falses (literal_at clause j))) [
       | inl gone ↦ absurd (only.not_false (false_from_test falses (literal_at clause j) gone))
       | inr stays ↦ stays
     ]

@@ -3,7 +3,7 @@ use Rattle.std.proofs.Common.{◌≡◌, ◌⊎◌, inl, inr, ⊎_elim, ℕ, ◌
 use Rattle.std.specs.List.{Any, list_any}
 use Rattle.std.proofs.lemmas.List.{append-nil, map-append, get_or_default, get_or_append_left, take_more}
 use Rattle.std.proofs.lemmas.List.Elements.{All-contains, Contains-push, Contains-push_cases}
-use Rattle.rule_model.specs.Consequence.{literal_at, premise_at, literal_of, IsOnly, IsConflict, IsUnit, Leads, Contradicts, Follows}
+use Rattle.rule_model.specs.Consequence.{literal_at, premise_at, literal_of, IsOnly, IsConflict, IsUnit, Leads, Contradicts}
 use Rattle.rule_model.specs.Literals.{negation_of, Entails}
 use Rattle.rule_model.specs.declared.literal.Literal.TheVariants.{Plain, Always, Never}
 use Rattle.rules_resolution.specs.Clause.{clauses_of}
@@ -22,9 +22,9 @@ use Rattle.std.specs.Prelude.{Option, Some, None, Result, Ok, Err, MatchOption, 
 use Rattle.pair_pool.specs.declared.stops.Memory.{Memory}
 use Rattle.rules_resolution.specs.Trace.{Trace}
 use Rattle.rules_resolution.specs.Shows.{Shows}
-use Rattle.std.proofs.lemmas.Bool.{cases_lt}
+use Rattle.std.proofs.lemmas.Bool.{cases_lt, or_cases, cases_Bool}
 use Rattle.rules_resolution.proofs.Premises.{length-clauses_of, premise_here}
-use Rattle.rules_resolution.proofs.Literals.{push_new, push_kept, push_cases, or_cases, true_or_false, among_place, false_from_test, test_of_false, only-others}
+use Rattle.rules_resolution.proofs.Literals.{push_new, push_kept, push_cases, among_place, false_from_test, test_of_false, only-others}
 use Rattle.rule_model.proofs.Consequence.{negation_of-negation_of, consequence_sound}
 use Rattle.rules_resolution.proofs.Renamings.{shown_follows}
 use Rattle.rules_resolution.proofs.Stuck.{nothing_leads}
@@ -86,7 +86,7 @@ alone_from_answer goal table k d has h stays = go (get_or goal k d) stays
 
     plain : (a : ℕ) (s : Bool) → (Any (λ o. literal_in o ≡ Plain a s) table → is_false_in goal (Plain a s) ≡ false) → is_false_in goal (Plain a s) ≡ false
     plain a s stays =
-        ⊎_elim (λ (gone : is_false_in goal (Plain a s) ≡ true). stays (occurs a s gone)) (λ f. f) (true_or_false (is_false_in goal (Plain a s)))
+        ⊎_elim (λ (gone : is_false_in goal (Plain a s) ≡ true). stays (occurs a s gone)) (λ f. f) (cases_Bool (is_false_in goal (Plain a s)))
 
     go : (l : Lit) → ((negation_of l ≡ Never) ⊎ Any (λ o. literal_in o ≡ negation_of l) table → is_false_in goal (negation_of l) ≡ false) → IsAlone goal l
     go (Plain a true) stays = inr (plain a false (λ some. stays (inr some)))
@@ -119,7 +119,7 @@ no_always goal alone =
     ⊎_elim
     (λ (gone : is_false_in goal Always ≡ true).
     (let p = among_place Always goal gone in absurd (alone (Always, (p.0, p.1, get_or_default goal p.0 Always Never p.1 ∙ p.2), inl refl))))
-    (λ f. f) (true_or_false (is_false_in goal Always))
+    (λ f. f) (cases_Bool (is_false_in goal Always))
 
 falses_of-push : (premises : List (List Lit)) (goal : List Lit) (units : List (ℕ × ℕ)) (u : ℕ × ℕ) → falses_of premises goal (units ++ u ∷ []) ≡ falses_of premises goal units ++ negation_of (literal_of premises u) ∷ []
 falses_of-push premises goal units u =
@@ -250,7 +250,7 @@ progress_by_unit premises goal units table m0 m1 s0 s1 r0 r1 p h e falsifies adv
         (let back : literal_of premises (p, places_at s0 p) ≡ Never = sym (negation_of-negation_of (literal_of premises (p, places_at s0 p))) ∙ sym (ap negation_of same) in
         absurd (only.only.not_false (inl back))))
         (push_cases (falses_of premises goal units) (negation_of (literal_of premises (p, places_at s0 p))) Always gone))
-        (λ f. f) (true_or_false (is_false_in (falses_of premises goal units ++ negation_of (literal_of premises (p, places_at s0 p)) ∷ []) Always))
+        (λ f. f) (cases_Bool (is_false_in (falses_of premises goal units ++ negation_of (literal_of premises (p, places_at s0 p)) ∷ []) Always))
 
     now_true : is_false_in (falses_of premises goal (units ++ (p, places_at s0 p) ∷ [])) (negation_of (literal_of premises (p, places_at s0 p))) ≡ true
     now_true =

@@ -1,17 +1,17 @@
 -- The order of occurrences.
-use Rattle.std.proofs.Common.{◌≡◌, ◌⊎◌, inl, inr, ⊎_elim, ℕ, ◌+◌, ◌<◌, ◌≤◌, Bool, true, false, nat_eq, List, length, get_or, refl, sym, ap, arith, eq-eqb}
-use Rattle.std.proofs.lemmas.Bool.{eqb-true, cases_lt}
+use Rattle.std.proofs.Common.{◌≡◌, ⊎_elim, ℕ, ◌+◌, ◌<◌, ◌≤◌, Bool, true, false, nat_eq, List, length, get_or, refl, sym, ap, arith, eq-eqb}
+use Rattle.std.proofs.lemmas.Bool.{eqb-true, cases_lt, and_parts, cases_Bool}
 use Rattle.std.proofs.lemmas.List.{get_or_default}
 use Rattle.rule_model.specs.declared.literal.Literal.TheVariants.{Plain}
 use Rattle.rules_resolution.specs.Falsity.{same_bool}
 use Rattle.rules_resolution.specs.declared.occurrence.Occurrence.{Occurrence}
 use Rattle.rules_resolution.specs.Occurrence.{literal_in, literal_rank, rank_of, is_of}
 use Rattle.rules_resolution.specs.Table.{IsLeader, IsRising}
-use Rattle.rules_resolution.proofs.Literals.{and_both, same_bool-true, same_bool-refl}
+use Rattle.rules_resolution.proofs.Literals.{same_bool-true, same_bool-refl}
 
 pub is_of-true : (a : ℕ) (s : Bool) (o : Occurrence) → is_of a s o ≡ true → literal_in o ≡ Plain a s
 is_of-true a s o e =
-    let p = and_both (nat_eq o.atom a) (same_bool o.negative s) e in
+    let p = and_parts (nat_eq o.atom a) (same_bool o.negative s) e in
     let atom : o.atom ≡ a = eqb-true o.atom a p.0 in
     let sign : o.negative ≡ s = same_bool-true o.negative s p.1 in
     cc
@@ -60,10 +60,6 @@ from_middle table rank m e rising within high k d h g =
     (λ (below : m < k). (let up : rank_of (get_or table m d) < rank_of (get_or table k d) = rising m k d below g in let same = ap rank_of here in omega arith))
     (λ (above : k ≤ m). (let same : k ≡ m = omega arith in rw (same, here) high)) (cases_lt m k)
 
-true_or_false : (b : Bool) → (b ≡ true) ⊎ (b ≡ false)
-true_or_false true = inl refl
-true_or_false false = inr refl
-
 -- no occurrence of a literal is before its ranks, or after them
 pub not_of-before : (a : ℕ) (s : Bool) (o : Occurrence) → rank_of o < literal_rank a s → is_of a s o ≡ false
 not_of-before a s o h =
@@ -74,7 +70,7 @@ not_of-before a s o h =
     let sign : o.negative ≡ s = cc in
     let rank : literal_rank o.atom o.negative ≡ literal_rank a s = rw (atom, sign) refl in
     absurd (omega arith)))
-    (λ (not_of : is_of a s o ≡ false). not_of) (true_or_false (is_of a s o))
+    (λ (not_of : is_of a s o ≡ false). not_of) (cases_Bool (is_of a s o))
 
 pub not_of-after : (a : ℕ) (s : Bool) (table : List Occurrence) (i : ℕ) (e : Occurrence) → IsRising table → ((k : ℕ) (d : Occurrence) → k < length table → (get_or table k d).premise < 4294967296) → i < length table → literal_rank a s ≤ rank_of (get_or table i e) → is_of a s (get_or table i e) ≡ false → (k : ℕ) (d : Occurrence) → i ≤ k → k < length table → is_of a s (get_or table k d) ≡ false
 not_of-after a s table i e rising small within high other k d h g =
@@ -89,7 +85,7 @@ not_of-after a s table i e rising small within high other k d h g =
     let later : rank_of (get_or table i e) ≤ rank_of (get_or table k d) = from_middle table (rank_of (get_or table i e)) i e rising within (omega arith) k d h g in
     let below = small k d g in
     absurd (omega arith)))
-    (λ (not_of : is_of a s (get_or table k d) ≡ false). not_of) (true_or_false (is_of a s (get_or table k d)))
+    (λ (not_of : is_of a s (get_or table k d) ≡ false). not_of) (cases_Bool (is_of a s (get_or table k d)))
 
 -- from a literal's first occurrence on no rank is below those of the literal
 pub rank_from-leader : (a : ℕ) (s : Bool) (table : List Occurrence) (first k : ℕ) (d : Occurrence) → IsRising table → IsLeader a s table first → first ≤ k → k < length table → literal_rank a s ≤ rank_of (get_or table k d)

@@ -1,8 +1,9 @@
 -- What marks and standings become where one more literal is false.
 use Rattle.std.proofs.Common.{◌≡◌, ◌⊎◌, inl, inr, ⊎_elim, ℕ, suc, ◌+◌, ◌<◌, ◌≤◌, Bool, true, false, cond, nat_eq, List, [], ◌∷◌, ◌++◌, length, get_or, set, refl, sym, ◌∙◌, ap, arith, sum_by}
-use Rattle.std.proofs.lemmas.Bool.{cases_lt}
+use Rattle.std.proofs.lemmas.Bool.{cases_lt, cases_Bool}
 use Rattle.std.proofs.lemmas.List.{get_or_default, get_or-set_same, get_or-set_other, length-set}
 use Rattle.std.proofs.lemmas.List.Sums.{sum_by-cons}
+use Rattle.term_model.proofs.Basics.{same_tests}
 use Rattle.rule_model.specs.declared.literal.Literal.TheVariants.{Plain, Always, Never}
 use Rattle.rules_resolution.specs.Falsity.{is_false_in}
 use Rattle.rules_resolution.specs.Literal.{Lit}
@@ -12,25 +13,20 @@ use Rattle.rules_resolution.specs.Occurrence.{literal_in, literal_rank, is_of}
 use Rattle.rules_resolution.specs.Table.{IsRising, IsFirstOfRank, IsLeader}
 use Rattle.rules_resolution.specs.Standing.{blank_standings, open_at, one, occurrence_place, stands, tally, IsTallied, hits, taken, HasRoom, Closes}
 use Rattle.rules_resolution.specs.Work.{IsMarked, IsState}
-use Rattle.rules_resolution.proofs.Literals.{push_new, push_kept, push_cases, true_or_false}
+use Rattle.rules_resolution.proofs.Literals.{push_new, push_kept, push_cases}
 use Rattle.rules_resolution.proofs.Ranks.{is_of-true, is_of-same, not_of-before, not_of-after}
 use Rattle.rules_resolution.proofs.Standings.{same_or_not}
-
-bool_same : (a b : Bool) → (a ≡ true → b ≡ true) → (b ≡ true → a ≡ true) → a ≡ b
-bool_same true b f g = sym (f refl)
-bool_same false true f g = g refl
-bool_same false false f g = refl
 
 -- other literals stay as they were
 pub is_false_in-push_other : (falses : List Lit) (l m : Lit) → (m ≡ l → ⊥) → is_false_in (falses ++ l ∷ []) m ≡ is_false_in falses m
 is_false_in-push_other falses l m ne =
-    bool_same (is_false_in (falses ++ l ∷ []) m) (is_false_in falses m)
+    same_tests (is_false_in (falses ++ l ∷ []) m) (is_false_in falses m)
     (λ e. ⊎_elim (λ before. before) (λ same. absurd (ne same)) (push_cases falses l m e)) (push_kept falses l m)
 
 -- nothing changes where the literal was false already
 pub is_false_in-push_again : (falses : List Lit) (l m : Lit) → is_false_in falses l ≡ true → is_false_in (falses ++ l ∷ []) m ≡ is_false_in falses m
 is_false_in-push_again falses l m gone =
-    bool_same (is_false_in (falses ++ l ∷ []) m) (is_false_in falses m)
+    same_tests (is_false_in (falses ++ l ∷ []) m) (is_false_in falses m)
     (λ e. ⊎_elim (λ before. before) (λ same. ap (is_false_in falses) same ∙ gone) (push_cases falses l m e)) (push_kept falses l m)
 
 sum_by-same_each : (f g : Occurrence → ℕ) (xs : List Occurrence) → ((k : ℕ) (d : Occurrence) → k < length xs → f (get_or xs k d) ≡ g (get_or xs k d)) → sum_by f xs ≡ sum_by g xs
@@ -72,7 +68,7 @@ state_same premises goal falses new table marks standings same state =
 tally-push : (falses : List Lit) (a : ℕ) (s : Bool) (p : ℕ) (f : Occurrence → ℕ) (table : List Occurrence) → is_false_in falses (Plain a s) ≡ false → tally falses p f table ≡ tally (falses ++ Plain a s ∷ []) p f table + taken a s p f table
 tally-push falses a s p f table stays =
     sum_by-split (stands falses p f) (stands (falses ++ Plain a s ∷ []) p f) (hits a s p f)
-    (λ o. here o (true_or_false (nat_eq o.premise p)) (true_or_false (is_of a s o))) table
+    (λ o. here o (cases_Bool (nat_eq o.premise p)) (cases_Bool (is_of a s o))) table
   where
     here : (o : Occurrence) → (nat_eq o.premise p ≡ true) ⊎ (nat_eq o.premise p ≡ false) → (is_of a s o ≡ true) ⊎ (is_of a s o ≡ false) → stands falses p f o ≡ stands (falses ++ Plain a s ∷ []) p f o + hits a s p f o
     here o (inr elsewhere) other = rw elsewhere refl

@@ -1,12 +1,13 @@
 -- Where no premise offers anything more, nothing leads to a conflict.
 use Rattle.std.proofs.Common.{◌≡◌, ◌⊎◌, inl, inr, ℕ, ◌<◌, true, List, [], ◌∷◌, ◌++◌, length, ◌∙◌, ap}
+use Rattle.std.proofs.lemmas.Bool.{cases_Bool}
 use Rattle.rule_model.specs.Consequence.{literal_at, premise_at, literal_of, IsOnly, Leads}
 use Rattle.rule_model.specs.Literals.{negation_of}
 use Rattle.rule_model.specs.declared.literal.Literal.TheVariants.{Never}
 use Rattle.rules_resolution.specs.Falsity.{is_false_in}
 use Rattle.rules_resolution.specs.Literal.{Lit}
 use Rattle.rules_resolution.specs.Idle.{IsIdle, AllIdleBelow}
-use Rattle.rules_resolution.proofs.Literals.{push_cases, true_or_false, test_of_false, only_from_tests, only-others}
+use Rattle.rules_resolution.proofs.Literals.{push_cases, test_of_false, only_from_tests, only-others}
 
 -- all that is false in the one is false in the other
 abbrev pub More : List Lit → List Lit → Type 0
@@ -15,7 +16,7 @@ More falses stuck = (l : Lit) → is_false_in falses l ≡ true → is_false_in 
 -- an idle clause's only literal is true already
 unit_settled : (falses stuck clause : List Lit) (j : ℕ) → More falses stuck → IsIdle stuck clause → IsOnly falses clause j → is_false_in stuck (negation_of (literal_at clause j)) ≡ true
 unit_settled falses stuck clause j more idle only =
-    elim (true_or_false (is_false_in stuck (literal_at clause j))) [
+    elim (cases_Bool (is_false_in stuck (literal_at clause j))) [
       | inl gone ↦ absurd (all_gone gone)
       | inr not_gone ↦ idle.settled j (only_from_tests stuck clause j only.place not_gone others)
     ]

@@ -1,23 +1,24 @@
 -- Literals over references, and the terms that they stand for.
-use Rattle.std.proofs.Common.{◌≡◌, ◌≢◌, ◌↔◌, ℕ, zero, suc, ◌+◌, ◌<◌, ◌%◌, ◌^◌, Bool, IsTrue, true, false, not, nat_eq, List, [], ◌∷◌, ◌++◌, length, get_or, take, map, vec_len, refl, sym, ◌∙◌, ap, arith, All}
+use Rattle.std.proofs.Common.{◌≡◌, ◌≢◌, ◌↔◌, ℕ, zero, suc, ◌+◌, ◌<◌, ◌%◌, Bool, IsTrue, true, false, not, nat_eq, List, [], ◌∷◌, ◌++◌, length, get_or, take, map, vec_len, refl, sym, ◌∙◌, ap, arith, All}
 use Rattle.std.specs.Global.{Vec}
 use Rattle.std.specs.List.{AllZip}
 use Rattle.std.proofs.lemmas.Bool.{eqb-true, eq-eqb}
 use Rattle.std.proofs.lemmas.Bool.Decides.{nat_tests}
 use Rattle.std.proofs.lemmas.List.{take_more}
-use Rattle.std.proofs.lemmas.List.Elements.{All-nil, All-cons, All-head, All-tail}
-use Rattle.pair_pool.specs.Views.{PoolView, PassView, Cell, Knows, IsUnchanged}
+use Rattle.std.proofs.lemmas.List.Elements.{All-nil, All-cons}
+use Rattle.pair_pool.specs.Views.{Knows, IsUnchanged}
 use Rattle.pair_pool.specs.Trees.{leaf}
 use Rattle.sym_table.specs.Leaf.{operator}
 use Rattle.sym_table.specs.Table.{Table, IsLeaf}
 use Rattle.term_model.specs.declared.symbols.Op.{Op}
 use Rattle.term_model.specs.Terms.{Term, operation, no_terms, not_of}
 use Rattle.term_pool.specs.Nots.{negated, Strips, IsStripped}
-use Rattle.term_pool.specs.Views.{TermsView, RefersTo, IsTerm, KeepsTerms}
+use Rattle.term_pool.specs.Views.{TermsView, RefersTo, KeepsTerms}
+use Rattle.term_pool.proofs.Keeping.{same_terms}
 use Rattle.rule_model.specs.declared.literal.Literal.{Literal}
 use Rattle.rule_model.specs.declared.literal.Literal.TheVariants.{Plain, Always, Never}
 use Rattle.rule_model.specs.Literals.{negation_of}
-use Rattle.rule_model.specs.Renaming.{KeepsAtomsApart, IsLiteralImage, AreLiteralImages, AreAllImages}
+use Rattle.rule_model.specs.Renaming.{IsLiteralImage, AreLiteralImages, AreAllImages}
 use Rattle.rule_model.specs.Resolution.{as_literal, as_clause}
 use Rattle.rule_model.proofs.Consequence.{negation_of-negation_of}
 use Rattle.term_model.proofs.Zips.{zip_push, zip_length}
@@ -25,21 +26,6 @@ use Rattle.rule_model.proofs.Resolution.{bare_is_bare, atom_is_plain}
 use Rattle.rules_resolution.specs.Literal.{Lit}
 use Rattle.rules_resolution.specs.Clause.{clauses_of}
 use Rattle.rules_resolution.specs.TermLiterals.{IsLiteralOf, AreLiteralsOf, AreClausesOf, turned}
-
--- a view of terms by its parts
-abbrev pub view_of : PoolView → ℕ → ℕ → List Cell → List Cell → List Cell → TermsView
-view_of pool places shares seen known placed =
-    record { pool = pool; pass = record { places = places; shares = shares; seen = seen; known = known; placed = placed } }
-
--- what keeps its pool and is unchanged is the same
-pub same_view : (v w : TermsView) → KeepsTerms v w → IsUnchanged v.pass w.pass → w ≡ v
-same_view v w keeps same =
-    ap (λ (p : PoolView). view_of p w.pass.places w.pass.shares w.pass.seen w.pass.known w.pass.placed) keeps.pool
-    ∙ (ap (λ (n : ℕ). view_of v.pool n w.pass.shares w.pass.seen w.pass.known w.pass.placed) same.places
-    ∙ (ap (λ (n : ℕ). view_of v.pool v.pass.places n w.pass.seen w.pass.known w.pass.placed) same.shares
-    ∙ (ap (λ (cs : List Cell). view_of v.pool v.pass.places v.pass.shares cs w.pass.known w.pass.placed) same.seen
-    ∙ (ap (λ (cs : List Cell). view_of v.pool v.pass.places v.pass.shares v.pass.seen cs w.pass.placed) same.known
-    ∙ ap (λ (cs : List Cell). view_of v.pool v.pass.places v.pass.shares v.pass.seen v.pass.known cs) same.placed))))
 
 turned_more : {A : Type 0} (b : Bool) (l : Literal A) → negation_of (turned b l) ≡ turned (not b) l
 turned_more true l = negation_of-negation_of l
@@ -75,7 +61,7 @@ pub literal_from_bare : (s : Table) (v w : TermsView) (r bare : ℕ) (odd : Bool
 literal_from_bare s v w r bare odd l keeps same strips image t refers =
     let stripped = strips t refers in
     let here = image stripped.inner stripped.refers stripped.strips.bare in
-    rw (← same_view v w keeps same, stripped_literal t stripped.inner odd stripped.strips) here
+    rw (← same_terms v w keeps same, stripped_literal t stripped.inner odd stripped.strips) here
 
 -- a term that is no negation and no constant
 pub plain_image : (R : ℕ → Term → Type 0) (k : ℕ) (odd : Bool) (t : Term) → R k t → ((u : Term) → t ≢ not_of u) → t ≢ operation Op.True no_terms → t ≢ operation Op.False no_terms → IsLiteralImage R (Plain k odd) (turned odd (as_literal t))
@@ -140,10 +126,3 @@ short_clauses s v n f (j ∷ js) (c ∷ cs) short z =
     let first = short j in
     omega arith)
     (short_clauses s v n f js cs short z.1)
-
--- references that stand for terms
-pub are_terms : (s : Table) (v : TermsView) (rs : List ℕ) (ts : List Term) → AllZip (RefersTo s v) rs ts → All (IsTerm s v) rs
-are_terms s v [] [] z = All-nil (IsTerm s v)
-are_terms s v [] (t ∷ ts) z = absurd z
-are_terms s v (r ∷ rs) [] z = absurd z
-are_terms s v (r ∷ rs) (t ∷ ts) z = All-cons (IsTerm s v) r rs (record { means = t; refers = z.0 }) (are_terms s v rs ts z.1)

@@ -1,6 +1,7 @@
 -- What is asked of letters is what the guards of rows ask, and constants are read by their form.
 use Rattle.std.proofs.Common.{◌≡◌, ◌↔◌, inl, inr, ℕ, ℤ, pos, neg_ℤ, ◌≤ℤ◌, ◌-ℤ◌, FitsSigned, to_z, of_z, List, [], ◌∷◌, Bool, true, false, IsTrue, Option, Some, None, refl, sym, ap, ◌∙◌, subst, arith}
 use Rattle.std.proofs.lemmas.Int.{ints}
+use Rattle.std.proofs.lemmas.Bool.{or_cases}
 use Rattle.std.specs.List.{AllByRecursion, slice_get}
 use mir.Syntax.{w128}
 use Rattle.sym_table.specs.Table.{Table}
@@ -17,7 +18,6 @@ use Rattle.term_parts.proofs.PartLemmas.{over_one}
 use Rattle.term_pool.specs.declared.shape.Shape.{Shape}
 use Rattle.term_pool.specs.Reading.{IsShapeOf, arguments_of}
 use Rattle.term_pool.specs.Views.{TermsView, RefersTo}
-use Rattle.rule_model.proofs.TruthTables.{or_cases}
 use Rattle.rule_model.specs.Constants.{constant_of}
 use Rattle.rule_model.specs.declared.letter.Letter.{Letter}
 use Rattle.rule_model.specs.Rewriting.{Guard, always, truths, one_number, two_numbers, below, at_most, AreConstantsBy, PassesGuard}

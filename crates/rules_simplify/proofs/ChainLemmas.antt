@@ -2,8 +2,8 @@
 use Rattle.std.proofs.Common.{◌≡◌, ◌⊎◌, ◌↔◌, inl, inr, ◌≤◌, ◌<◌, ℕ, zero, suc, List, [], ◌∷◌, length, drop, get_or, Any, Contains, refl, sym, subst, arith}
 use Rattle.std.specs.List.{AllByRecursion}
 use Rattle.term_model.specs.Terms.{Term}
-use Rattle.term_model.proofs.Basics.{any_here, any_later, any_cases}
-use Rattle.rule_model.proofs.Lists.{contains_none, contains_cases, contains_head, contains_later}
+use Rattle.term_model.proofs.Basics.{any_here, any_later, any_cases, any_none}
+use Rattle.term_model.proofs.Lists.{contains_none, contains_cases, contains_head, contains_later}
 use Rattle.rule_model.specs.Rewriting.{RewriteRow, Rewrites, FitsRow, IsFirstFit, IsReached, once, again, Simplifies}
 use Rattle.rules_simplify.specs.declared.tables.RowParts.{RowParts}
 use Rattle.rules_simplify.specs.Tables.{IsRow}
@@ -31,9 +31,6 @@ pub first_is_any : (rows : List RewriteRow) (t u : Term) → IsFirstFit rows t u
 first_is_any [] t u h = absurd h
 first_is_any (row ∷ rows) t u (inl r) = any_here (λ row. FitsRow row t) row rows (u, r)
 first_is_any (row ∷ rows) t u (inr (none, h)) = any_later (λ row. FitsRow row t) row rows (first_is_any rows t u h)
-
-pub any_none : {X : Type 0} (P : X → Type 0) → Any P [] → ⊥
-any_none P (k, x, below, same, p) = omega (arith, below)
 
 any_fits : (rows : List RewriteRow) (t u : Term) → Any (λ row. Rewrites row t u) rows → Any (λ row. FitsRow row t) rows
 any_fits [] t u h = absurd (any_none (λ row. Rewrites row t u) h)

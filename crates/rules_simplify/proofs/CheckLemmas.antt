@@ -16,6 +16,7 @@ use Rattle.rule_model.specs.Proofs.{ProofItems}
 use Rattle.rule_model.specs.Reading.{rule_at, clause_at, premises_at}
 use Rattle.rule_model.specs.Simplification.{MeetsJoining, MeetsSimplification}
 use Rattle.rule_model.specs.Rewriting.{Simplifies}
+use Rattle.rule_model.proofs.ArgumentLists.{same_sides}
 use Rattle.schema_match.specs.Equations.{StatesEquality}
 use Rattle.schema_match.specs.Steps.{MeetAt, ReferToClauses}
 use Rattle.rules_simplify.specs.declared.joins.Junction.{Junction}
@@ -28,9 +29,6 @@ use Rattle.rules_simplify.specs.declared.tables.Simplification.{Simplification}
 -- what a clause meets under a junction
 abbrev pub MeetsUnder : Junction → List Term → Type 0
 MeetsUnder j ts = MeetsJoining j.op (constant j.neutral) (constant j.absorbing) [] ts
-
-same_sides : (x y z w : Term) → equality x y ∷ [] ≡ equality z w ∷ [] → (x ≡ z) × (y ≡ w)
-same_sides x y z w e = (let f : x ≡ z = cc in f, let f : y ≡ w = cc in f)
 
 pub joining_is : (s : Table) (v : TermsView) (p : ℕ × ℕ) (j : Junction) (ts : List Term) (told : Bool) (is : StatesEquality s v p [] ts) → IsTrue told ↔ IsJoined j is.left is.right → IsTrue told ↔ MeetsUnder j ts
 joining_is s v p j ts told is test = (

@@ -1,11 +1,11 @@
 -- The terms of a list up to an item, by the references of the list.
-use Rattle.std.proofs.Common.{◌≡◌, ◌<◌, ◌≤◌, ◌+◌, ℕ, zero, suc, List, [], ◌∷◌, ◌++◌, length, get_or, take, Contains, inl, inr, All, sym, subst, arith}
+use Rattle.std.proofs.Common.{◌≡◌, ◌<◌, ◌≤◌, ◌+◌, ℕ, zero, suc, List, [], ◌∷◌, ◌++◌, length, get_or, take, Contains, inl, inr, sym, subst, arith}
 use Rattle.std.proofs.lemmas.List.{take_all, take_more}
-use Rattle.std.proofs.lemmas.List.Elements.{All-cons, All-head, All-tail, Contains-get_or}
+use Rattle.std.proofs.lemmas.List.Elements.{Contains-get_or}
 use Rattle.sym_table.specs.Table.{Table}
 use Rattle.term_model.specs.Terms.{Term, numeral}
-use Rattle.term_pool.specs.Views.{TermsView, IsTerm, RefersTo, ReferToAll}
-use Rattle.rule_model.proofs.Lists.{contains_none, contains_cases, contains_head, contains_later}
+use Rattle.term_model.proofs.Lists.{contains_none, contains_cases, contains_head, contains_later}
+use Rattle.term_pool.specs.Views.{TermsView, RefersTo, ReferToAll}
 use Rattle.schema_match.proofs.ReferLemmas.{refer_length, refer_at}
 
 pub contains_taken : (i : ℕ) (ts : List Term) (t : Term) → Contains (take i ts) t → Contains ts t
@@ -16,12 +16,6 @@ contains_taken (suc i) (u ∷ ts) t h =
       | inl e ↦ subst (Contains (u ∷ ts)) e (contains_head u ts)
       | inr later ↦ contains_later u t ts (contains_taken i ts t later)
     ]
-
--- references of terms are those of some
-pub refer_are_terms : (s : Table) (v : TermsView) (rs : List ℕ) (ts : List Term) → ReferToAll s v rs ts → All (IsTerm s v) rs
-refer_are_terms s v [] ts h = λ k d below. absurd (omega (arith, below))
-refer_are_terms s v (r ∷ rs) [] h = absurd h
-refer_are_terms s v (r ∷ rs) (t ∷ ts) h = All-cons (IsTerm s v) r rs (record { means = t; refers = h.0 }) (refer_are_terms s v rs ts h.1)
 
 module _ (s : Table) (v : TermsView) (rs : List ℕ) (ts : List Term) (refer : ReferToAll s v rs ts) where
   -- the term at a place
@@ -43,11 +37,3 @@ module _ (s : Table) (v : TermsView) (rs : List ℕ) (ts : List Term) (refer : R
 
   pub all_taken : (i : ℕ) → length rs ≤ i → take i ts ≡ ts
   all_taken i past = take_all i ts (let count = refer_length s v rs ts refer in omega (arith, past, count))
-
--- references that are terms stand for a list
-pub terms_of_references : (s : Table) (v : TermsView) (rs : List ℕ) → All (IsTerm s v) rs → (ts : List Term) × ReferToAll s v rs ts
-terms_of_references s v [] all = ([], tt)
-terms_of_references s v (r ∷ rs) all =
-    let first = All-head (IsTerm s v) r rs all in
-    let others = terms_of_references s v rs (All-tail (IsTerm s v) r rs all) in
-    (first.means ∷ others.0, (first.refers, others.1))

@@ -2,23 +2,18 @@
 use Rattle.std.proofs.Common.{◌≡◌, ◌≢◌, ◌↔◌, inl, inr, ◌≤◌, ◌<◌, ℕ, List, [], ◌∷◌, length, get_or, Bool, true, false, IsTrue, refl, sym, ap, ◌∙◌, subst, arith}
 use Rattle.sym_table.specs.Table.{Table}
 use Rattle.term_model.specs.declared.symbols.Op.{Op}
-use Rattle.term_model.specs.Terms.{Term, operation, terms_of, list_of}
+use Rattle.term_model.specs.Terms.{Term, operation, terms_of}
 use Rattle.term_pool.specs.Views.{TermsView, RefersTo, ReferToAll}
-use Rattle.rule_model.proofs.ArgumentLists.{list_of-terms_of}
+use Rattle.term_pool.proofs.References.{AreOne}
 use Rattle.rule_model.specs.Simplification.{IsOnceEach, StandsAs}
-use Rattle.schema_match.proofs.ReferLemmas.{AreOne, refer_length}
+use Rattle.rule_model.proofs.ArgumentLists.{same_arguments}
+use Rattle.schema_match.proofs.ReferLemmas.{refer_length}
 use Rattle.rules_simplify.specs.declared.joins.Junction.{Junction}
 use Rattle.rules_simplify.specs.Joins.{constant, AreWithout, AreOnceEach, IsShorter, Joins, IsJoined}
 use Rattle.rules_simplify.proofs.ListLemmas.{without_one, once_one}
 
 pub told_apart : (b : Bool) → b ≡ true → b ≡ false → ⊥
 told_apart b e f = cc
-
--- applications of an operator to lists
-pub same_lists : (op : Op) (ts us : List Term) → operation op (terms_of ts) ≡ operation op (terms_of us) → ts ≡ us
-same_lists op ts us e =
-    let inside : terms_of ts ≡ terms_of us = cc in
-    sym (list_of-terms_of ts) ∙ (ap list_of inside ∙ list_of-terms_of us)
 
 -- by one table references of the same terms are the same
 same_references : (s : Table) (v : TermsView) → AreOne s v → (ps qs : List ℕ) (ts : List Term) → ReferToAll s v ps ts → ReferToAll s v qs ts → ps ≡ qs
@@ -57,7 +52,7 @@ module _ (s : Table) (v : TermsView) (one : AreOne s v) (op : Op) (rs : List ℕ
         (let same = same_terms s v one rs us ts (subst (λ (l : List ℕ). ReferToAll s v l us) (test.0 e) others) refer in
         is ∙ ap (λ (l : List Term). operation op (terms_of l)) same),
     λ e.
-        (let same = same_lists op us ts (sym is ∙ e) in
+        (let same = same_arguments op us ts (sym is ∙ e) in
         test.1 (same_references s v one args rs ts (subst (ReferToAll s v args) same others) refer)),
   )
 
@@ -117,13 +112,13 @@ module _ (s : Table) (v : TermsView) (j : Junction) (ts : List Term) (t : Term) 
 pub joined_none : (j : Junction) (t u : Term) (told : Bool) → t ≡ constant j.op → IsTrue told ↔ Joins j [] u → IsTrue told ↔ IsJoined j t u
 joined_none j t u told is test = (
   λ e. record { arguments = []; is = is; joins = test.0 e },
-  λ h. test.1 (subst (λ (l : List Term). Joins j l u) (same_lists j.op h.arguments [] (sym h.is ∙ is)) h.joins),
+  λ h. test.1 (subst (λ (l : List Term). Joins j l u) (same_arguments j.op h.arguments [] (sym h.is ∙ is)) h.joins),
 )
 
 pub joined_some : (j : Junction) (t u : Term) (us : List Term) (told : Bool) → t ≡ operation j.op (terms_of us) → IsTrue told ↔ Joins j us u → IsTrue told ↔ IsJoined j t u
 joined_some j t u us told is test = (
   λ e. record { arguments = us; is = is; joins = test.0 e },
-  λ h. test.1 (subst (λ (l : List Term). Joins j l u) (same_lists j.op h.arguments us (sym h.is ∙ is)) h.joins),
+  λ h. test.1 (subst (λ (l : List Term). Joins j l u) (same_arguments j.op h.arguments us (sym h.is ∙ is)) h.joins),
 )
 
 pub joined_other : (j : Junction) (t u : Term) → t ≢ constant j.op → ((first : Term) (others : List Term) → t ≢ operation j.op (terms_of (first ∷ others))) → IsTrue false ↔ IsJoined j t u

@@ -5,7 +5,6 @@ pub mod ShorterLemmas
 pub mod NegationLemmas
 pub mod OpposedLemmas
 pub mod OpposedItems
-pub mod ViewLemmas
 pub mod JoinLemmas
 pub mod RowLemmas
 pub mod AskingLemmas

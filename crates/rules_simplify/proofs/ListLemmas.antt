@@ -1,7 +1,7 @@
 -- Lists of terms that are shortened: one more item behind, and no second result.
 use Rattle.std.proofs.Common.{◌≡◌, ◌≢◌, ◌⊎◌, inl, inr, List, [], ◌∷◌, ◌++◌, Contains, refl, sym, ◌∙◌, ap, subst}
-use Rattle.rule_model.proofs.Lists.{contains_none, contains_cases, contains_head, contains_later}
 use Rattle.term_model.specs.Terms.{Term}
+use Rattle.term_model.proofs.Lists.{contains_none, contains_cases, contains_head, contains_later}
 use Rattle.rule_model.specs.Simplification.{IsWithout, end, drop, keep, IsOnceEach, end_of, repeat, fresh}
 
 pub without_kept : (c : Term) (ts us : List Term) (t : Term) → t ≢ c → IsWithout c ts us → IsWithout c (ts ++ t ∷ []) (us ++ t ∷ [])

@@ -6,9 +6,10 @@ use Rattle.term_model.specs.declared.symbols.Op.{Op}
 use Rattle.term_model.specs.Terms.{Term, operation, term, no_terms, not_of}
 use Rattle.term_pool.specs.Reading.{arguments_of}
 use Rattle.term_pool.specs.Views.{TermsView, IsTerm, RefersTo}
+use Rattle.term_pool.proofs.References.{AreOne}
+use Rattle.rule_model.proofs.ArgumentLists.{same_inside}
 use Rattle.term_parts.specs.Parts.{IsOver, StandsUnder}
 use Rattle.term_parts.proofs.PartLemmas.{over_two}
-use Rattle.schema_match.proofs.ReferLemmas.{AreOne}
 use Rattle.rules_simplify.specs.Conjoined.{AreOperands}
 
 pub two_are_over : (op : Op) (t x y : Term) → t ≡ operation op (term x (term y no_terms)) → IsOver op 2 t
@@ -33,11 +34,7 @@ module _ (s : Table) (v : TermsView) (op : Op) (r : ℕ) (p : ℕ × ℕ) (are :
   pub second_is_term : IsTerm s v p.1
   second_is_term = let both = are is.means is.refers in record { means = both.second; refers = both.second_refers }
 
--- what a negation negates is one term
-inside_not : (t u : Term) → not_of t ≡ not_of u → t ≡ u
-inside_not t u e = cc
-
 pub negation_told : (s : Table) (v : TermsView) → AreOne s v → (inner r : ℕ) (t u : Term) (b : Bool) → StandsUnder s v inner t → RefersTo s v r u → IsTrue b ↔ (inner ≡ r) → IsTrue b ↔ (t ≡ not_of u)
 negation_told s v one inner r t u b under refers test =
     let same = one inner r under.inner u under.refers refers in
-    (λ e. under.is ∙ ap not_of (same.0 (test.0 e)), λ e. test.1 (same.1 (inside_not under.inner u (sym under.is ∙ e))))
+    (λ e. under.is ∙ ap not_of (same.0 (test.0 e)), λ e. test.1 (same.1 (same_inside under.inner u (sym under.is ∙ e))))

@@ -3,11 +3,11 @@ use Rattle.std.proofs.Common.{◌≡◌, ◌↔◌, ◌⊎◌, inl, inr, ◌+◌
 use Rattle.std.proofs.lemmas.List.Elements.{Contains-push, Contains-push_cases, Contains-append_left}
 use Rattle.sym_table.specs.Table.{Table}
 use Rattle.term_model.specs.Terms.{Term, not_of}
+use Rattle.term_model.proofs.Lists.{contains_none}
 use Rattle.term_pool.specs.Nots.{negated as nots_of, Strips}
 use Rattle.term_pool.specs.Views.{TermsView, RefersTo}
-use Rattle.rule_model.proofs.Lists.{contains_none}
+use Rattle.term_pool.proofs.References.{AreOne}
 use Rattle.rule_model.specs.Simplification.{negated, AreOpposed}
-use Rattle.schema_match.proofs.ReferLemmas.{AreOne}
 use Rattle.rules_simplify.specs.Joins.{AddsNumber, IsMetOtherwise}
 use Rattle.rules_simplify.proofs.NegationLemmas.{negated_is, nots_more, bare_of, one_strips, half, parity_even, parity_odd, even_count, odd_count}
 

@@ -1,6 +1,6 @@
 -- Applications on stacks, and rows that are tried on them.
 use Rattle.std.proofs.Common.{◌≡◌, ◌≢◌, ◌↔◌, inl, inr, ◌≤◌, ◌<◌, ◌+◌, ◌++◌, ℕ, suc, List, [], ◌∷◌, length, drop, take, get_or, map, reverse, Bool, true, false, IsTrue, Any, Option, Some, None, sym, ap, ◌∙◌, subst, add-one}
-use Rattle.std.proofs.lemmas.List.{reverse-reverse, map-append, take_more}
+use Rattle.std.proofs.lemmas.List.{map-append, take_more}
 use Rattle.std.proofs.lemmas.List.Elements.{Contains-get_or}
 use Rattle.sym_table.specs.Table.{Table}
 use Rattle.term_model.specs.Sorts.{IsWellSorted}
@@ -14,27 +14,24 @@ use Rattle.schema_match.specs.Matching.{parts_of, Fits, Matches}
 use Rattle.schema_match.specs.Stack.{StackOf, IsStack}
 use Rattle.schema_match.specs.declared.letters.Letters.{Letters}
 use Rattle.schema_match.proofs.ReferLemmas.{stack_push}
+use Rattle.schema_match.proofs.InstanceLemmas.{clause_stack}
 use Rattle.rules_simplify.specs.declared.rewrites.Application.{Application}
 use Rattle.rules_simplify.specs.declared.rewrites.Fit.{Fit}
 use Rattle.rules_simplify.specs.declared.tables.RowParts.{RowParts}
 use Rattle.rules_simplify.specs.Asking.{letters_asked, IsAsAsked, AreSortedLetters}
 use Rattle.rules_simplify.specs.Chains.{StandsForApplication, IsSomeAt, IsMissing, FitsBy, IsFirstRow}
 use Rattle.rules_simplify.specs.Tables.{root_of, patterns_in, IsRow, IsSomeRow, AreRows}
-use Rattle.rules_simplify.proofs.ChainLemmas.{row_at, rows_end, first_here, first_later, any_at, any_not_here, any_none}
+use Rattle.rules_simplify.proofs.ChainLemmas.{row_at, rows_end, first_here, first_later, any_at, any_not_here}
 use Rattle.rules_simplify.proofs.AskingLemmas.{asked_is, sorted_letters}
 use Rattle.rules_simplify.proofs.RowLemmas.{arguments_are, from_arguments, filled_is, other_op, no_arguments, fit_is, made_is, does_fit, rewrite_is}
-use Rattle.term_model.proofs.Basics.{any_here, any_cases}
-
--- a list on a stack, and one more item on top
-pub stack_of : (s : Table) (v : TermsView) (items list : List ℕ) (ts : List Term) → items ≡ reverse list → ReferToAll s v list ts → StackOf s v items ts
-stack_of s v items list ts e refer = subst (λ rs. ReferToAll s v rs ts) (sym (ap reverse e ∙ reverse-reverse list)) refer
+use Rattle.term_model.proofs.Basics.{any_here, any_cases, any_none}
 
 pub some_stack : (s : Table) (v : TermsView) (at : Application) (items : List ℕ) → items ≡ reverse at.arguments.items → IsSomeAt s v at → IsStack s v items
-some_stack s v at items e some = record { terms = some.is.arguments; refer = stack_of s v items at.arguments.items some.is.arguments e some.is.refer }
+some_stack s v at items e some = record { terms = some.is.arguments; refer = clause_stack s v items at.arguments.items some.is.arguments e some.is.refer }
 
 pub stack_under : (s : Table) (v : TermsView) (items new list : List ℕ) (r : ℕ) (u : Term) (ts : List Term) → items ≡ reverse list → new ≡ items ++ r ∷ [] → RefersTo s v r u → ReferToAll s v list ts → StackOf s v new (u ∷ ts)
 stack_under s v items new list r u ts e pushed refers refer =
-    subst (λ rs. StackOf s v rs (u ∷ ts)) (sym pushed) (stack_push s v items r u ts refers (stack_of s v items list ts e refer))
+    subst (λ rs. StackOf s v rs (u ∷ ts)) (sym pushed) (stack_push s v items r u ts refers (clause_stack s v items list ts e refer))
 
 pub some_stack_under : (s : Table) (v : TermsView) (at : Application) (items new : List ℕ) (r : ℕ) → items ≡ reverse at.arguments.items → new ≡ items ++ r ∷ [] → IsTerm s v r → IsSomeAt s v at → IsStack s v new
 some_stack_under s v at items new r e pushed term some =
@@ -49,7 +46,7 @@ module _ (s : Table) (v : TermsView) (table : List RewriteRow) (of : RewriteRow)
 
   module _ (letters : Letters) (items : List ℕ) (e : items ≡ reverse at.arguments.items) (test : (ps : List Pattern) (ts : List Term) → row.left.now ≡ parts_of ps → StackOf s v items ts → Matches s v letters ps ts) where
     matched : Matches s v letters (patterns_in of.left) here.arguments
-    matched = test (patterns_in of.left) here.arguments is.1 (stack_of s v items at.arguments.items here.arguments e here.refer)
+    matched = test (patterns_in of.left) here.arguments is.1 (clause_stack s v items at.arguments.items here.arguments e here.refer)
 
     agreed : (f : Letter → Term) → t ≡ fill f of.left → Agrees s v letters f
     agreed f fits = (matched.give f).0 (arguments_are of row.op at.op here.arguments t is.0 here.is f fits)
@@ -68,7 +65,7 @@ module _ (s : Table) (v : TermsView) (table : List RewriteRow) (of : RewriteRow)
 
   pub row_other : (items : List ℕ) → items ≡ reverse at.arguments.items → ((ps : List Pattern) (ts : List Term) → row.left.now ≡ parts_of ps → StackOf s v items ts → ¬ Fits ps ts) → ¬ FitsRow of t
   row_other items e test =
-      no_arguments of row.op at.op here.arguments t is.0 here.is (test _ here.arguments is.1 (stack_of s v items at.arguments.items here.arguments e here.refer))
+      no_arguments of row.op at.op here.arguments t is.0 here.is (test _ here.arguments is.1 (clause_stack s v items at.arguments.items here.arguments e here.refer))
 
   pub row_makes : (b : Bool) (items new : List ℕ) (r : ℕ) (u : Term) (f : Letter → Term) → items ≡ reverse at.arguments.items → new ≡ items ++ r ∷ [] → RefersTo s v r u → ((ps : List Pattern) (ts : List Term) → row.both.now ≡ parts_of ps → StackOf s v new ts → IsTrue b ↔ Fits ps ts) → t ≡ fill f of.left → IsTrue b ↔ (u ≡ fill f of.right)
   row_makes b items new r u f e pushed refers test fits =

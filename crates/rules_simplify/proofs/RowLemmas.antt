@@ -1,16 +1,17 @@
 -- Rows of tables: what a row makes is told by what it is made of, and is lighter.
-use Rattle.std.proofs.Common.{◌≡◌, ◌↔◌, inl, inr, ℕ, List, [], ◌∷◌, map, Bool, true, false, not, ◌&&◌, ◌||◌, IsTrue, Some, None, Contains, refl, sym, ap, ◌∙◌, subst}
+use Rattle.std.proofs.Common.{◌≡◌, ◌↔◌, inl, inr, ℕ, List, [], ◌∷◌, map, Bool, true, not, ◌&&◌, ◌||◌, IsTrue, Some, None, Contains, refl, sym, ap, ◌∙◌, subst}
+use Rattle.std.proofs.lemmas.Bool.{or_cases}
 use Rattle.term_model.specs.declared.symbols.Op.{Op}
 use Rattle.term_model.specs.declared.symbols.Sort.{Sort}
 use Rattle.term_model.specs.Sorts.{IsOf, AreOf, IsWellSorted}
 use Rattle.term_model.specs.Terms.{Term, numeral, operation, no_terms, term, terms_of}
-use Rattle.term_model.proofs.Basics.{and-left, and-right}
-use Rattle.rule_model.proofs.Lists.{contains_none, contains_cases}
-use Rattle.rule_model.proofs.TruthTables.{or_cases}
+use Rattle.term_model.proofs.Basics.{and-left, and-right, not_both}
+use Rattle.term_model.proofs.Lists.{contains_none, contains_cases}
 use Rattle.rule_model.specs.declared.letter.Letter.{Letter}
 use Rattle.rule_model.specs.Rewriting.{RewriteRow, PassesGuard, Rewrites, FitsRow, IsFirstFit}
 use Rattle.rule_model.specs.Schemas.{Pattern, letter, constant, unary, binary, ternary, fill}
 use Rattle.rule_model.specs.TermTests.{op_eq}
+use Rattle.rule_model.proofs.ArgumentLists.{same_arguments}
 use Rattle.std.specs.Bool.{⊤}
 use Rattle.std.specs.List.{AllByRecursion}
 use Rattle.sym_table.specs.Table.{Table}
@@ -18,9 +19,9 @@ use Rattle.term_pool.specs.Views.{TermsView, RefersTo, ReferToAll}
 use Rattle.schema_match.specs.Letters.{slot, Agrees, IsSettledAt}
 use Rattle.schema_match.specs.Matching.{Fits, Matches}
 use Rattle.schema_match.specs.declared.letters.Letters.{Letters}
+use Rattle.schema_match.proofs.Steps.{with_term}
 use Rattle.rules_simplify.specs.Chains.{FitsBy}
 use Rattle.rules_simplify.specs.Tables.{root_of, patterns_in, same_letter, has_letter, has_letters_of, may_be, is_last}
-use Rattle.rules_simplify.proofs.JoinLemmas.{same_lists}
 
 same_letters : (l m : Letter) → same_letter l m ≡ true → l ≡ m
 same_letters Letter.A Letter.A e = refl
@@ -117,7 +118,7 @@ module _ (row : RewriteRow) (op at_op : Op) (ts : List Term) (t : Term) (root : 
 
   pub arguments_are : (f : Letter → Term) → t ≡ fill f row.left → ts ≡ map (fill f) (patterns_in row.left)
   arguments_are f e =
-      same_lists at_op ts (map (fill f) (patterns_in row.left))
+      same_arguments at_op ts (map (fill f) (patterns_in row.left))
       (sym is ∙ (e ∙ (filled_is f row.left op root ∙ ap (λ o. operation o (terms_of (map (fill f) (patterns_in row.left)))) (op_is f e))))
 
   pub from_arguments : op ≡ at_op → (f : Letter → Term) → ts ≡ map (fill f) (patterns_in row.left) → t ≡ fill f row.left
@@ -161,14 +162,6 @@ rewrite_is s v letters row t u told fits = (
   λ r. r.to ∙ right_told r.terms fits.terms row.left row.right told (sym r.from ∙ (fits.gives fits.terms).1 fits.agrees),
   λ e. record { terms = fits.terms; from = (fits.gives fits.terms).1 fits.agrees; to = e; passes = fits.passes },
 )
-
--- a letter that the left side has is settled
-abbrev with_term : (Letter → Term) → Letter → Term → Letter → Term
-with_term f Letter.A t Letter.A = t
-with_term f Letter.B t Letter.B = t
-with_term f Letter.C t Letter.C = t
-with_term f Letter.D t Letter.D = t
-with_term f _ t m = f m
 
 at_letter : (f : Letter → Term) (l : Letter) (t : Term) → with_term f l t l ≡ t
 at_letter f Letter.A t = refl
@@ -307,10 +300,6 @@ module _ (f g : Letter → Term) where
       both_true (op_eq op o) (may_be p q && (may_be p2 q2 && may_be p3 q3)) (one_op op o cc)
       (both_true (may_be p q) (may_be p2 q2 && may_be p3 q3) (one_term p q cc)
       (both_true (may_be p2 q2) (may_be p3 q3) (one_term p2 q2 cc) (one_term p3 q3 cc)))
-
-not_both : (x : Bool) → not x ≡ true → x ≡ true → ⊥
-not_both true e f = cc
-not_both false e f = cc
 
 pub last_fits_none : (rows : List RewriteRow) (p : Pattern) (f : Letter → Term) → is_last rows p ≡ true → (u : Term) → ¬ IsFirstFit rows (fill f p) u
 last_fits_none [] p f e u h = h

@@ -1,15 +1,10 @@
 -- Sets of numbers by the lists of what they have.
-use Rattle.std.proofs.Common.{◌≡◌, ◌↔◌, inl, inr, ℕ, List, [], ◌∷◌, ◌++◌, Bool, true, false, not, nat_eq, cond, refl, sym, subst, Contains}
+use Rattle.std.proofs.Common.{◌≡◌, inl, inr, ℕ, List, [], ◌∷◌, ◌++◌, Bool, true, false, not, nat_eq, cond, refl, sym, subst, Contains}
 use Rattle.std.specs.List.{list_any}
-use Rattle.std.specs.Cmp.{nat_eq_equiv}
-use Rattle.std.proofs.lemmas.Bool.{eqb-true}
 use Rattle.std.proofs.lemmas.List.Elements.{Contains-push, Contains-push_cases, Contains-append_left}
-use Rattle.std.proofs.lemmas.Map.Views.{list_any-from_Contains, Contains-from_any}
 use Rattle.indexmap.specs.IndexSet.{insert_key}
+use Rattle.term_model.proofs.Lists.{has_number}
 use Rattle.rules_simplify.specs.Joins.{IsMet, AddsNumber}
-
-pub has_number : (ks : List ℕ) (k : ℕ) → (list_any (nat_eq k) ks ≡ true) ↔ Contains ks k
-has_number ks k = (λ e. Contains-from_any (λ x y f. eqb-true x y f) k ks e, λ h. list_any-from_Contains nat_eq_equiv k ks h)
 
 pub met_is : (old new : List ℕ) (k r : ℕ) (b : Bool) → k ≡ r → b ≡ not (list_any (nat_eq k) old) → new ≡ insert_key nat_eq old k → IsMet old new r b
 met_is old new k r b e f g = subst (λ q. IsMet old new q b) e (go (list_any (nat_eq k) old) refl f g)

@@ -4,13 +4,14 @@ use Rattle.std.proofs.lemmas.List.Elements.{Contains-push_cases}
 use Rattle.sym_table.specs.Table.{Table}
 use Rattle.term_model.specs.declared.symbols.Op.{Op}
 use Rattle.term_model.specs.Terms.{Term, operation, no_terms}
+use Rattle.term_model.proofs.Lists.{contains_none}
 use Rattle.term_parts.specs.Parts.{IsOver}
 use Rattle.term_pool.specs.Views.{TermsView, RefersTo, ReferToAll}
-use Rattle.rule_model.proofs.Lists.{contains_none}
+use Rattle.term_pool.proofs.References.{AreOne}
 use Rattle.rule_model.specs.Simplification.{IsWithout, end, end_of}
 use Rattle.schema_match.proofs.Counts.{none}
 use Rattle.schema_match.proofs.OverLemmas.{over_term, is_over}
-use Rattle.schema_match.proofs.ReferLemmas.{AreOne, refer_append, contains_terms, contains_references}
+use Rattle.schema_match.proofs.ReferLemmas.{refer_append, contains_terms, contains_references}
 use Rattle.rules_simplify.specs.Joins.{constant, AreWithout, AreOnceEach, IsMet}
 use Rattle.rules_simplify.proofs.ItemLemmas.{item, item_refers, one_more, item_there, all_taken}
 use Rattle.rules_simplify.proofs.ListLemmas.{without_kept, without_dropped, once_again, once_first}

@@ -4,7 +4,7 @@ use Rattle.sym_table.specs.Table.{Table}
 use Rattle.term_model.specs.declared.symbols.Op.{Op}
 use Rattle.term_model.specs.Terms.{Term}
 use Rattle.term_pool.specs.Views.{TermsView, RefersTo, ReferToAll}
-use Rattle.schema_match.proofs.ReferLemmas.{AreOne}
+use Rattle.term_pool.proofs.References.{AreOne}
 use Rattle.rules_simplify.specs.Conjoined.{AreOperands, conjunction, conjoined}
 use Rattle.rules_simplify.proofs.ConjoinedLemmas.{conjoined_last, LastOf, last_of}
 

@@ -5,9 +5,10 @@ use Rattle.term_model.specs.declared.symbols.Op.{Op}
 use Rattle.term_model.specs.Terms.{Term}
 use Rattle.term_pool.specs.Decoding.{HasTermsAt}
 use Rattle.term_pool.specs.Views.{TermsView, RefersTo, ReferToAll}
+use Rattle.term_pool.proofs.References.{AreOne}
 use Rattle.rule_model.specs.Rewriting.{IsReached}
 use Rattle.rule_model.specs.Simplification.{bool_simplify}
-use Rattle.schema_match.proofs.ReferLemmas.{AreOne, refer_append}
+use Rattle.schema_match.proofs.ReferLemmas.{refer_append}
 use Rattle.rules_simplify.specs.declared.conjoining.FromConjunction.{FromConjunction}
 use Rattle.rules_simplify.specs.Chains.{heaviness, all_heaviness, terms_at}
 use Rattle.rules_simplify.specs.Conjoined.{AreOperands, conjunction, implication_of, conjoined, IsFrom}

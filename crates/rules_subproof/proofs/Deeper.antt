@@ -1,12 +1,12 @@
 -- The scope that a step closes stands deeper than the one to which the step belongs.
 use Rattle.std.proofs.Common.{◌≡◌, ◌<◌, ◌≤◌, ◌++◌, ℕ, slice_get, Option, Some, None, refl, sym, ◌∙◌, arith}
 use Rattle.std.specs.List.{AllByRecursion}
+use Rattle.term_model.proofs.Lists.{all_joined}
 use Rattle.rule_model.specs.Commands.{IndexedCommand, assume, step, closing, Line, lines_in, around_number, own_scope, closed_scope}
 use Rattle.rule_model.specs.Proofs.{Step, ProofItems, no_items, with_assume, with_step, with_subproof}
 use Rattle.rule_model.specs.Reading.{closes_at, scope_at}
 use Rattle.rule_model.specs.Scopes.{Nesting, outermost, inner, scope_number}
 use Rattle.rule_model.proofs.LineReading.{closes_is, none_closes, scope_is}
-use Rattle.rule_model.proofs.ReplacementLists.{all_joined}
 use Rattle.rule_model.proofs.ScopeRanges.{together}
 use Rattle.rule_model.proofs.Standing.{all_at}
 

@@ -1,10 +1,11 @@
 -- What a step discharges are assumes before it, whose clauses are one literal.
-use Rattle.std.proofs.Common.{◌≡◌, ◌<◌, ◌+◌, ℕ, List, [], ◌∷◌, ◌++◌, length, take, slice_get, Option, Some, None, Contains, refl, sym, ◌∙◌, ap, subst, arith}
+use Rattle.std.proofs.Common.{◌≡◌, ◌<◌, ◌+◌, ℕ, List, [], ◌∷◌, ◌++◌, take, slice_get, Option, Some, None, Contains, refl, sym, ◌∙◌, ap, subst, arith}
 use Rattle.std.specs.List.{AllByRecursion}
 use Rattle.std.proofs.lemmas.List.{append_assoc}
 use Rattle.std.proofs.lemmas.List.Elements.{All-contains, All-from_recursion}
 use Rattle.std.proofs.lemmas.Option.{slice_get_within, slice_get-map}
 use Rattle.std.specs.Option.{option_map, option_map_or}
+use Rattle.term_model.proofs.Lists.{slice_get-left, slice_get-last, all_joined}
 use Rattle.rule_model.specs.Proofs.{ProofItems, no_items, with_assume, with_step, with_subproof}
 use Rattle.rule_model.specs.Scopes.{Nesting, outermost, inside, at, inner, commands_in, first_index}
 use Rattle.rule_model.specs.Commands.{IndexedCommand, assume, step, closing, Line, Entry, entry_of, lines_in, lines_around, lines_to}
@@ -15,13 +16,7 @@ use Rattle.rule_model.specs.Writing.{MayAddHere}
 use Rattle.rule_model.proofs.LineReading.{clause_is, discharged_are}
 use Rattle.rule_model.proofs.Lines.{lines_before}
 use Rattle.rule_model.proofs.Numbers.{lines_count}
-use Rattle.rule_model.proofs.ReplacementLists.{all_joined}
-use Rattle.rule_model.proofs.Sights.{slice_get_more}
 use Rattle.rule_model.proofs.Standing.{command_may, slice_get_taken, taken_few}
-
-slice_get_last : {X : Type 0} (xs : List X) (x : X) → slice_get (xs ++ x ∷ []) (length xs) ≡ Some x
-slice_get_last [] x = refl
-slice_get_last (y ∷ xs) x = slice_get_last xs x
 
 module _ {V T : Type 0} where
   -- the line at an index is an assume
@@ -36,7 +31,7 @@ module _ {V T : Type 0} where
   more lines others next [] e h = tt
   more lines others next (j ∷ js) e h =
       let first = h.0 in
-      (record { line = first.line; there = rw e (slice_get_more lines others j first.line first.there); id = first.id; term = first.term; is = first.is }, more lines others next js e h.1)
+      (record { line = first.line; there = rw e (slice_get-left lines others j first.line first.there); id = first.id; term = first.term; is = first.is }, more lines others next js e h.1)
 
   assume_lines : (nesting : Nesting V T) (items : ProofItems V T) → AllByRecursion (IsAssumeLine (lines_around nesting ++ lines_in nesting items)) (assumes_in nesting items)
   assume_lines nesting no_items = tt
@@ -44,7 +39,7 @@ module _ {V T : Type 0} where
       let l : Line V T = record { scope = at nesting items; command = assume id t } in
       let lines = lines_around nesting ++ lines_in nesting items in
       let join = sym (append_assoc (lines_around nesting) (lines_in nesting items) (l ∷ [])) in
-      let place : slice_get (lines ++ l ∷ []) (first_index nesting + commands_in items) ≡ Some l = subst (λ k. slice_get (lines ++ l ∷ []) k ≡ Some l) (lines_count (at nesting items)) (slice_get_last lines l) in
+      let place : slice_get (lines ++ l ∷ []) (first_index nesting + commands_in items) ≡ Some l = subst (λ k. slice_get (lines ++ l ∷ []) k ≡ Some l) (lines_count (at nesting items)) (slice_get-last lines l) in
       all_joined _ (assumes_in nesting items) _ (more lines (l ∷ []) _ (assumes_in nesting items) join (assume_lines nesting items))
       (record { line = l; there = rw join place; id = id; term = t; is = refl }, tt)
   assume_lines nesting (with_step items s) =

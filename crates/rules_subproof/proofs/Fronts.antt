@@ -1,5 +1,5 @@
 -- Clauses that begin with negations.
-use Rattle.std.proofs.Common.{◌≡◌, ◌<◌, ◌≤◌, ◌++◌, ℕ, zero, suc, List, [], ◌∷◌, map, flat_map, length, drop, slice_index_or, refl, sym, ◌∙◌, ap, arith}
+use Rattle.std.proofs.Common.{◌≡◌, ◌<◌, ◌≤◌, ◌++◌, ℕ, zero, suc, List, [], ◌∷◌, map, flat_map, length, slice_index_or, refl, sym, ◌∙◌, ap, arith}
 use Rattle.std.specs.List.{AllByRecursion}
 use Rattle.term_model.specs.Terms.{Term, not_of}
 use Rattle.rules_subproof.specs.Fronts.{HasFront}
@@ -59,8 +59,3 @@ module _ (f : ℕ → List Term) where
       none e = cc
   front_fits (d ∷ ds) (l ∷ ls) units front =
       let ih = front_fits ds ls units.1 (split d ds units.0.0 l ls units.0.1 front).1 in omega arith
-
--- what is behind a front
-pub behind : {X : Type 0} (front rest : List X) → drop (length front) (front ++ rest) ≡ rest
-behind [] rest = refl
-behind (x ∷ front) rest = behind front rest

@@ -1,5 +1,6 @@
 -- How what a let binds its variables to differs from what an anchor does, looked at place by place.
 use Rattle.std.proofs.Common.{◌≡◌, ◌≢◌, ◌≤◌, ◌+◌, ◌↔◌, inl, inr, ℕ, zero, suc, List, [], ◌∷◌, map, drop, length, refl, sym, ap, subst, arith}
+use Rattle.std.proofs.lemmas.List.{drop_all}
 use Rattle.std.specs.List.{AllZip}
 use Rattle.sym_table.specs.Table.{Table}
 use Rattle.term_model.specs.Flips.{equality}
@@ -9,7 +10,6 @@ use Rattle.rule_model.specs.Congruence.{AreDifferences}
 use Rattle.rule_model.specs.Proofs.{ProofItems}
 use Rattle.term_pool.specs.Bindings.{IsBindingOf}
 use Rattle.rules_subproof.specs.Lets.{clauses_at}
-use Rattle.rules_subproof.proofs.Rests.{drop_past}
 
 abbrev pub images_of : List (Var × Term) → List Term
 images_of bound = map (λ (b : Var × Term). b.1) bound
@@ -44,7 +44,7 @@ module _ (s : Table) (v : TermsView) where
 
   pub left_end : (asked : List Term → List Term → Type 0) (values : List ℕ) (anchor : List (ℕ × ℕ)) (k : ℕ) (goal : Type 0) → length values ≤ k → length anchor ≤ k → IsLeft asked (drop k values) (drop k anchor) goal → IsLeft asked [] [] goal
   left_end asked values anchor k goal past beyond h =
-      subst (λ xs. IsLeft asked xs [] goal) (drop_past k values past) (subst (λ pairs. IsLeft asked (drop k values) pairs goal) (drop_past k anchor beyond) h)
+      subst (λ xs. IsLeft asked xs [] goal) (drop_all k values past) (subst (λ pairs. IsLeft asked (drop k values) pairs goal) (drop_all k anchor beyond) h)
 
   -- what is asked of the first value and the anchor's first term, and of the others
   record IsSplit (asked : List Term → List Term → Type 0) (x : ℕ) (xs : List ℕ) (a : ℕ × ℕ) (pairs : List (ℕ × ℕ)) (goal : Type 0) : Type 0 where

@@ -1,7 +1,7 @@
 -- The table of the sides of premises.
-use Rattle.std.proofs.Common.{◌≡◌, ◌≢◌, ◌↔◌, ◌⊎◌, ◌<◌, ◌+◌, inl, inr, ℕ, Bool, true, false, ◌&&◌, ◌||◌, cond, List, [], ◌∷◌, ◌++◌, take, length, get_or, Contains, IsTrue, Decides, refl, sym, ◌∙◌, ap, subst}
+use Rattle.std.proofs.Common.{◌≡◌, ◌≢◌, ◌↔◌, ◌⊎◌, ◌<◌, ◌+◌, inl, inr, ℕ, Bool, true, false, ◌||◌, cond, List, [], ◌∷◌, ◌++◌, take, length, get_or, Contains, IsTrue, Decides, refl, sym, ◌∙◌, ap, subst}
 use Rattle.std.specs.List.{AllZip, list_any}
-use Rattle.std.proofs.lemmas.Bool.Decides.{Decides-eqb}
+use Rattle.std.proofs.lemmas.Bool.Decides.{Decides-eqb, Decides-and}
 use Rattle.std.proofs.lemmas.List.{map-append, take_more}
 use Rattle.std.proofs.lemmas.List.Elements.{Contains-append_left, Contains-push, Contains-push_cases}
 use Rattle.indexmap.proofs.CallerLemmas.{Contains-list_any}
@@ -9,31 +9,26 @@ use Rattle.indexmap.specs.IndexSet.{insert_key}
 use Rattle.sym_table.specs.Table.{Table}
 use Rattle.term_model.specs.Flips.{equality}
 use Rattle.term_model.specs.Terms.{Var, Term}
+use Rattle.term_model.proofs.Lists.{contains_none, contains_cases}
 use Rattle.term_pool.specs.Views.{TermsView, RefersTo}
 use Rattle.rule_model.specs.Congruence.{AreSides}
 use Rattle.rule_model.specs.Proofs.{ProofItems}
 use Rattle.rule_model.specs.Reading.{clause_at}
-use Rattle.rule_model.proofs.Lists.{contains_none, contains_cases}
+use Rattle.rule_model.proofs.ArgumentLists.{same_sides}
 use Rattle.term_pool.specs.Bindings.{IsBindingOf}
 use Rattle.rules_subproof.specs.contracts.sides.SidesPartialEq.TheImpl as tables
 use Rattle.rules_subproof.specs.declared.sides.Sides.{Sides}
 use Rattle.rules_subproof.specs.Lets.{IsUnitOf, IsEqualBy, clauses_at}
 use Rattle.rules_subproof.specs.SideTables.{sides_are, AddsSides, TellsSides, AreOneBy, IsBoundTo}
 use Rattle.rules_subproof.proofs.Linking.{images_of}
-use Rattle.rules_subproof.proofs.UnitClauses.{unit_parts, both_same}
-
--- The derived `==` of sides is equality.
-Decides-both : {P Q : Type 0} (a b : Bool) → Decides a P → Decides b Q → Decides (a && b) (P × Q)
-Decides-both true true p q = (λ h. (p.0 refl, q.0 refl), λ h. refl)
-Decides-both true false p q = (λ h. cc, λ h. q.1 h.1)
-Decides-both false b p q = (λ h. cc, λ h. p.1 h.0)
+use Rattle.rules_subproof.proofs.UnitClauses.{both_same}
 
 sides_same : (x y : Sides) → x.left ≡ y.left → x.right ≡ y.right → x ≡ y
 sides_same x y e f = λ i. record { left = e i; right = f i }
 
 pub Decides-sides : (x y : Sides) → Decides ((tables.ghosts).eq x y) (x ≡ y)
 Decides-sides x y =
-    let both = Decides-both _ _ (Decides-eqb x.left y.left) (Decides-eqb x.right y.right) in
+    let both = Decides-and _ _ (Decides-eqb x.left y.left) (Decides-eqb x.right y.right) in
     (λ h. let e = both.0 h in sides_same x y e.0 e.1, λ h. both.1 (ap (λ (z : Sides). z.left) h, ap (λ (z : Sides). z.right) h))
 
 -- a test of each item finds those that are there
@@ -147,12 +142,12 @@ module _ (s : Table) (v : TermsView) where
       where
         same_pair : (a b : ℕ) (t u : Term) → RefersTo s v a t → RefersTo s v b u → c ≡ equality t u ∷ [] → sides_are p.0 p.1 ≡ sides_are a b
         same_pair a b t u l r e =
-            let parts = unit_parts (sym unit.is ∙ e) in
+            let parts = same_sides _ _ _ _ (sym unit.is ∙ e) in
             sides_same (sides_are p.0 p.1) (sides_are a b) ((equal p.0 a unit.left t unit.left_refers l).1 parts.0) ((equal p.1 b unit.right u unit.right_refers r).1 parts.1)
 
         turned_pair : (a b : ℕ) (t u : Term) → RefersTo s v a t → RefersTo s v b u → c ≡ equality u t ∷ [] → sides_are p.1 p.0 ≡ sides_are a b
         turned_pair a b t u l r e =
-            let parts = unit_parts (sym unit.is ∙ e) in
+            let parts = same_sides _ _ _ _ (sym unit.is ∙ e) in
             sides_same (sides_are p.1 p.0) (sides_are a b) ((equal p.1 a unit.right t unit.right_refers l).1 parts.1) ((equal p.0 b unit.left u unit.left_refers r).1 parts.0)
 
     -- what a let binds its variables to is linked with what an anchor does exactly where the references are

@@ -1,5 +1,6 @@
 -- The condition of subproof over terms, by what is read of references.
 use Rattle.std.proofs.Common.{◌≡◌, ◌↔◌, ℕ, List, [], ◌∷◌, length, drop, Some, Contains, refl, sym, ◌∙◌, ap, subst}
+use Rattle.std.proofs.Math.Seq.{drop-append_seam}
 use Rattle.std.specs.List.{AllZip}
 use Rattle.term_model.specs.Terms.{Var, Term}
 use Rattle.rule_model.specs.Closings.{IsAssumeIn, AllDischarged, negations, IsEnding, IsSubproof}
@@ -7,7 +8,6 @@ use Rattle.rule_model.specs.Proofs.{ProofItems}
 use Rattle.rule_model.specs.Reading.{rule_at, clause_at, premises_at, discharged_at, scope_at, bindings_at, last_inside_at}
 use Rattle.rule_model.specs.RuleNames.{is_assume}
 use Rattle.rules_subproof.specs.Fronts.{HasFront}
-use Rattle.rules_subproof.proofs.Fronts.{behind}
 
 -- lists in step are empty together
 pub empty_too : {A B : Type 0} (R : A → B → Type 0) (xs : List A) (ys : List B) → AllZip R xs ys → (xs ≡ []) ↔ (ys ≡ [])
@@ -23,11 +23,11 @@ module _ (refs : ProofItems ℕ ℕ) (of : ProofItems Var Term) (i k : ℕ) (sco
     λ all j a. subst (λ ds. Contains ds j) (sym discharged) (all j (record { before = a.before; scope = sym (scope j) ∙ a.scope; assume = ap is_assume (sym (rule j)) ∙ a.assume })),
   )
 
--- the clause is the negations, and an ending behind them
+-- the clause is the negations, and an ending drop-append_seam them
 module _ (of : ProofItems Var Term) (i k last place : ℕ) (is_last : last_inside_at of k ≡ Some last) (count : length (negations of i) ≡ place) where
   pub makes_subproof : bindings_at of k ≡ [] → premises_at of i ≡ [] → AllDischarged of i k → HasFront (negations of i) (clause_at of i) → IsEnding (clause_at of last) (drop place (clause_at of i)) → IsSubproof of i k
   makes_subproof none no_premises all front ending =
-      let rest : drop place (clause_at of i) ≡ front.rest = subst (λ n. drop n (clause_at of i) ≡ front.rest) count (ap (drop (length (negations of i))) front.is ∙ behind (negations of i) front.rest) in
+      let rest : drop place (clause_at of i) ≡ front.rest = subst (λ n. drop n (clause_at of i) ≡ front.rest) count (ap (drop (length (negations of i))) front.is ∙ drop-append_seam (negations of i) front.rest) in
       record {
         no_bindings = none;
         no_premises = no_premises;
@@ -44,7 +44,7 @@ module _ (of : ProofItems Var Term) (i k last place : ℕ) (is_last : last_insid
 
   pub ending_of_subproof : IsSubproof of i k → IsEnding (clause_at of last) (drop place (clause_at of i))
   ending_of_subproof h =
-      let rest : drop place (clause_at of i) ≡ h.end = subst (λ n. drop n (clause_at of i) ≡ h.end) count (ap (drop (length (negations of i))) h.clause ∙ behind (negations of i) h.end) in
+      let rest : drop place (clause_at of i) ≡ h.end = subst (λ n. drop n (clause_at of i) ≡ h.end) count (ap (drop (length (negations of i))) h.clause ∙ drop-append_seam (negations of i) h.end) in
       let same : h.ends.last ≡ last = some_same (sym h.ends.is_last ∙ is_last) in
       let inner : h.inner ≡ clause_at of last = sym h.ends.clause_is ∙ ap (clause_at of) same in
       subst (λ c. IsEnding c (drop place (clause_at of i))) inner (subst (IsEnding h.inner) (sym rest) h.ending)

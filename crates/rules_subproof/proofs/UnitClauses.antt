@@ -1,27 +1,21 @@
 -- Clauses that are one equality.
-use Rattle.std.proofs.Common.{◌≡◌, ◌≢◌, ◌↔◌, ℕ, List, [], ◌∷◌, length, slice_index_or, Option, Some, None, IfNone, sym, ◌∙◌, ap, arith}
+use Rattle.std.proofs.Common.{◌≡◌, ◌≢◌, ◌↔◌, ℕ, List, [], ◌∷◌, length, slice_index_or, sym, ◌∙◌, ap, arith}
 use Rattle.std.specs.List.{AllZip}
 use Rattle.sym_table.specs.Table.{Table}
 use Rattle.term_model.specs.Flips.{equality}
 use Rattle.term_model.specs.Terms.{Term}
 use Rattle.term_pool.specs.Views.{TermsView, RefersTo}
 use Rattle.rule_model.specs.Clausal.{as_it_stands}
+use Rattle.rule_model.proofs.ArgumentLists.{same_sides}
 use Rattle.term_parts.specs.Parts.{AreSidesOf}
 use Rattle.rules_subproof.specs.Lets.{IsUnitOf}
 use Rattle.term_model.proofs.Zips.{zip_length}
 use Rattle.rules_subproof.proofs.Zips.{zip_one}
 
-pub none_then : {X : Type 0} {P Q : Type 0} (o : Option X) → IfNone o P → (P → Q) → IfNone o Q
-none_then None h f = f h
-none_then (Some x) h f = tt
-
 only_one : (rs : List ℕ) (l : ℕ) → length rs ≡ 1 → l ≡ slice_index_or rs 0 l → rs ≡ l ∷ []
 only_one [] l one is = absurd (omega arith)
 only_one (r ∷ []) l one is = ap (λ x. x ∷ []) (sym is)
 only_one (r ∷ q ∷ rs) l one is = absurd (omega arith)
-
-pub unit_parts : {a b x y : Term} → equality a b ∷ [] ≡ equality x y ∷ [] → (a ≡ x) × (b ≡ y)
-unit_parts e = (cc, cc)
 
 module _ (s : Table) (v : TermsView) where
   pub many_are_no_unit : (rs : List ℕ) (ts : List Term) (t u : Term) → ¬ (length rs ≡ 1) → AllZip (RefersTo s v) rs ts → ts ≢ equality t u ∷ []
@@ -51,10 +45,10 @@ module _ (s : Table) (v : TermsView) where
   -- two references are the sides exactly where they stand for the two terms
   module _ (equal : (p q : ℕ) (t u : Term) → RefersTo s v p t → RefersTo s v q u → (p ≡ q) ↔ (t ≡ u)) (p : ℕ × ℕ) (left right : ℕ) (t u : Term) (ts : List Term) (unit : IsUnitOf s v p ts) (l : RefersTo s v left t) (r : RefersTo s v right u) where
     pub first_same : ts ≡ equality t u ∷ [] → p.0 ≡ left
-    first_same e = (equal p.0 left unit.left t unit.left_refers l).1 (unit_parts (sym unit.is ∙ e)).0
+    first_same e = (equal p.0 left unit.left t unit.left_refers l).1 (same_sides _ _ _ _ (sym unit.is ∙ e)).0
 
     pub second_same : ts ≡ equality t u ∷ [] → p.1 ≡ right
-    second_same e = (equal p.1 right unit.right u unit.right_refers r).1 (unit_parts (sym unit.is ∙ e)).1
+    second_same e = (equal p.1 right unit.right u unit.right_refers r).1 (same_sides _ _ _ _ (sym unit.is ∙ e)).1
 
     pub both_same : p.0 ≡ left → p.1 ≡ right → ts ≡ equality t u ∷ []
     both_same e f =

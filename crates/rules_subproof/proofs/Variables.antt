@@ -1,8 +1,7 @@
 -- The variables of a let and those that an anchor binds.
-use Rattle.std.proofs.Common.{◌≡◌, ◌↔◌, ℕ, List, [], ◌∷◌, map, All, Some, refl, sym, ◌∙◌, ap, subst}
+use Rattle.std.proofs.Common.{◌≡◌, ◌↔◌, ℕ, List, [], ◌∷◌, map, All, refl, ◌∙◌, ap, subst}
 use Rattle.std.specs.List.{AllZip, AllByRecursion}
 use Rattle.std.proofs.lemmas.List.Elements.{All-from_recursion, recursion_from_All}
-use Rattle.sym_table.specs.Leaf as Leaf
 use Rattle.sym_table.specs.Table.{Table, IsTable, IsLeaf}
 use Rattle.term_model.specs.FreeVariables.{IsFree, variables_of, bound_terms}
 use Rattle.term_model.specs.Terms.{Var, Term, Bindings, no_bindings, binding}
@@ -10,6 +9,7 @@ use Rattle.term_pool.specs.Building.{AreBindings}
 use Rattle.term_pool.specs.StandsFor.{variable_leaf}
 use Rattle.term_pool.specs.Views.{TermsView, RefersTo}
 use Rattle.term_pool.specs.Bindings.{IsBindingOf}
+use Rattle.term_pool.proofs.Leaves.{one_variable, one_leaf}
 use Rattle.rules_subproof.specs.Lets.{AreLeavesOf}
 
 -- the leaves that are left, and what is asked of their variables
@@ -46,15 +46,6 @@ module _ (s : Table) (t : Term) where
       go [] leaves same = same.0 tt
       go (x ∷ xs) leaves same = absurd leaves
 
-variable_same : (x y : Var) → variable_leaf x ≡ variable_leaf y → x ≡ y
-variable_same x y e = λ i. record { name = names e i; sort = sorts e i }
-  where
-    names : variable_leaf x ≡ variable_leaf y → x.name ≡ y.name
-    names e = cc
-
-    sorts : variable_leaf x ≡ variable_leaf y → x.sort ≡ y.sort
-    sorts e = cc
-
 module _ (s : Table) (v : TermsView) where
   pub leaves_of : (ks rs : List ℕ) (bs : Bindings) → AreBindings s v ks rs bs → AreLeavesOf s ks (variables_of bs)
   leaves_of [] [] no_bindings h = tt
@@ -74,16 +65,6 @@ module _ (s : Table) (v : TermsView) where
 
   -- an anchor binds the same leaves exactly where it binds the same variables
   module _ (table : IsTable s) where
-    variable_of_leaf : (k : ℕ) (x y : Var) → IsLeaf s k (variable_leaf x) → IsLeaf s k (variable_leaf y) → x ≡ y
-    variable_of_leaf k x y h i = variable_same x y (somes (sym h ∙ i))
-      where
-        somes : {X : Type 0} {a b : X} → Some a ≡ Some b → a ≡ b
-        somes e = cc
-
-    leaf_of_variable : (j k : ℕ) (x y : Var) → IsLeaf s j (variable_leaf x) → IsLeaf s k (variable_leaf y) → x ≡ y → j ≡ k
-    leaf_of_variable j k x y h i e =
-        table.apart j k (variable_leaf x) (variable_leaf y) h i (ap (λ (z : Var). Leaf.kind_of 0 (variable_leaf z)) e) (ap (λ (z : Var). Leaf.name_of (variable_leaf z)) e)
-
     heads : {X : Type 0} {a b : X} {pairs bs : List X} → a ∷ pairs ≡ b ∷ bs → a ≡ b
     heads e = cc
 
@@ -102,6 +83,6 @@ module _ (s : Table) (v : TermsView) where
     variables_same (a ∷ anchor) (b ∷ bound) (k ∷ ks) [] h i = absurd i
     variables_same (a ∷ anchor) (b ∷ bound) (k ∷ ks) (x ∷ xs) h i =
         let later = variables_same anchor bound ks xs h.1 i.1 in (
-          λ e. ap (λ y. y ∷ map (λ (c : Var × Term). c.0) bound) (variable_of_leaf k b.0 x (subst (λ j. IsLeaf s j (variable_leaf b.0)) (heads e) h.0.variable) i.0) ∙ ap (λ ys. x ∷ ys) (later.0 (tails e)),
-          λ e. ap (λ j. j ∷ map (λ (c : ℕ × ℕ). c.0) anchor) (leaf_of_variable a.0 k b.0 x h.0.variable i.0 (heads e)) ∙ ap (λ js. k ∷ js) (later.1 (tails e)),
+          λ e. ap (λ y. y ∷ map (λ (c : Var × Term). c.0) bound) (one_variable s k b.0 x (subst (λ j. IsLeaf s j (variable_leaf b.0)) (heads e) h.0.variable) i.0) ∙ ap (λ ys. x ∷ ys) (later.0 (tails e)),
+          λ e. ap (λ j. j ∷ map (λ (c : ℕ × ℕ). c.0) anchor) (one_leaf s table a.0 k b.0 x h.0.variable i.0 (heads e)) ∙ ap (λ js. k ∷ js) (later.1 (tails e)),
         )

@@ -10,9 +10,10 @@ use Rattle.std.proofs.lemmas.List.Sums.{sum_by-cons}
 use Rattle.std.specs.List.{sum_by}
 use Rattle.rule_model.specs.Arithmetic.{IsWhole}
 use Rattle.rule_model.proofs.Ring as ring
+use Rattle.rule_model.proofs.Arithmetic.{whole_sum}
 use Rattle.scaled_sums.specs.declared.coefficients.Coefficient.{Coefficient}
 use Rattle.scaled_sums.specs.Coefficients.{sum_at, sizes_of, AreApart, scale}
-use Rattle.scaled_sums.proofs.Wholes.{whole_nothing, whole_sum}
+use Rattle.scaled_sums.proofs.Wholes.{whole_nothing}
 
 abbrev pub counted : Coefficient → ℕ → ℤ
 counted c r = if c.term == r then c.number else pos 0

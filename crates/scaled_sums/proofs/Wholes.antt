@@ -1,11 +1,11 @@
--- Multiples among whole numbers of either sign, and rounding up to one.
+-- Cited by crates above. Multiples among whole numbers of either sign, and rounding up to one.
 use Rattle.std.proofs.Common.{◌≡◌, ℕ, ◌+◌, ◌*◌, ◌/◌, ◌%◌, ◌<◌, ℤ, pos, negsuc, neg_ℤ, ◌+ℤ◌, ◌*ℤ◌, unsigned_abs, nat_eq, IsTrue, ◌↔◌, refl, sym, ap, ◌∙◌, arith}
 use Rattle.std.proofs.lemmas.Bool.{eqb-true, eq-eqb}
 use Rattle.std.proofs.Math.Nat.{div-add-mod, mod-lt, mul-mod_right}
 use Rattle.std.proofs.lemmas.Int.{ints, unsigned_abs-mul}
 use Rattle.std.specs.Int.{int_rem_euclid}
 use Rattle.rule_model.specs.Arithmetic.{IsWhole, IsRoundedUp}
-use Rattle.rule_model.proofs.Ring.{mul-add, mul-neg, one-mul}
+use Rattle.rule_model.proofs.Ring.{mul-neg, one-mul}
 
 whole : (a n : ℕ) → a ≡ n * (a / n) + a % n
 whole a n = sym (div-add-mod a n)
@@ -53,9 +53,6 @@ rest_decides n z m some e = (λ t. there z e (eqb-true (m % n) 0 t), λ w. back 
 
 pub whole_nothing : (n : ℕ) → IsWhole n (pos 0)
 whole_nothing n = (pos 0, sym (natural n 0 ∙ ap pos (omega arith)))
-
-pub whole_sum : (n : ℕ) (x y : ℤ) → IsWhole n x → IsWhole n y → IsWhole n (x +ℤ y)
-whole_sum n x y (j, e) (k, f) = (j +ℤ k, omega (arith, ints, e, f, mul-add (pos n) j k))
 
 -- each number is a multiple of 1
 pub whole_by_one : (n : ℕ) (z : ℤ) → n ≡ 1 → IsWhole n z

@@ -1,20 +1,17 @@
 -- The arguments of an application, read from the cells of their list.
-use Rattle.std.proofs.Common.{◌≡◌, ℕ, ◌+◌, ◌<◌, ◌≤◌, List, [], ◌∷◌, ◌++◌, length, take, drop, get_or, refl, sym, subst, ap, arith, add-one, drop-cons}
+use Rattle.std.proofs.Common.{◌≡◌, ℕ, ◌+◌, ◌<◌, ◌≤◌, List, [], ◌∷◌, ◌++◌, length, take, drop, get_or, sym, subst, arith, add-one, drop-cons}
 use Rattle.std.proofs.lemmas.List.{take_more, take_all}
 use Rattle.pair_pool.specs.Trees.{Tree, leaf, cell}
 use Rattle.pair_pool.specs.Views.{Knows}
 use Rattle.sym_table.specs.Table.{Table}
-use Rattle.term_model.specs.Terms.{Term, Terms, numeral, variable, operation, call, let_in, term, no_terms, list_of, terms_of}
+use Rattle.term_model.specs.Terms.{Term, numeral, variable, operation, call, let_in, term, no_terms, list_of, terms_of}
+use Rattle.term_model.proofs.Lists.{terms_of-list_of}
 use Rattle.term_pool.specs.Reading.{arguments_of}
 use Rattle.term_pool.specs.StandsFor.{StandsFor, StandsForList}
 use Rattle.term_pool.specs.Views.{TermsView, RefersTo, ReferToAll, IsKnownCell}
 use Rattle.schema_match.specs.Arguments.{HasSoMany}
 use Rattle.schema_match.specs.ArgumentCells.{IsListOf, IsSomeList}
 use Rattle.schema_match.proofs.ReferLemmas.{refer_append}
-
-terms_of-list_of : (ts : Terms) → terms_of (list_of ts) ≡ ts
-terms_of-list_of no_terms = refl
-terms_of-list_of (term t ts) = ap (term t) (terms_of-list_of ts)
 
 -- the cell of a head and the list of some terms
 record IsApplicationCell (s : Table) (v : TermsView) (r : ℕ) (ts : List Term) : Type 0 where

@@ -1,9 +1,10 @@
--- Applications with one argument or more, with a sign.
+-- Cited by crates above. Applications with one argument or more, with a sign.
 use Rattle.std.proofs.Common.{◌≡◌, ◌≢◌, ◌<◌, ◌∷◌, List, ℕ, suc, length, Option, Some, None, refl, sym, ◌∙◌, ap, subst, arith}
 use Rattle.std.specs.Option.{IfSome, IfNone, unwrap_or}
 use Rattle.sym_table.specs.Table.{Table}
 use Rattle.term_model.specs.declared.symbols.Op.{Op}
 use Rattle.term_model.specs.Terms.{Term, Terms, numeral, variable, operation, call, let_in, term, no_terms, list_of, terms_of}
+use Rattle.term_model.proofs.Lists.{terms_of-list_of}
 use Rattle.term_pool.specs.Reading.{arguments_of}
 use Rattle.term_pool.specs.Views.{TermsView, RefersTo, IsTerm, ReferToAll}
 use Rattle.schema_match.specs.declared.signs.Sign.{Sign}
@@ -17,10 +18,6 @@ use Rattle.schema_match.proofs.OverLemmas.{has_so_many}
 pub one_term : (sign : Sign) (t u : Term) → sign_of sign t ≡ sign_of sign u → t ≡ u
 one_term Itself t u e = e
 one_term Negation t u e = cc
-
-pub terms_of-list_of : (ts : Terms) → terms_of (list_of ts) ≡ ts
-terms_of-list_of no_terms = refl
-terms_of-list_of (term t ts) = ap (term t) (terms_of-list_of ts)
 
 -- the term for which a literal stands is a term
 pub unsigned_is_term : (s : Table) (v w : TermsView) (sign : Sign) (r a : ℕ) → w ≡ v → IsTerm s v r → ((t : Term) → RefersTo s v r t → IsSigned s v sign a t) → IsTerm s w a

@@ -1,4 +1,4 @@
--- Arguments of which there are so many.
+-- Cited by crates above. Arguments of which there are so many.
 use Rattle.std.proofs.Common.{◌≡◌, length, refl, ap}
 use Rattle.term_model.specs.Terms.{Term, Terms, no_terms, term, list_of}
 

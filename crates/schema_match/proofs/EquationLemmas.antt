@@ -1,21 +1,16 @@
 -- Steps that state one equality.
-use Rattle.std.proofs.Common.{◌≡◌, ◌≢◌, ℕ, List, [], ◌∷◌, length, Option, Some, None, refl, sym, ◌∙◌, ap, subst}
+use Rattle.std.proofs.Common.{◌≡◌, ◌≢◌, ℕ, List, [], ◌∷◌, length, refl, sym, ◌∙◌, ap, subst}
 use Rattle.std.specs.Borrow.{Bor}
-use Rattle.std.specs.Option.{IfNone}
 use Rattle.sym_table.specs.Table.{Table}
 use Rattle.term_model.specs.Flips.{equality}
 use Rattle.term_model.specs.Terms.{Term}
+use Rattle.term_model.proofs.Lists.{same_one}
 use Rattle.term_parts.specs.Parts.{AreSidesOf}
 use Rattle.term_pool.specs.Views.{TermsView, RefersTo, ReferToAll}
 use Rattle.rule_model.specs.Clausal.{as_it_stands}
 use Rattle.schema_match.specs.Equations.{StatesEquality}
 use Rattle.schema_match.specs.Steps.{ReferToClauses}
 use Rattle.schema_match.proofs.PremiseLemmas.{no_premises, some_premises}
-
--- what follows from what a clause says where there is nothing
-pub IfNone_then : {X P Q : Type 0} (o : Option X) → IfNone o P → (P → Q) → IfNone o Q
-IfNone_then None h f = f h
-IfNone_then (Some x) h f = tt
 
 -- a step that states an equality
 module _ (s : Table) (v : TermsView) (premises : List (Bor (List ℕ))) (clause : List ℕ) (ps : List (List Term)) (ts : List Term) (premises_are : ReferToClauses s v premises ps) (clause_is : ReferToAll s v clause ts) where
@@ -30,9 +25,6 @@ module _ (s : Table) (v : TermsView) (premises : List (Bor (List ℕ))) (clause 
       go (r ∷ []) other h = other r refl
       go (r ∷ q ∷ rs) other h = h.1
 
-  same_head : (t u : Term) → t ∷ [] ≡ u ∷ [] → t ≡ u
-  same_head t u e = cc
-
   module _ (r : ℕ) (is : clause ≡ r ∷ []) where
     one_literal : (x : Term) × (ts ≡ x ∷ []) × RefersTo s v r x
     one_literal = go ts (subst (λ rs. ReferToAll s v rs ts) is clause_is)
@@ -44,7 +36,7 @@ module _ (s : Table) (v : TermsView) (premises : List (Bor (List ℕ))) (clause 
 
     pub no_equation : ((t u w : Term) → RefersTo s v r t → t ≢ equality u w) → (u w : Term) → ps ≡ [] → ts ≢ equality u w ∷ []
     no_equation other u w none e =
-        other one_literal.0 u w one_literal.2 (same_head one_literal.0 (equality u w) (sym one_literal.1 ∙ e))
+        other one_literal.0 u w one_literal.2 (same_one one_literal.0 (equality u w) (sym one_literal.1 ∙ e))
 
     pub equation_is : (p : ℕ × ℕ) → length premises ≡ 0 → ((t : Term) → RefersTo s v r t → AreSidesOf s v as_it_stands p t) → StatesEquality s v p ps ts
     equation_is p empty sides =

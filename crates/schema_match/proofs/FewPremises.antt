@@ -1,4 +1,4 @@
--- Schemas with one premise or none.
+-- Cited by crates above. Schemas with one premise or none.
 use Rattle.std.proofs.Common.{◌≡◌, List, [], ◌∷◌, map, Bool, true, false, Option, Some, None}
 use Rattle.term_model.specs.Terms.{Term}
 use Rattle.rule_model.specs.Schemas.{Pattern, fill, Schema, IsInstanceOf}

@@ -1,4 +1,4 @@
--- Steps that are instances of a schema.
+-- Cited by crates above. Steps that are instances of a schema.
 use Rattle.std.proofs.Common.{◌≡◌, ◌≢◌, ◌↔◌, ◌∷◌, ◌++◌, [], List, ℕ, map, length, reverse, Bool, false, IsTrue, All, sym, ◌∙◌, ap, subst}
 use Rattle.std.specs.Borrow.{Bor}
 use Rattle.std.proofs.lemmas.List.{reverse-reverse}

@@ -1,44 +1,19 @@
--- What a term is an application of.
-use Rattle.std.proofs.Common.{◌≡◌, ◌≢◌, ◌<◌, ℕ, suc, length, Bool, true, false, not, nat_eq, Option, Some, None, refl, sym, ◌∙◌, ap, subst, arith}
+-- Cited by crates above. What a term is an application of.
+use Rattle.std.proofs.Common.{◌≡◌, ◌<◌, ℕ, suc, length, Bool, true, false, not, nat_eq, Option, Some, None, refl, ◌∙◌, ap, subst, arith}
 use Rattle.std.specs.List.{slice_get}
 use Rattle.std.specs.Option.{IfSome, IfNone, option_eq}
 use Rattle.std.proofs.lemmas.Bool.{eqb-true, eq-eqb}
-use Rattle.sym_table.specs.Leaf.{operator}
-use Rattle.sym_table.specs.Table.{Table, IsTable, IsLeaf}
+use Rattle.sym_table.specs.Table.{Table}
 use Rattle.term_model.specs.declared.symbols.Op.{Op}
 use Rattle.term_model.specs.Terms.{Term, Terms, numeral, variable, operation, call, let_in, list_of, not_of}
-use Rattle.term_pool.specs.Building.{IsAppliedLeaf}
 use Rattle.term_pool.specs.Reading.{arguments_of, IsLet, HasArgument}
 use Rattle.term_pool.specs.Views.{TermsView, RefersTo, IsTerm}
 use Rattle.schema_match.specs.declared.signs.Sign.TheVariants.{Negation}
 use Rattle.schema_match.specs.Arguments.{HasSoMany}
 use Rattle.term_parts.specs.Parts.{IsOver}
+use Rattle.term_parts.proofs.PartLemmas.{one_count}
 use Rattle.schema_match.specs.Signs.{IsSigned}
 use Rattle.schema_match.proofs.Counts.{one}
-
--- a head that is the operator's leaf
-pub over_is : (s : Table) (k n : ℕ) (op : Op) (t : Term) → IsLeaf s k (operator op) → IsAppliedLeaf s k (arguments_of t) t → ((IsLet t → ⊥) → n ≡ length (arguments_of t)) → IsOver op n t
-over_is s k n op (numeral z) leaf app count = absurd (let e = app.0 in cc)
-over_is s k n op (variable x) leaf app count = absurd (let e = app.0 in cc)
-over_is s k n op (operation o ts) leaf app count = (let e = app.0 in cc, sym (count (λ h. h)))
-over_is s k n op (call f ts) leaf app count = absurd (let e = app.0 in cc)
-over_is s k n op (let_in bs u) leaf app count = absurd app
-
--- a head that is another leaf
-pub other_head : (s : Table) (j k n : ℕ) (op : Op) (t : Term) → IsTable s → IsLeaf s j (operator op) → k ≢ j → IsAppliedLeaf s k (arguments_of t) t → ¬ IsOver op n t
-other_head s j k n op (numeral z) table leaf other app h = h
-other_head s j k n op (variable x) table leaf other app h = h
-other_head s j k n op (operation o ts) table leaf other app h =
-    other (table.apart k j (operator op) (operator op) (rw (← h.0) app.0) leaf refl refl)
-other_head s j k n op (call f ts) table leaf other app h = h
-other_head s j k n op (let_in bs u) table leaf other app h = h
-
-pub let_is_not_over : (n : ℕ) (op : Op) (t : Term) → IsLet t → ¬ IsOver op n t
-let_is_not_over n op (numeral z) is h = h
-let_is_not_over n op (variable x) is h = h
-let_is_not_over n op (operation o ts) is h = is
-let_is_not_over n op (call f ts) is h = h
-let_is_not_over n op (let_in bs u) is h = h
 
 -- an application to so many arguments
 pub over_term : (op : Op) (n : ℕ) (t : Term) → IsOver op n t → (us : Terms) × (t ≡ operation op us) × (length (list_of us) ≡ n) × (arguments_of t ≡ list_of us) × (IsLet t → ⊥)
@@ -50,14 +25,6 @@ over_term op n (let_in bs u) h = absurd h
 
 pub is_over : (op : Op) (n : ℕ) (t : Term) (us : Terms) → t ≡ operation op us → length (list_of us) ≡ n → IsOver op n t
 is_over op n t us e h = rw e (refl, h)
-
--- the count is another, or it is this one
-one_count : (m n : ℕ) (op : Op) (t : Term) → IsOver op m t → IsOver op n t → m ≡ n
-one_count m n op (operation o us) h k = sym h.1 ∙ k.1
-one_count m n op (numeral z) h k = absurd h
-one_count m n op (variable x) h k = absurd h
-one_count m n op (call f us) h k = absurd h
-one_count m n op (let_in bs u) h k = absurd h
 
 pub not_so_many : (s : Table) (v : TermsView) (r n : ℕ) (op : Op) (found : Option ℕ) → IfSome found (λ m. (t : Term) → RefersTo s v r t → IsOver op m t) → IfNone found ((t : Term) → RefersTo s v r t → (m : ℕ) → ¬ IsOver op m t) → true ≡ not (option_eq nat_eq found (Some n)) → (t : Term) → RefersTo s v r t → ¬ IsOver op n t
 not_so_many s v r n op None some none other t refers h = none t refers n h

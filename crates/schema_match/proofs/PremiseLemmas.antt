@@ -1,4 +1,4 @@
--- The premises of a step as lists of references.
+-- Cited by crates above. The premises of a step as lists of references.
 use Rattle.std.proofs.Common.{◌≡◌, ◌≢◌, ◌∷◌, [], List, ℕ, length, All, refl, ap, subst}
 use Rattle.std.proofs.lemmas.List.Elements.{All-head}
 use Rattle.std.specs.Borrow.{Bor}

@@ -1,16 +1,13 @@
--- References to terms in lists and on stacks.
-use Rattle.std.proofs.Common.{◌≡◌, ◌↔◌, ◌<◌, ℕ, List, [], ◌∷◌, ◌++◌, length, get_or, reverse, Contains, inl, inr, refl, sym, ◌∙◌, ap, subst}
+-- Cited by crates above. References to terms in lists and on stacks.
+use Rattle.std.proofs.Common.{◌≡◌, ◌<◌, ℕ, List, [], ◌∷◌, ◌++◌, length, get_or, reverse, Contains, inl, inr, refl, sym, ◌∙◌, ap, subst}
 use Rattle.std.proofs.lemmas.List.{reverse-append, reverse-reverse}
-use Rattle.rule_model.proofs.Lists.{contains_none, contains_cases, contains_head, contains_later}
 use Rattle.sym_table.specs.Table.{Table}
 use Rattle.term_model.proofs.Zips.{zip_append, zip_length, zip_at}
+use Rattle.term_model.proofs.Lists.{contains_none, contains_cases, contains_head, contains_later}
 use Rattle.term_model.specs.Terms.{Term}
 use Rattle.term_pool.specs.Views.{TermsView, RefersTo, ReferToAll}
+use Rattle.term_pool.proofs.References.{AreOne}
 use Rattle.schema_match.specs.Stack.{StackOf}
-
--- references are equal exactly where their terms are
-abbrev pub AreOne : Table → TermsView → Type 0
-AreOne s v = (p q : ℕ) (t u : Term) → RefersTo s v p t → RefersTo s v q u → (p ≡ q) ↔ (t ≡ u)
 
 -- a list that is not empty
 pub record TopOf (s : Table) (v : TermsView) (items : List ℕ) (r : ℕ) (ts : List Term) : Type 0 where

@@ -1,4 +1,4 @@
--- What a check answers of the step of a proof at an index, by what the rules of a family ask of a step's clauses.
+-- Cited by crates above. What a check answers of the step of a proof at an index, by what the rules of a family ask of a step's clauses.
 use Rattle.std.proofs.Common.{◌≡◌, ◌↔◌, ℕ, ◌≤◌, List, [], ◌∷◌, map, length, Bool, false, IsTrue, Option, Some, None, sym, subst, arith}
 use Rattle.std.specs.Borrow.{Bor}
 use Rattle.std.specs.Option.{is_some}

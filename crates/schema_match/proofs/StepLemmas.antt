@@ -1,18 +1,17 @@
--- The step of a proof at an index, and the clauses of its premises.
-use Rattle.std.proofs.Common.{◌≡◌, ℕ, zero, suc, ◌<◌, ◌≤◌, List, [], ◌∷◌, map, length, get_or, slice_get, All, Contains, Some, refl, sym, ap, subst, arith}
+-- Cited by crates above. The step of a proof at an index, and the clauses of its premises.
+use Rattle.std.proofs.Common.{◌≡◌, ℕ, zero, suc, ◌<◌, ◌≤◌, List, [], ◌∷◌, map, length, get_or, slice_get, Contains, Some, refl, sym, ap, subst, arith}
 use Rattle.std.specs.List.{AllZip}
 use Rattle.std.specs.Option.{option_map_or}
 use Rattle.std.proofs.lemmas.List.{get_or_default}
-use Rattle.std.proofs.lemmas.List.Elements.{All-cons}
 use Rattle.sym_table.specs.Table.{Table}
 use Rattle.term_model.specs.Terms.{Term}
-use Rattle.term_pool.specs.Views.{TermsView, RefersTo, IsTerm, ReferToAll}
+use Rattle.term_model.proofs.Lists.{contains_none}
+use Rattle.term_pool.specs.Views.{TermsView, RefersTo, ReferToAll}
 use Rattle.rule_model.specs.Commands.{Line, entry_of, lines_in}
 use Rattle.rule_model.specs.Proofs.{ProofItems}
 use Rattle.rule_model.specs.Reading.{premises_of, premises_at}
 use Rattle.rule_model.specs.Scopes.{outermost, commands_in}
 use Rattle.rule_model.specs.WellFormed.{IsWellFormed}
-use Rattle.rule_model.proofs.Lists.{contains_none}
 use Rattle.rule_model.proofs.Standing.{premise_earlier}
 
 -- the premises of a command stand before it
@@ -47,13 +46,4 @@ only js some few = one_is_it js (get_or js 0 0) some few (sym (get_or_default js
 module _ (s : Table) (v : TermsView) where
   -- references and terms in step
   pub zip_refers : (rs : List ℕ) (ts : List Term) → AllZip (RefersTo s v) rs ts → ReferToAll s v rs ts
-  zip_refers [] [] h = tt
-  zip_refers [] (t ∷ ts) h = absurd h
-  zip_refers (r ∷ rs) [] h = absurd h
-  zip_refers (r ∷ rs) (t ∷ ts) h = (h.0, zip_refers rs ts h.1)
-
-  pub zip_terms : (rs : List ℕ) (ts : List Term) → AllZip (RefersTo s v) rs ts → All (IsTerm s v) rs
-  zip_terms [] [] h = λ i d below. absurd (omega (arith, below))
-  zip_terms [] (t ∷ ts) h = absurd h
-  zip_terms (r ∷ rs) [] h = absurd h
-  zip_terms (r ∷ rs) (t ∷ ts) h = All-cons (IsTerm s v) r rs (record { means = t; refers = h.0 }) (zip_terms rs ts h.1)
+  zip_refers rs ts h = h

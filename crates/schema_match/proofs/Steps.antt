@@ -1,11 +1,13 @@
--- One part is read.
+-- Cited by crates above. One part is read.
 use Rattle.std.proofs.Common.{◌≡◌, ◌≢◌, ◌↔◌, ℕ, List, [], ◌∷◌, ◌++◌, length, Bool, true, false, Option, Some, None, IsTrue, not, refl, sym, ◌∙◌, ap}
 use Rattle.std.specs.Option.{IfSome, IfNone}
 use Rattle.sym_table.specs.Table.{Table}
 use Rattle.term_model.specs.declared.symbols.Op.{Op}
-use Rattle.term_model.specs.Terms.{Term, Terms, operation, list_of}
+use Rattle.term_model.specs.Terms.{Term, list_of}
 use Rattle.term_pool.specs.Views.{TermsView, RefersTo, ReferToAll}
+use Rattle.term_pool.proofs.References.{AreOne}
 use Rattle.rule_model.specs.declared.letter.Letter.{Letter}
+use Rattle.rule_model.proofs.ArgumentLists.{same_operands}
 use Rattle.schema_match.specs.declared.letters.Letters.{Letters}
 use Rattle.schema_match.specs.declared.part.Part.{Part}
 use Rattle.schema_match.specs.declared.part.Part.TheVariants.{Any, Apply}
@@ -14,10 +16,10 @@ use Rattle.schema_match.specs.Letters.{slot, IsSettledAt}
 use Rattle.term_parts.specs.Parts.{IsOver}
 use Rattle.schema_match.specs.Reads.{Reads, Left, with_letter}
 use Rattle.schema_match.proofs.OverLemmas.{over_term, is_over}
-use Rattle.schema_match.proofs.ReferLemmas.{AreOne, stack_top, stack_more}
+use Rattle.schema_match.proofs.ReferLemmas.{stack_top, stack_more}
 
 -- the same terms, but that a letter stands for t
-abbrev with_term : (Letter → Term) → Letter → Term → Letter → Term
+abbrev pub with_term : (Letter → Term) → Letter → Term → Letter → Term
 with_term f Letter.A t Letter.A = t
 with_term f Letter.B t Letter.B = t
 with_term f Letter.C t Letter.C = t
@@ -106,9 +108,6 @@ module _ (s : Table) (v : TermsView) (one : AreOne s v) where
         let here : RefersTo s v q (f l) = rw settled at (h.0 l) in
         other ((one q r (f l) on_top.top here on_top.top_refers).1 k.0)
 
-    same_arguments : (op : Op) (us ws : Terms) → operation op us ≡ operation op ws → us ≡ ws
-    same_arguments op us ws e = cc
-
     -- an operator with its arguments
     pub operator_read : (letters : Letters) (op : Op) (n : ℕ) (new : List ℕ) → ((t : Term) → RefersTo s v r t → IsOver op n t) → AddsArguments v r n 0 items new → Left s v whole ts (Apply op n ∷ rest) letters (items ++ r ∷ []) → Left s v whole ts rest letters new
     operator_read letters op n new is adds left =
@@ -125,7 +124,7 @@ module _ (s : Table) (v : TermsView) (one : AreOne s v) where
             λ w.
                 (let h = (left.reads f).0 w in
                 let k : Reads f (Apply op n ∷ rest) (on_top.top ∷ on_top.below) = rw on_top.is at h.1 in
-                (h.0, rw (same_arguments op us k.0 (sym here.1 ∙ k.1)) k.3)),
+                (h.0, rw (same_operands op us k.0 (sym here.1 ∙ k.1)) k.3)),
             λ (agrees, reads). (left.reads f).1 (agrees, rw on_top.is (us, here.1, here.2, reads)),
           );
         }

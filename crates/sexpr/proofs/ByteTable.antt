@@ -1,6 +1,6 @@
 -- The table of classes holds the class of each byte.
-use Rattle.std.proofs.Common.{◌≡◌, ℕ, zero, suc, ◌+◌, ◌<◌, Bool, true, false, ◌&&◌, ◌||◌, ◌⊎◌, inl, inr, subst, cond, eqb, List, [], ◌∷◌, length, get_or, refl, sym, ap, ◌∙◌, arith, eqb-true, zero-add, add-zero}
-use Rattle.std.proofs.lemmas.Bool.{and_parts}
+use Rattle.std.proofs.Common.{◌≡◌, ℕ, zero, suc, ◌+◌, ◌<◌, Bool, true, false, ◌&&◌, inl, inr, subst, cond, eqb, List, [], ◌∷◌, length, get_or, refl, sym, ap, ◌∙◌, arith, eqb-true, zero-add, add-zero}
+use Rattle.std.proofs.lemmas.Bool.{and_parts, or_cases}
 use Rattle.sexpr.specs.declared.bytes.Class.{Class}
 use Rattle.sexpr.specs.declared.bytes.Class.TheVariants.{Other, White, Word}
 use Rattle.sexpr.specs.Characters.{is_white, is_word_byte, is_mark}
@@ -44,10 +44,6 @@ is_class_white Other = false
 is_class_white White = true
 is_class_white Word = false
 
-or_true : (x y : Bool) → (x || y) ≡ true → (x ≡ true) ⊎ (y ≡ true)
-or_true true y either = inl refl
-or_true false y either = inr either
-
 pub not_white : (k : Class) → (k ≡ White → ⊥) → is_class_white k ≡ false
 not_white Other other = refl
 not_white White other = absurd (other refl)
@@ -80,9 +76,9 @@ of_word false false apart = refl
 
 pub white_is_no_word : (b : ℕ) → is_white b ≡ true → is_word_byte b ≡ false
 unfolding is_white is_word_byte is_mark
-white_is_no_word b white = elim (or_true _ _ white) [
-  | inl others ↦ elim (or_true _ _ others) [
-    | inl others ↦ elim (or_true _ _ others) [
+white_is_no_word b white = elim (or_cases _ _ white) [
+  | inl others ↦ elim (or_cases _ _ others) [
+    | inl others ↦ elim (or_cases _ _ others) [
       | inl is_tab ↦ subst (λ c. is_word_byte c ≡ false) (sym (eqb-true b 9 is_tab)) refl
       | inr is_feed ↦ subst (λ c. is_word_byte c ≡ false) (sym (eqb-true b 10 is_feed)) refl
     ]

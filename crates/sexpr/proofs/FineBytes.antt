@@ -1,6 +1,6 @@
 -- How far a text has form, by its parts and by blocks of its bytes.
 use Rattle.std.proofs.Common.{◌≡◌, ◌≢◌, ◌⊎◌, inl, inr, ℕ, zero, suc, ◌+◌, ◌-◌, ◌<◌, ◌≤◌, Bool, true, false, not, ◌&&◌, ◌||◌, cond, eqb, List, [], ◌∷◌, length, get_or, take, drop, Some, None, Ok, refl, sym, ap, ap₂, ◌∙◌, subst, arith, eqb-true, if◌then◌else◌, ◌==◌}
-use Rattle.std.proofs.lemmas.Bool.{agree_below_at, cases_lt}
+use Rattle.std.proofs.lemmas.Bool.{agree_below_at, cases_lt, or_cases}
 use Rattle.std.proofs.lemmas.Bool.Decides.{nat_tests}
 use Rattle.std.proofs.lemmas.List.{drop_more, length-drop}
 use Rattle.std.proofs.lemmas.List.Folds.{length-prefix_len}
@@ -26,10 +26,6 @@ word_is_no_bracket b word = rw (no_word_byte b 40 refl word, no_word_byte b 41 r
 -- a word that begins with no digit is no broken number
 no_number : (n x : ℕ) (xs : List ℕ) → is_ascii_digit x ≡ false → (starts_with_digit (take (suc n) (x ∷ xs)) && not (is_number (take (suc n) (x ∷ xs)))) ≡ false
 no_number n x xs no_digit = rw no_digit refl
-
-or_true : (x y : Bool) → (x || y) ≡ true → (x ≡ true) ⊎ (y ≡ true)
-or_true true y either = inl refl
-or_true false y either = inr either
 
 common_is_word : (b : ℕ) → b < 256 → is_common b ≡ true → is_word_byte b ≡ true
 unfolding is_word_byte is_mark
@@ -189,9 +185,9 @@ module _ (bytes : List ℕ) (place : ℕ) (within : place < length bytes) where
     unfolding is_word_byte is_mark is_white
     after_other other =
         let some = rw other at fine in
-        elim (or_true _ _ some) [
-          | inl others ↦ elim (or_true _ _ others) [
-            | inl others ↦ elim (or_true _ _ others) [
+        elim (or_cases _ _ some) [
+          | inl others ↦ elim (or_cases _ _ others) [
+            | inl others ↦ elim (or_cases _ _ others) [
               | inl opens ↦ after_open (eqb-true _ 40 opens)
               | inr closes ↦ after_close (eqb-true _ 41 closes)
             ]

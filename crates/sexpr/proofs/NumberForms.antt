@@ -1,4 +1,4 @@
--- A word that begins with a digit is cut after its digits.
+-- Cited by crates above. A word that begins with a digit is cut after its digits.
 use Rattle.std.proofs.Common.{◌≡◌, ℕ, zero, suc, ◌+◌, ◌-◌, ◌<◌, Bool, true, false, not, ◌&&◌, eqb, List, [], ◌∷◌, length, get_or, take, drop, refl, sym, ap, ◌∙◌, inl, inr, arith, eqb-true, eq-eqb, get_or-take, length-take-le, subst, ◌≤◌, ◌≢◌, ◌⊎◌}
 use Rattle.std.proofs.lemmas.Bool.{and_parts, cases_lt}
 use Rattle.std.proofs.lemmas.List.{drop_all, take_rest}

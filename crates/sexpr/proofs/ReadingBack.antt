@@ -1,4 +1,4 @@
--- A symbol is read back from what is printed.
+-- Cited by crates above. A symbol is read back from what is printed.
 use Rattle.std.proofs.Common.{◌≡◌, ℕ, ◌-◌, Bool, true, false, not, ◌&&◌, ◌==◌, if◌then◌else◌, Some, None, List, [], ◌∷◌, ◌++◌, length, take, refl, ap, ◌∙◌, arith, length-append}
 use Rattle.std.proofs.Math.Seq.{take-append_seam}
 use Rattle.std.proofs.lemmas.Bool.{and_parts}
@@ -24,7 +24,7 @@ symbol_is_word (b ∷ name) symbol bytes = record {
   no_digit true x y e f = let g : false ≡ true = f in cc
   no_digit false x y e f = let g : false ≡ true = e in cc
 
-between : (name : List ℕ) → between_bars (124 ∷ (name ++ 124 ∷ [])) ≡ name
+pub between : (name : List ℕ) → between_bars (124 ∷ (name ++ 124 ∷ [])) ≡ name
 between name =
     let n : length (124 ∷ (name ++ 124 ∷ [])) - 2 ≡ length name = omega (arith, length-append name (124 ∷ [])) in
     ap (λ k. take k (name ++ 124 ∷ [])) n ∙ take-append_seam name (124 ∷ [])

@@ -1,7 +1,8 @@
--- What is spelled as the grammar says is read.
+-- Cited by crates above. What is spelled as the grammar says is read.
 use Rattle.std.proofs.Common.{◌≡◌, ℕ, zero, suc, ◌+◌, ◌-◌, ◌<◌, ◌≤◌, Bool, true, false, not, ◌&&◌, ◌||◌, cond, eqb, Option, Some, None, Ok, Err, List, [], ◌∷◌, ◌++◌, length, take, drop, refl, sym, ap, ◌∙◌, subst, arith, eqb-true, append_assoc, length-append, length-drop, length-take-le, take-append-drop, ◌↔◌}
 use Rattle.std.proofs.lemmas.List.{drop_all, drop-drop, drop_at}
 use Rattle.std.proofs.lemmas.List.Elements.{All-head, All-tail}
+use Rattle.std.proofs.lemmas.Bool.{not-true}
 use Rattle.std.specs.List.{prefix_len, take_while, AllPass}
 use Rattle.sexpr.specs.declared.lexing.Token.{Token}
 use Rattle.sexpr.specs.declared.lexing.TokenKind.{TokenKind}
@@ -31,15 +32,11 @@ unfolding blanks_end
 blanks_end-at_none at [] none = refl
 blanks_end-at_none at (b ∷ rest) none = let p = or_parts (is_white b) (eqb b 59) none in rw (p.first, p.second) refl
 
-not_true : (b : Bool) → not b ≡ true → b ≡ false
-not_true true e = sym e
-not_true false e = refl
-
 -- the line of a comment
 comment_line : (at : ℕ) (line rest : List ℕ) → AllPass (λ b. not (ends_comment b)) line → blanks_end true at (line ++ rest) ≡ blanks_end true (at + length line) rest
 comment_line at [] rest all = ap (λ n. blanks_end true n rest) (let e : at ≡ at + 0 = omega arith in e)
 comment_line at (b ∷ line) rest all =
-    comment_step b at (line ++ rest) false (not_true (ends_comment b) (All-head (λ x. not (ends_comment x) ≡ true) b line all))
+    comment_step b at (line ++ rest) false (not-true (ends_comment b) (All-head (λ x. not (ends_comment x) ≡ true) b line all))
     ∙ comment_line (at + 1) line rest (All-tail (λ x. not (ends_comment x) ≡ true) b line all)
     ∙ ap (λ n. blanks_end true n rest) (let e : at + 1 + length line ≡ at + suc (length line) = omega arith in e)
 
@@ -52,7 +49,7 @@ semicolon_step : (at : ℕ) (rest : List ℕ) → blanks_end false at (59 ∷ re
 unfolding blanks_end is_white
 semicolon_step at rest = refl
 
-skips_length : (after : List ℕ) {rest : List ℕ} → SkipsTo after rest → length after ≤ length rest
+pub skips_length : (after : List ℕ) {rest : List ℕ} → SkipsTo after rest → length after ≤ length rest
 skips_length after nothing = omega arith
 skips_length after (white b rest is skips) = let h = skips_length after skips in omega arith
 skips_length after (comment line rest all ends skips) =

@@ -160,13 +160,6 @@ module _ (s z : Table) (v w : TermsView) (keeps : Keeps s z) (terms : KeepsTerms
             meant_moves r.names.known r.names.known (record { macros = λ x m e. e; named = λ x n e. e }) a b name (agree name) (known_entry r.names.known name) (h.script.names name);
       })
 
-  -- references still stand for their terms
-  pub all_stay : (rs : List ℕ) (ts : List Term) → ReferToAll s v rs ts → ReferToAll z w rs ts
-  all_stay [] [] h = h
-  all_stay [] (t ∷ ts) h = absurd h
-  all_stay (r ∷ rs) [] h = absurd h
-  all_stay (r ∷ rs) (t ∷ ts) h = (refers_stays s z v w keeps terms r t h.0, all_stay rs ts h.1)
-
   -- and one more does
   pub all_refer : (rs : List ℕ) (ts : List Term) (r : ℕ) (t : Term) → ReferToAll s v rs ts → RefersTo z w r t → ReferToAll z w (rs ++ r ∷ []) (ts ++ t ∷ [])
   all_refer [] [] r t h is = (is, tt)

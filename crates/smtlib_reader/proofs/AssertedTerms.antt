@@ -3,9 +3,11 @@ use Rattle.std.proofs.Common.{◌≡◌, ℕ, Bool, true, [], ◌∷◌, ◌++�
 use Rattle.std.specs.declared.alloc.Global.{Global}
 use Rattle.sexpr.specs.Items.{Item, place_of}
 use Rattle.sym_table.specs.Table.{Table}
+use Rattle.sym_table.proofs.Tables.{keeps_table}
 use Rattle.term_model.specs.declared.symbols.Sort.{Sort}
 use Rattle.term_model.specs.Terms.{sort_eq}
 use Rattle.term_pool.specs.Views.{TermsView}
+use Rattle.term_pool.proofs.Keeping.{terms-refl}
 use Rattle.problem_text.specs.Commands.{assert_term}
 use Rattle.problem_text.specs.Forms.{form_of}
 use Rattle.problem_text.specs.Problems.{script_performed}
@@ -22,7 +24,6 @@ use Rattle.smtlib_reader.proofs.AgreeingScripts.{idle_agrees, all_refer}
 use Rattle.smtlib_reader.proofs.JudgedTerms.{checked, by_sort, right_sort}
 use Rattle.smtlib_reader.proofs.KeptByReading.{IsStill, still_after_term}
 use Rattle.term_reader.proofs.Coming.{same_outcome}
-use Rattle.term_reader.proofs.Staying.{table_keeps_none, keeps_none}
 use Rattle.term_expansion.specs.SymbolsAndTerms.{both}
 
 abbrev pub asserting : Typed → Script → Script
@@ -41,7 +42,7 @@ is_asserted i sc {a} {s} {v} {w} r {c} d more session h grow e pushed =
     let same : IsStill sc last = subst (λ (q : Outcome Script Typed). IsStill sc q.state) is (still_after_term (form_of i) (top r.replaces_lets) sc) in
     record {
       session = record {
-        idle = idle_agrees s s w w (table_keeps_none s) (keeps_none w) r last (asserting t last) (top r.replaces_lets) m.idle.script.sorts
+        idle = idle_agrees s s w w (keeps_table s) (terms-refl w) r last (asserting t last) (top r.replaces_lets) m.idle.script.sorts
             (λ name. record { functions = refl; macros = refl; named = refl; taken = refl; back = λ f. f }) m.idle;
         assertions = rw (pushed, same.assertions) (all_refer a s v w grow.symbols.keeps grow.terms d.assertions.items sc.assertions c.term t.tree session.assertions m.is.refers);
         has_logic = session.has_logic ∙ sym same.has_logic;

@@ -1,7 +1,9 @@
 -- What a command comes to that asks for nothing, or that notes something of the script alone.
 use Rattle.std.proofs.Common.{◌≡◌, Bool, true, ◌⊎◌, inl, inr, refl, ap, Ok}
 use Rattle.sym_table.specs.Table.{Table}
+use Rattle.sym_table.proofs.Tables.{keeps_table}
 use Rattle.term_pool.specs.Views.{TermsView}
+use Rattle.term_pool.proofs.Keeping.{terms-refl}
 use Rattle.text_items.specs.ItemsAt.{ItemsView}
 use Rattle.smtlib_reader.specs.CommandShapes.{command_said}
 use Rattle.smtlib_reader.specs.declared.commands.Command.{Command}
@@ -10,7 +12,6 @@ use Rattle.problem_text.specs.Scripts.{Script}
 use Rattle.smtlib_reader.specs.Sessions.{SessionView, IsSession, IsPerformed, top}
 use Rattle.smtlib_reader.proofs.AgreeingScripts.{idle_agrees}
 use Rattle.term_reader.proofs.Coming.{answers}
-use Rattle.term_reader.proofs.Staying.{table_keeps_none, keeps_none}
 use Rattle.term_expansion.specs.SymbolsAndTerms.{both}
 use Rattle.term_reader.specs.Reading.{ComesTo, terms_read}
 
@@ -18,7 +19,7 @@ module _ (s : Table) (v : TermsView) (d : SessionView) (sc : Script) (is : IsSes
   -- the same names, another logic or another word on checks
   pub session_noted : (logic checked : Bool) → IsSession (both s v) (record d { has_logic = logic; is_checked = checked }) (record sc { has_logic = logic; is_checked = checked })
   session_noted logic checked = record {
-    idle = idle_agrees s s v v (table_keeps_none s) (keeps_none v) d.reader sc (record sc { has_logic = logic; is_checked = checked }) (top d.reader.replaces_lets) is.idle.script.sorts
+    idle = idle_agrees s s v v (keeps_table s) (terms-refl v) d.reader sc (record sc { has_logic = logic; is_checked = checked }) (top d.reader.replaces_lets) is.idle.script.sorts
         (λ name. record { functions = refl; macros = refl; named = refl; taken = refl; back = λ f. f }) is.idle;
     assertions = is.assertions;
     has_logic = refl;

@@ -11,11 +11,7 @@ use Rattle.text_items.specs.ItemShapes.{items_of}
 use Rattle.problem_text.specs.Commands.{ScriptCommand as Shape, refused, script_command_named, headed_script_command, script_command_of}
 use Rattle.smtlib_reader.specs.CommandShapes.{script_word_named, script_command_so}
 use Rattle.text_items.specs.Stepping.{head_word}
-
--- f of a choice, where each side is f of its own
-choice : {A B : Type 0} (f : A → B) (b : Bool) (x y : A) (u v : B) → u ≡ f x → v ≡ f y → (if b then u else v) ≡ f (if b then x else y)
-choice f true x y u v p q = p
-choice f false x y u v p q = q
+use Rattle.term_model.proofs.Basics.{choice}
 
 pub by_word : (checked : Bool) (place word_place : ℕ) (name : List ℕ) (items : Items)
     → script_command_named checked place word_place name items ≡ script_command_so (script_word_named name) checked place word_place items

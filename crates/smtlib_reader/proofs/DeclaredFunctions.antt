@@ -10,6 +10,7 @@ use Rattle.sym_table.specs.Words.{IsBuiltIn}
 use Rattle.term_model.specs.Terms.{Fun}
 use Rattle.term_pool.specs.StandsFor.{function_leaf}
 use Rattle.term_pool.specs.Views.{TermsView}
+use Rattle.term_pool.proofs.Keeping.{terms-refl}
 use Rattle.term_names.specs.Entries.{EntriesView}
 use Rattle.term_names.specs.Known.{KnownView}
 use Rattle.term_names.specs.Scope.{Scoped}
@@ -20,12 +21,12 @@ use Rattle.problem_text.specs.Words.{is_built_in}
 use Rattle.term_names.specs.declared.entries.Entry.{Entry}
 use Rattle.term_names.specs.declared.names.KnownEntry.{KnownEntry}
 use Rattle.smtlib_reader.specs.Sessions.{SessionView}
-use Rattle.smtlib_reader.proofs.AgreeingScripts.{PutsEntry, puts_holds, script_puts, idle_moves, all_stay, among_before, among_now}
+use Rattle.smtlib_reader.proofs.AgreeingScripts.{PutsEntry, puts_holds, script_puts, idle_moves, among_before, among_now}
 use Rattle.smtlib_reader.proofs.DeclaredSorts.{is_no_word}
 use Rattle.term_reader.proofs.GivenNames.{apart, or_none, no_entry, no_word_taken}
+use Rattle.term_reader.proofs.Staying.{all_stay}
 use Rattle.term_names.proofs.HeldVariables.{slice_get-last}
 use Rattle.term_names.proofs.Positions.{slice_get-push_cases}
-use Rattle.term_reader.proofs.Staying.{keeps_none}
 use Rattle.term_expansion.specs.SymbolsAndTerms.{both}
 
 -- a name that is free is not refused
@@ -77,7 +78,7 @@ module _ (s : Table) (v : TermsView) (f : Fun) (sc : Script) where
   module _ (keeps : Keeps s grown) (k : KnownView) (e : EntriesView) (puts : PutsEntry k.own e f.name (Entry.Function (length s.leaves))) where
     function_script : is_taken sc f.name ≡ false → IsScript (both s v) k sc → IsScript (both grown v) (record k { own = e }) (with_declared f sc)
     function_script untaken is =
-        script_puts s grown v v keeps (keeps_none v) k e sc (with_declared f sc) f.name (Entry.Function (length s.leaves)) (puts_holds k e f.name _ puts) puts.names is.sorts
+        script_puts s grown v v keeps (terms-refl v) k e sc (with_declared f sc) f.name (Entry.Function (length s.leaves)) (puts_holds k e f.name _ puts) puts.names is.sorts
         (no_word_taken sc f.name untaken is.built_in)
         (λ other differs. record {
           functions = function_before other differs;
@@ -105,9 +106,9 @@ module _ (s : Table) (v : TermsView) (f : Fun) (sc : Script) where
       → is_taken sc f.name ≡ false → IsSession (both s v) d sc
       → IsSession (both grown v) (record d { reader = record d.reader { names = record { known = record d.reader.names.known { own = e }; scope = scope } } }) (with_declared f sc)
   function_session d e scope keeps puts same untaken is = record {
-    idle = idle_moves s grown v v keeps (keeps_none v) d.reader (record { known = record d.reader.names.known { own = e }; scope = scope }) sc (with_declared f sc) (top d.reader.replaces_lets) same is.idle
+    idle = idle_moves s grown v v keeps (terms-refl v) d.reader (record { known = record d.reader.names.known { own = e }; scope = scope }) sc (with_declared f sc) (top d.reader.replaces_lets) same is.idle
         (function_script keeps d.reader.names.known e puts untaken is.idle.script);
-    assertions = all_stay s grown v v keeps (keeps_none v) d.assertions.items sc.assertions is.assertions;
+    assertions = all_stay s grown v v keeps (terms-refl v) d.assertions.items sc.assertions is.assertions;
     has_logic = is.has_logic;
     is_checked = is.is_checked;
   }

@@ -14,6 +14,7 @@ use Rattle.sym_table.specs.Table.{Table, IsSortName, IsDeclaredSort, Keeps, with
 use Rattle.sym_table.specs.Words.{IsBuiltIn, built_in_words}
 use Rattle.term_model.specs.declared.symbols.Sort.{Sort}
 use Rattle.term_pool.specs.Views.{TermsView}
+use Rattle.term_pool.proofs.Keeping.{terms-refl}
 use Rattle.problem_text.specs.Commands.{declare_sort}
 use Rattle.text_items.specs.ItemShapes.{Name}
 use Rattle.problem_text.specs.Problems.{script_performed}
@@ -24,9 +25,9 @@ use Rattle.smtlib_reader.specs.Sessions.{IsSession, top, IsPerformed}
 use Rattle.problem_text.specs.Words.{is_among, is_built_in}
 use Rattle.term_names.specs.declared.faults.ReadFault.{ReadFault}
 use Rattle.smtlib_reader.specs.Sessions.{SessionView}
-use Rattle.smtlib_reader.proofs.AgreeingScripts.{idle_agrees, all_stay}
+use Rattle.smtlib_reader.proofs.AgreeingScripts.{idle_agrees}
 use Rattle.term_reader.proofs.Coming.{answers, refuses, no_memory}
-use Rattle.term_reader.proofs.Staying.{keeps_none}
+use Rattle.term_reader.proofs.Staying.{all_stay}
 use Rattle.term_expansion.specs.SymbolsAndTerms.{both}
 use Rattle.term_reader.specs.Reading.{ComesTo, terms_read}
 
@@ -65,9 +66,9 @@ sort_is_free s name e (inr (n, there)) =
 sort_session : (s : Table) (v : TermsView) (name : List ℕ) (sc : Script) → Keeps s (with_sort_name s name) → (d : SessionView) → IsSession (both s v) d sc
     → IsSession (both (with_sort_name s name) v) d (spec.with_sort name sc)
 sort_session s v name sc keeps d h = record {
-  idle = idle_agrees s (with_sort_name s name) v v keeps (keeps_none v) d.reader sc (spec.with_sort name sc) (top d.reader.replaces_lets) (ap (λ names. names ++ name ∷ []) h.idle.script.sorts)
+  idle = idle_agrees s (with_sort_name s name) v v keeps (terms-refl v) d.reader sc (spec.with_sort name sc) (top d.reader.replaces_lets) (ap (λ names. names ++ name ∷ []) h.idle.script.sorts)
       (λ other. record { functions = refl; macros = refl; named = refl; taken = refl; back = λ f. f }) h.idle;
-  assertions = all_stay s (with_sort_name s name) v v keeps (keeps_none v) d.assertions.items sc.assertions h.assertions;
+  assertions = all_stay s (with_sort_name s name) v v keeps (terms-refl v) d.assertions.items sc.assertions h.assertions;
   has_logic = h.has_logic;
   is_checked = h.is_checked;
 }

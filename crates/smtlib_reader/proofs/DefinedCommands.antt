@@ -2,10 +2,12 @@
 use Rattle.std.proofs.Common.{◌≡◌, ℕ, List, true, Ok, refl, subst}
 use Rattle.sexpr.specs.Items.{Item, place_of}
 use Rattle.sym_table.specs.Table.{Table, Keeps}
+use Rattle.sym_table.proofs.Tables.{keeps_table}
 use Rattle.term_model.specs.declared.symbols.Sort.{Sort}
 use Rattle.term_model.specs.Terms.{Var, sort_eq}
 use Rattle.term_model.proofs.Tests.{sort_eq_decides}
 use Rattle.term_pool.specs.Views.{TermsView}
+use Rattle.term_pool.proofs.Keeping.{terms-refl}
 use Rattle.smtlib_reader.specs.Defining.{within, body_read, macro_defined, AreListed, IsBodyRead, IsDefined}
 use Rattle.smtlib_reader.specs.Sessions.{top}
 use Rattle.term_names.specs.Entries.{EntriesView}
@@ -22,7 +24,7 @@ use Rattle.smtlib_reader.proofs.AgreeingScripts.{idle_moves}
 use Rattle.smtlib_reader.proofs.DefinedMacros.{PutsMacro, defined_script, reserved_name}
 use Rattle.smtlib_reader.proofs.JudgedTerms.{checked, right_sort}
 use Rattle.smtlib_reader.proofs.KeptByReading.{still_reserved, IsReservedIn}
-use Rattle.term_reader.proofs.Staying.{table_keeps_none, keeps_none, leaves_stay}
+use Rattle.term_reader.proofs.Staying.{leaves_stay}
 use Rattle.term_expansion.specs.SymbolsAndTerms.{both}
 use Rattle.term_reader.specs.Reading.{ComesTo, terms_read}
 
@@ -44,7 +46,7 @@ is_defined name xs target i sc {a} {z} {s} {v} {w} r {c} e scope l reserved h li
       no_function = reserved.no_function.script;
     })) in
     record {
-      idle = idle_moves s s w w (table_keeps_none s) (keeps_none w) r (record { known = record r.names.known { own = e }; scope = scope }) q (with_body name xs target t q) (top r.replaces_lets) same_scope m.idle
+      idle = idle_moves s s w w (keeps_table s) (terms-refl w) r (record { known = record r.names.known { own = e }; scope = scope }) q (with_body name xs target t q) (top r.replaces_lets) same_scope m.idle
           (defined_script s w r.names.known e q (record { name = name; parameters = xs; target = target; body = t.tree }) (record { parameters = l.leaves; sorts = l.sorts; target = target; body = c }) puts m.idle.script (record {
             parameters = leaves_stay z s keeps l.leaves.items xs listed.leaves;
             sorts = listed.sorts;

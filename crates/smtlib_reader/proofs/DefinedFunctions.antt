@@ -5,9 +5,11 @@ use Rattle.sexpr.specs.declared.causes.Cause.TheVariants.{Repeated}
 use Rattle.sexpr.specs.declared.causes.Refusal.{Refusal}
 use Rattle.sexpr.specs.Items.{Item, Items}
 use Rattle.sym_table.specs.Table.{Table, Keeps}
+use Rattle.sym_table.proofs.Tables.{keeps_table}
 use Rattle.term_model.specs.declared.symbols.Sort.{Sort}
 use Rattle.term_model.specs.Terms.{Var}
 use Rattle.term_pool.specs.Views.{TermsView, KeepsTerms}
+use Rattle.term_pool.proofs.Keeping.{terms-refl}
 use Rattle.problem_text.specs.Commands.{ScriptCommand, define_fun}
 use Rattle.smtlib_reader.specs.Defining.{Signature, signature_from, IsSignatureRead, macro_defined, IsDefining, IsDefined}
 use Rattle.term_names.specs.Entries.{EntriesView}
@@ -24,13 +26,13 @@ use Rattle.text_items.specs.ItemsAt.{ItemsView}
 use Rattle.smtlib_reader.specs.declared.parameters.Parameter.{Parameter}
 use Rattle.term_reader.specs.ReadingViews.{ReadingView}
 use Rattle.smtlib_reader.specs.Sessions.{SessionView}
-use Rattle.smtlib_reader.proofs.AgreeingScripts.{idle_moves, all_stay}
+use Rattle.smtlib_reader.proofs.AgreeingScripts.{idle_moves}
 use Rattle.smtlib_reader.proofs.JudgedTerms.{and_is}
 use Rattle.smtlib_reader.proofs.DefinedMacros.{TakesName, name_reserved, reserved_script}
 use Rattle.term_reader.proofs.GivenNames.{either_false, no_entry}
 use Rattle.smtlib_reader.proofs.KeptByReading.{IsStill, still_after_macro}
 use Rattle.term_reader.proofs.Coming.{refuses, no_memory, same_outcome, answers_more}
-use Rattle.term_reader.proofs.Staying.{table_keeps_none, keeps_none}
+use Rattle.term_reader.proofs.Staying.{all_stay}
 use Rattle.term_expansion.specs.SymbolsAndTerms.{both}
 use Rattle.term_reader.specs.Reading.{ComesTo, terms_read}
 
@@ -79,7 +81,7 @@ module _ (replaces : Bool) (n : Name) (parameters : Items) (target body : Item) 
         let k = d.reader.names.known in
         let none = no_entry s v k sc n.name session.idle.script free in
         rw same (record {
-          idle = idle_moves s s v v (table_keeps_none s) (keeps_none v) d.reader (record { known = record k { own = e }; scope = scope }) sc (with_name n.name sc) (top d.reader.replaces_lets) same_scope session.idle
+          idle = idle_moves s s v v (keeps_table s) (terms-refl v) d.reader (record { known = record k { own = e }; scope = scope }) sc (with_name n.name sc) (top d.reader.replaces_lets) same_scope session.idle
               (reserved_script s v k sc n.name session.idle.script e (subst (λ (x : List ℕ). TakesName k.own e x) same takes) free none);
           reserved = name_reserved s v k sc n.name session.idle.script (either_false (is_built_in n.name) (is_among sc.taken n.name) free) none;
         })

@@ -4,7 +4,9 @@ use Rattle.std.specs.Option.{option_or}
 use Rattle.std.proofs.lemmas.List.Folds.{find-append}
 use Rattle.std.proofs.lemmas.Slice.Eq.{bytes_eq-Decides}
 use Rattle.sym_table.specs.Table.{Table}
+use Rattle.sym_table.proofs.Tables.{keeps_table}
 use Rattle.term_pool.specs.Views.{TermsView}
+use Rattle.term_pool.proofs.Keeping.{terms-refl}
 use Rattle.term_names.specs.Entries.{EntriesView, Puts}
 use Rattle.term_names.specs.Known.{KnownView, known_entry}
 use Rattle.problem_text.specs.Scripts.{Macro, Script, is_taken, with_name, with_macro}
@@ -17,7 +19,6 @@ use Rattle.term_reader.proofs.GivenNames.{slice_get-before, apart, or_none, eith
 use Rattle.term_names.proofs.HeldVariables.{slice_get-last}
 use Rattle.smtlib_reader.proofs.AgreeingScripts.{PutsEntry, puts_holds, holds_still, script_puts, among_before, among_now}
 use Rattle.smtlib_reader.proofs.KeptByReading.{IsReservedIn}
-use Rattle.term_reader.proofs.Staying.{table_keeps_none, keeps_none}
 use Rattle.term_expansion.specs.SymbolsAndTerms.{both}
 
 -- what entries say once a name is taken for a macro
@@ -37,7 +38,7 @@ module _ (s : Table) (v : TermsView) (k : KnownView) (sc : Script) (name : List 
 
   pub reserved_script : (e : EntriesView) → TakesName k.own e name → is_taken sc name ≡ false → known_entry k name ≡ None → IsScript (both s v) (record k { own = e }) (with_name name sc)
   reserved_script e takes untaken none =
-      script_puts s s v v (table_keeps_none s) (keeps_none v) k e sc (with_name name sc) name Entry.Reserved (puts_holds k e name Entry.Reserved takes) takes.names is.sorts
+      script_puts s s v v (keeps_table s) (terms-refl v) k e sc (with_name name sc) name Entry.Reserved (puts_holds k e name Entry.Reserved takes) takes.names is.sorts
       (no_word_taken sc name untaken is.built_in)
       (λ other differs. record { functions = refl; macros = refl; named = refl; taken = among_before sc.taken name other differs; back = λ f. f })
       (name_reserved (either_false (is_built_in name) (is_among sc.taken name) untaken) none) is
@@ -51,7 +52,7 @@ pub record PutsMacro (old new : EntriesView) (name : List ℕ) (held : macro.Mac
 pub defined_script : (s : Table) (v : TermsView) (k : KnownView) (e : EntriesView) (sc : Script) (d : Macro) (held : macro.Macro) → PutsMacro k.own e d.name held → IsScript (both s v) k sc
     → IsMacroOf (both s v) held d → IsReservedName s sc d.name → IsScript (both s v) (record k { own = e }) (with_macro d sc)
 defined_script s v k e sc d held puts is held_is r =
-    script_puts s s v v (table_keeps_none s) (keeps_none v) k e sc (with_macro d sc) d.name (Entry.Macro (length k.own.macros))
+    script_puts s s v v (keeps_table s) (terms-refl v) k e sc (with_macro d sc) d.name (Entry.Macro (length k.own.macros))
     (holds_still k e (λ i m h. rw puts.macros (slice_get-before k.own.macros held i m h)) puts.named) puts.names is.sorts is.built_in
     (λ other differs. record {
       functions = refl;

@@ -11,6 +11,7 @@ use Rattle.term_model.specs.declared.symbols.Sort.{Sort}
 use Rattle.term_model.specs.Terms.{Var}
 use Rattle.term_pool.specs.StandsFor.{variable_leaf}
 use Rattle.term_pool.specs.Views.{TermsView}
+use Rattle.term_pool.proofs.Keeping.{terms-refl}
 use Rattle.smtlib_reader.specs.Defining.{AddsParameter, AreListed, IsReadyForBody}
 use Rattle.term_model.specs.Heights.{height}
 use Rattle.term_names.specs.InScope.{IsScope, AreValuesBound}
@@ -28,7 +29,7 @@ use Rattle.text_items.specs.ItemsAt.{ItemsView}
 use Rattle.smtlib_reader.specs.declared.parameters.Parameter.{Parameter}
 use Rattle.term_reader.specs.ReadingViews.{ReadingView}
 use Rattle.term_expansion.specs.declared.values.Value.{Value}
-use Rattle.term_reader.proofs.Staying.{bound_stays, keeps_none, scope_stays, script_stays}
+use Rattle.term_reader.proofs.Staying.{bound_stays, scope_stays, script_stays}
 use Rattle.term_expansion.specs.SymbolsAndTerms.{SymbolsAndTerms, both}
 
 -- a leaf, as a term
@@ -64,7 +65,7 @@ pub one_listed : (items : ItemsView) (s z : Table) (v : TermsView) (ps : List Pa
 one_listed items s z v ps i d leaves more values new k less h keeps a pushed =
     let front = parameters_said items (take i ps) in
     let x = parameter_said items (get_or ps i d) in
-    let before = bound_stays s z v v keeps (keeps_none v) leaves values (map itself front) h in
+    let before = bound_stays s z v v keeps (terms-refl v) leaves values (map itself front) h in
     let now = bound_more z v leaves values (map itself front) k a.value (itself x) before a.leaf a.is in
     rw (pushed, a.pushed, take_more ps i d less, map-append (parameter_said items) (take i ps) (get_or ps i d ∷ []), map-append itself front (x ∷ [])) now
 
@@ -95,8 +96,8 @@ pub is_entered : (s z : Table) (v : TermsView) (r : ReadingView) (l : Listed) (e
 is_entered s z v r l e scope values none xs sc adds idle bound sorts put same no_values = (
   record { leaves = leaves_bound z l.leaves.items xs bound.leaves; sorts = sorts ∙ sorts_bound (both z v) values xs bound.values },
   record {
-    script = rw same (script_stays s z v v adds (keeps_none v) r.names.known sc idle.script);
-    scope = subst (λ (bs : List Bound). IsScope (both z v) scope bs) (inside_themselves xs) (put (top false) (scope_stays s z v v adds.keeps (keeps_none v) r.names.scope [] idle.scope) refl);
+    script = rw same (script_stays s z v v adds (terms-refl v) r.names.known sc idle.script);
+    scope = subst (λ (bs : List Bound). IsScope (both z v) scope bs) (inside_themselves xs) (put (top false) (scope_stays s z v v adds.keeps (terms-refl v) r.names.scope [] idle.scope) refl);
     no_values = no_values;
     no_leaves = idle.no_leaves;
     no_frames = idle.no_frames;

@@ -5,9 +5,11 @@ use Rattle.sexpr.specs.declared.causes.Cause.TheVariants.{SortMismatch}
 use Rattle.sexpr.specs.declared.causes.Refusal.{Refusal}
 use Rattle.sexpr.specs.Items.{Item, place_of}
 use Rattle.sym_table.specs.Table.{Table}
+use Rattle.sym_table.proofs.Tables.{keeps_table}
 use Rattle.term_model.specs.declared.symbols.Sort.{Sort}
 use Rattle.term_model.specs.Terms.{Term, sort_eq}
 use Rattle.term_pool.specs.Views.{TermsView}
+use Rattle.term_pool.proofs.Keeping.{terms-refl}
 use Rattle.problem_text.specs.Commands.{refused}
 use Rattle.problem_text.specs.TypedTerms.{Typed}
 use Rattle.problem_text.specs.Outcomes.{Outcome, done, refuse, and_then}
@@ -17,7 +19,6 @@ use Rattle.term_expansion.specs.declared.values.Value.{Value}
 use Rattle.term_expansion.specs.SymbolsAndTerms.{both}
 use Rattle.term_reader.specs.Reading.{ComesTo, Gives, IsAnswer, terms_read}
 use Rattle.term_reader.proofs.Coming.{KeepsReads, part_then, answers_whole, forgets, stops, goes, refuses}
-use Rattle.term_reader.proofs.Staying.{table_keeps_none, keeps_none}
 
 -- a sort is the expected one, or refused
 abbrev pub checked : Bool → ℕ → Result ⊤ Refusal
@@ -66,7 +67,7 @@ module _ (target : Sort) (i : Item) (after : Typed → Script → Script) where
         pub other_sort : {refusal : Refusal} → Err refusal ≡ checked (sort_eq c.sort target) (place_of i)
             → ComesTo terms_read old (both s new) N (and_then o by_sort) (Err (ReadFault.Text refusal))
         other_sort e =
-            goes by_sort keeps h (table_keeps_none s) (keeps_none new)
+            goes by_sort keeps h (keeps_table s) (terms-refl new)
             (λ t q m. refuses refl (result_so t q (sort_eq t.sort target) ∙ ap (λ sort. checked (sort_eq sort target) (place_of i)) (sym (sort_of c t q m)) ∙ sym e))
 
         pub right_sort : checked true (place_of i) ≡ checked (sort_eq c.sort target) (place_of i) → ((t : Typed) (q : Script) → M c t q → o ≡ done t q → sort_eq c.sort target ≡ true → N tt tt (after t q))

@@ -1,8 +1,7 @@
 -- Parameters by their pairs.
-use Rattle.std.proofs.Common.{◌≡◌, ℕ, ◌∙◌, Bool, true, false, not, ◌||◌, List, [], ◌∷◌, ◌++◌, Option, Some, None, Result, Ok, Err, fold, refl, sym, ap}
+use Rattle.std.proofs.Common.{◌≡◌, ℕ, ◌∙◌, Bool, true, false, not, ◌||◌, List, [], ◌∷◌, ◌++◌, None, Result, Ok, Err, fold, refl, sym, ap}
 use Rattle.std.specs.Borrow.{Bor}
 use Rattle.std.specs.Prelude.{bytes_eq, ◌↔◌, IsTrue, Contains, if◌then◌else◌}
-use Rattle.std.specs.Option.{option_or}
 use Rattle.std.specs.Cmp.Lexicographic.{nat_list_eq_equiv}
 use Rattle.std.proofs.lemmas.Bool.Decides.{same_from_decides}
 use Rattle.std.proofs.lemmas.List.Sums.{fold-append}
@@ -13,6 +12,7 @@ use Rattle.sexpr.specs.declared.causes.Refusal.{Refusal}
 use Rattle.sexpr.specs.Items.{Item, word, quoted, string, list, Items, no_items, item, place_of}
 use Rattle.term_model.specs.declared.symbols.Sort.{Sort}
 use Rattle.term_model.specs.Terms.{Var}
+use Rattle.term_model.proofs.Basics.{or_none}
 use Rattle.sym_table.specs.Words.{built_in_words}
 use Rattle.term_names.specs.declared.faults.ReadFault.{ReadFault}
 use Rattle.smtlib_reader.specs.declared.parameters.Parameter.{Parameter}
@@ -30,13 +30,9 @@ names_before items ps = fold (λ names p. (parameter_said items p).name ∷ name
 pub one_name_more : (items : ItemsView) (ps : List Parameter) (p : Parameter) → names_before items (ps ++ p ∷ []) ≡ (parameter_said items p).name ∷ names_before items ps
 one_name_more items ps p = fold-append (λ names q. (parameter_said items q).name ∷ names) [] ps (p ∷ [])
 
-no_fault : (a b : Option ℕ) → option_or a b ≡ None → (a ≡ None) × (b ≡ None)
-no_fault None b e = (refl, e)
-no_fault (Some p) b e = cc
-
 -- pairs without a fault: the first of them, and the others
 pub pairs_fit : (pair : Item) (others all : Items) → all ≡ item pair others → pairs_fault all ≡ None → (pair_fault pair ≡ None) × (pairs_fault others ≡ None)
-pairs_fit pair others all split e = no_fault (pair_fault pair) (pairs_fault others) (sym (ap pairs_fault split) ∙ e)
+pairs_fit pair others all split e = or_none (pair_fault pair) (pairs_fault others) (sym (ap pairs_fault split) ∙ e)
 
 -- a pair without a fault is a list of a symbol and another item
 pub pair_fits : (i x t : Item) (rest : Items) → pair_fault i ≡ None → items_of i ≡ item x (item t rest) → (symbol_fault x ≡ None) × (i ≡ list (place_of i) (item x (item t rest)))
@@ -46,7 +42,7 @@ pair_fits (string p s) x t rest e split = cc
 pair_fits (list p no_items) x t rest e split = cc
 pair_fits (list p (item y no_items)) x t rest e split = cc
 pair_fits (list p (item y (item u others))) x t rest e split =
-    let same : y ≡ x = cc in (ap symbol_fault (sym same) ∙ (no_fault (symbol_fault y) (excess others) e).0, ap (list p) split)
+    let same : y ≡ x = cc in (ap symbol_fault (sym same) ∙ (or_none (symbol_fault y) (excess others) e).0, ap (list p) split)
 
 -- a test for membership is the one for built-in words
 pub built_in : (r : Bool) (name : List ℕ) → IsTrue r ↔ Contains built_in_words name → r ≡ is_built_in name

@@ -11,7 +11,8 @@ use Rattle.sexpr.specs.Source.{source, position}
 use Rattle.sym_table.specs.Table.{Table}
 use Rattle.term_model.specs.Terms.{Term}
 use Rattle.term_pool.specs.Views.{TermsView, ReferToAll}
-use Rattle.term_names.specs.Making.{PlacesCellsOf, LacksCellOf}
+use Rattle.term_pool.specs.Placing.{PlacesCellsOf, LacksCellOf}
+use Rattle.term_pool.proofs.PlacedCells.{places_more, lacks_more}
 use Rattle.smtlib_reader.specs.ProblemReading.{AreLeft}
 use Rattle.term_reader.specs.ProblemViews.{IsCounted}
 use Rattle.problem_text.specs.Problems.{problem, StandsForProblem, IsFirstFault}
@@ -20,7 +21,6 @@ use Rattle.problem_text.specs.Outcomes.{Outcome}
 use Rattle.problem_text.specs.Scripts.{Script, empty_script}
 use Rattle.smtlib_reader.specs.Sessions.{SessionView, IsSession, IsPerformed}
 use Rattle.term_names.specs.declared.faults.ReadFault.{ReadFault}
-use Rattle.term_reader.proofs.Staying.{places_more, lacks_more}
 use Rattle.term_expansion.specs.SymbolsAndTerms.{both}
 
 -- at the start all commands of the text are left

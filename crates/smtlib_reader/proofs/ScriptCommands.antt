@@ -5,6 +5,7 @@ use Rattle.sexpr.specs.declared.causes.Refusal.{Refusal}
 use Rattle.sexpr.specs.Items.{Item, Items, no_items, item}
 use Rattle.sym_table.specs.Table.{Table}
 use Rattle.term_pool.specs.Views.{TermsView}
+use Rattle.term_pool.proofs.PlacedCells.{places_none}
 use Rattle.smtlib_reader.specs.CommandShapes.{command_said}
 use Rattle.problem_text.specs.Commands.{ScriptCommand, script_command_of}
 use Rattle.text_items.specs.ItemsAt.{ItemsView, end_at, item_at}
@@ -21,7 +22,6 @@ use Rattle.term_names.specs.declared.faults.ReadFault.{ReadFault}
 use Rattle.text_items.specs.declared.nodes.Node.{Node}
 use Rattle.problem_text.proofs.Growing.{by_commands}
 use Rattle.term_reader.proofs.Coming.{IsPartOf, part_then, answers_whole, fails, refuses}
-use Rattle.term_reader.proofs.Staying.{places_none}
 use Rattle.term_expansion.specs.SymbolsAndTerms.{both}
 
 -- the first of the commands, by its shape

@@ -3,23 +3,17 @@ use Rattle.std.proofs.Common.{◌≡◌, refl, sym, ◌∙◌, ap, subst, ℕ, L
 use Rattle.sexpr.specs.declared.causes.Refusal.{Refusal}
 use Rattle.sexpr.specs.declared.lexing.Lexer.{Lexer}
 use Rattle.sexpr.specs.declared.lexing.Token.{Token}
-use Rattle.sexpr.specs.Items.{Item, word, quoted, string, list, Items, no_items, item, IsItem, AreItems}
+use Rattle.sexpr.specs.Items.{Item, Items, no_items, item, IsItem, AreItems}
 use Rattle.sexpr.specs.Source.{source, position}
 use Rattle.sexpr.specs.Tokens.{Read, next_token, AreTokens}
 use Rattle.text_items.specs.Lexers.{GoesOnWith}
 use Rattle.text_items.specs.Nesting.{AreItsNodes}
 use Rattle.smtlib_reader.specs.ProblemReading.{HasItems, IsFirstItem}
 use Rattle.text_items.specs.declared.nodes.Node.{Node}
-use Rattle.text_items.proofs.TokensLeft.{Begins, begins, not_faulty}
+use Rattle.text_items.proofs.TokensLeft.{Begins, begins, not_faulty, no_token}
 
 pub no_fault : (text : List ℕ) (at : ℕ) (r : Refusal) → next_token text at ≡ Err r → (items : Items) × HasItems text at items → ⊥
 no_fault text at r is (items, h) = not_faulty h.tokens r (subst (λ (x : Read). Begins x h.tokens) is (begins text at h.tokens h.read))
-
-no_token : (text : List ℕ) (i : Item) (rest : List Token) → IsItem text [] i rest → ⊥
-no_token text (word place spelling) rest h = cc h.first
-no_token text (quoted place spelling) rest h = cc h.first
-no_token text (string place spelling) rest h = cc h.first
-no_token text (list place items) rest (open_bracket, inside, after, close_bracket, h, _, _, _) = cc h.first
 
 none_left : (text : List ℕ) (items : Items) → AreItems text [] items [] → items ≡ no_items
 none_left text no_items h = refl

@@ -5,12 +5,13 @@ use Rattle.sexpr.specs.declared.lexing.Lexer.{Lexer}
 use Rattle.sexpr.specs.Source.{source, position}
 use Rattle.sym_table.specs.Table.{Table}
 use Rattle.term_pool.specs.Views.{TermsView}
+use Rattle.term_pool.proofs.PlacedCells.{places_none, places_then}
 use Rattle.smtlib_reader.specs.ProblemReading.{AreLeft, IsCommandRead, most_after}
 use Rattle.problem_text.specs.Outcomes.{Outcome}
 use Rattle.problem_text.specs.Scripts.{Script}
 use Rattle.smtlib_reader.specs.Sessions.{SessionView, IsSession}
 use Rattle.term_names.specs.declared.faults.ReadFault.{ReadFault}
-use Rattle.term_reader.proofs.Staying.{grow_none, grow_then, places_none, places_then}
+use Rattle.term_reader.proofs.Staying.{grow_none, grow_then}
 use Rattle.term_expansion.specs.SymbolsAndTerms.{both, Grow}
 use Rattle.term_reader.specs.Reading.{Comes, terms_read}
 

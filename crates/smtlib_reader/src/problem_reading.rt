@@ -4,7 +4,7 @@ ghost use Rattle.pair_pool.specs.Views.{IsKnown};
 ghost use Rattle.sexpr.specs.declared.causes.Refusal.{Refusal};
 ghost use Rattle.sym_table.specs.Table.{Table, Keeps};
 ghost use Rattle.term_pool.specs.Views.{TermsView, KeepsTerms};
-ghost use Rattle.term_names.specs.Making.{PlacesCellsOf, LacksCellOf};
+ghost use Rattle.term_pool.specs.Placing.{PlacesCellsOf, LacksCellOf};
 ghost use Rattle.term_reader.specs.ProblemViews.{IsProblemOf, IsNewTable, IsCounted};
 ghost use Rattle.problem_text.specs.Problems.{StandsForProblem, IsFirstFault};
 ghost use Rattle.term_names.specs.declared.settings.ReadSettings.{ReadSettings};

@@ -1,10 +1,11 @@
 -- An application is well sorted exactly where its arguments are and its symbol may be applied to them.
-use Rattle.std.proofs.Common.{◌≡◌, ℕ, List, Option, Some, None, IsTrue, IfSome, IfNone, refl, sym, ◌∙◌, ap, pos}
+use Rattle.std.proofs.Common.{◌≡◌, ℕ, List, Option, Some, None, IsTrue, IfSome, IfNone, sym, ◌∙◌, ap, pos}
 use Rattle.term_model.specs.declared.symbols.Sort.{Sort}
 use Rattle.term_model.specs.declared.symbols.Op.{Op}
-use Rattle.term_model.specs.Terms.{Term, Terms, numeral, variable, operation, call, let_in, no_terms, term, list_of, terms_of}
+use Rattle.term_model.specs.Terms.{Term, Terms, numeral, variable, operation, call, let_in, list_of, terms_of}
 use Rattle.term_model.specs.Sorts.{IsOf, AreOf, IsWellSorted, application_sort}
 use Rattle.term_model.proofs.Sorting.{one_list}
+use Rattle.term_model.proofs.Lists.{terms_of-list_of}
 use Rattle.sym_table.specs.Leaf.{Leaf, operator, kind_of}
 use Rattle.sym_table.specs.Table.{Table, LeafMeets}
 use Rattle.term_pool.specs.StandsFor.{variable_leaf, function_leaf}
@@ -13,13 +14,9 @@ use Rattle.sort_check.specs.Applications.{is_head, IsHead, applied_sort}
 use Rattle.sym_table.specs.declared.kind.Kind.TheVariants as Kind
 use Rattle.sort_check.proofs.Leaves.{meets, there, at_leaf, operator_leaf}
 
-listed : (ts : Terms) → terms_of (list_of ts) ≡ ts
-listed no_terms = refl
-listed (term t ts) = ap (term t) (listed ts)
-
 arguments_are : (us : Terms) (ts : List Term) (ss : List Sort) → list_of us ≡ ts → AreOf (terms_of ts) ss → AreOf us ss
 arguments_are us ts ss e h =
-    let same : terms_of ts ≡ us = ap terms_of (sym e) ∙ listed us in
+    let same : terms_of ts ≡ us = ap terms_of (sym e) ∙ terms_of-list_of us in
     let P : Terms → Type 0 = λ x. AreOf x ss in
     go same
   where
@@ -28,7 +25,7 @@ arguments_are us ts ss e h =
 
 arguments_were : (us : Terms) (ts : List Term) (ss : List Sort) → list_of us ≡ ts → AreOf us ss → AreOf (terms_of ts) ss
 arguments_were us ts ss e h =
-    let same : us ≡ terms_of ts = sym (listed us) ∙ ap terms_of e in
+    let same : us ≡ terms_of ts = sym (terms_of-list_of us) ∙ ap terms_of e in
     let k : AreOf (terms_of ts) ss = rw same at h in k
 
 pub judged : (s : Table) (k : ℕ) (ts : List Term) (t : Term) (ss : List Sort) (sort : Sort) → IsHead s k → AreOf (terms_of ts) ss → IsAppliedLeaf s k ts t → LeafMeets s k (λ l. applied_sort l ss ≡ Some sort) → IsOf t sort

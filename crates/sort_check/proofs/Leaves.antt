@@ -1,4 +1,4 @@
--- What the clauses on a leaf come to.
+-- Cited by crates above. What the clauses on a leaf come to.
 use Rattle.std.proofs.Common.{◌≡◌, ℕ, zero, suc, ◌<◌, ◌≤◌, List, [], ◌∷◌, length, slice_get, get_or, Bool, true, false, Option, Some, None, IsSomeAnd, IsTrue, Decides, refl, sym, ◌∙◌, ap, arith}
 use Rattle.std.proofs.lemmas.Option.{slice_get_within, slice_get-get_or}
 use Rattle.term_model.specs.declared.symbols.Sort.{Sort}
@@ -9,7 +9,9 @@ use Rattle.term_model.proofs.Tests.{sort_eq_decides, sorts_eq_decides}
 use Rattle.sym_table.specs.declared.kind.Kind.{Kind}
 use Rattle.sym_table.specs.Leaf.{Leaf, nil, let_head, operator, function, variable, numeral, kind_of, is_function, leaf_arguments, target_of}
 use Rattle.sym_table.specs.Table.{Table, IsLeaf, LeafMeets}
+use Rattle.term_pool.specs.Views.{TermsView, IsTerm}
 use Rattle.sort_check.specs.Applications.{is_head, applied_sort}
+use Rattle.sort_check.specs.WellSorted.{IsWellSortedTerm}
 
 pub meets : (s : Table) (k : ℕ) (l : Leaf) (P : Leaf → Type 0) → IsLeaf s k l → P l → LeafMeets s k P
 meets s k l P e p = let m : IsSomeAnd (Some l) P = p in rw e m
@@ -119,3 +121,7 @@ alike_of s k l ts n e h = λ i low. ap (λ (ss : List Sort). slice_get ss i) (sy
 
 pub to_end : (ss ts : List Sort) (n : ℕ) → length ts ≤ n → AreAlikeBelow ss ts n → AreAlikeBelow ss ts (length ts)
 to_end ss ts n le h k low = h k (omega arith)
+
+-- what is well sorted is a term
+pub sorted_is_term : (s : Table) (v : TermsView) (r : ℕ) → IsWellSortedTerm s v r → IsTerm s v r
+sorted_is_term s v r is = record { means = is.means; refers = is.refers }

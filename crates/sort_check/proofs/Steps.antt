@@ -1,6 +1,6 @@
 -- One step on the way down to the sort of a term.
 use Rattle.std.proofs.Common.{◌≡◌, ℕ, ◌<◌, ◌≤◌, List, [], ◌∷◌, length, slice_get, Some, IsTrue, refl, sym, ◌∙◌, ap, arith, ℤ}
-use Rattle.pair_pool.specs.Views.{Cell, PoolView, PassView, IsUnchanged}
+use Rattle.pair_pool.specs.Views.{Cell, PoolView, PassView}
 use Rattle.sym_table.specs.declared.kind.Kind.{Kind}
 use Rattle.sym_table.specs.Leaf.{operator, kind_of, is_function, target_of}
 use Rattle.sym_table.specs.Table.{Table, IsLeaf, LeafMeets, IsFunctionLeaf}
@@ -13,7 +13,7 @@ use Rattle.term_model.specs.Heights.{height, highest}
 use Rattle.term_pool.specs.declared.shape.Shape.{Shape}
 use Rattle.term_pool.specs.Reading.{arguments_of, IsShapeOf, HasArgument, IsLetTerm}
 use Rattle.term_pool.specs.StandsFor.{variable_leaf, function_leaf}
-use Rattle.term_pool.specs.Views.{TermsView, RefersTo, KeepsTerms}
+use Rattle.term_pool.specs.Views.{TermsView, RefersTo}
 use Rattle.sort_check.specs.declared.descent.Step.{Step}
 use Rattle.sort_check.specs.Descent.{IsWellSortedApplication, IsVariable, IsHeadOf, IsLower, IsStep}
 use Rattle.sort_check.specs.WellSorted.{IsWellSortedTerm}
@@ -23,21 +23,8 @@ abbrev pass_of : ℕ → ℕ → List Cell → List Cell → List Cell → PassV
 pass_of places shares seen known placed =
     record { places = places; shares = shares; seen = seen; known = known; placed = placed }
 
-same_pass : (p q : PassView) → IsUnchanged p q → q ≡ p
-same_pass p q h =
-    ap (λ x. pass_of x q.shares q.seen q.known q.placed) h.places
-    ∙ (ap (λ x. pass_of p.places x q.seen q.known q.placed) h.shares
-    ∙ (ap (λ x. pass_of p.places p.shares x q.known q.placed) h.seen
-    ∙ (ap (λ x. pass_of p.places p.shares p.seen x q.placed) h.known
-    ∙ ap (λ x. pass_of p.places p.shares p.seen p.known x) h.placed)))
-
 abbrev terms_of : PoolView → PassView → TermsView
 terms_of pool pass = record { pool = pool; pass = pass }
-
--- a pass that was kept and did not change makes the same terms
-pub same_terms : (v w : TermsView) → KeepsTerms v w → IsUnchanged v.pass w.pass → w ≡ v
-same_terms v w k u =
-    ap (λ x. terms_of x w.pass) k.pool ∙ ap (λ x. terms_of v.pool x) (same_pass v.pass w.pass u)
 
 -- by the shape of a term, what it is
 pub shape_number : (s : Table) (t : Term) (n : Shape) (sort : Sort) (m : ℤ) → IsShapeOf s t n → n ≡ Shape.Num m → IsOf t sort → Sort.Int ≡ sort

@@ -6,12 +6,8 @@ use Rattle.pair_pool.specs.Trees.{Tree, leaf, cell}
 use Rattle.pair_pool.specs.Views.{PassView, HasPartsOfTrees, IsKnown, Knows}
 use Rattle.sym_table.specs.Table.{Table}
 use Rattle.term_model.specs.Terms.{Term}
+use Rattle.term_model.proofs.Lists.{all_joined}
 use Rattle.term_pool.specs.Views.{TermsView, RefersTo, IsTerm, IsKnownCell}
-
--- what holds of the items of two lists, and of one item
-pub all_append : {X : Type 0} (P : X → Type 0) (xs ys : List X) → AllByRecursion P xs → AllByRecursion P ys → AllByRecursion P (xs ++ ys)
-all_append P [] ys h g = g
-all_append P (x ∷ xs) ys h g = (h.0, all_append P xs ys h.1 g)
 
 pub all_at : {X : Type 0} (P : X → Type 0) (xs : List X) (k : ℕ) (q : X) → AllByRecursion P xs → k < length xs → q ≡ get_or xs k q → P q
 all_at P [] k q h below is = absurd (omega (arith, below))
@@ -21,13 +17,6 @@ all_at P (x ∷ xs) (suc k) q h below is = all_at P xs k q h.1 (omega (arith, be
 pub all_more : {X : Type 0} (P Q : X → Type 0) (xs : List X) → ((x : X) → P x → Q x) → AllByRecursion P xs → AllByRecursion Q xs
 all_more P Q [] more h = tt
 all_more P Q (x ∷ xs) more h = (more x h.0, all_more P Q xs more h.1)
-
--- the literals of a clause stand for terms, and a reference of a term is known
-pub literal_terms : (s : Table) (v : TermsView) (rs : List ℕ) (ts : List Term) → AllZip (RefersTo s v) rs ts → AllByRecursion (IsTerm s v) rs
-literal_terms s v [] [] h = tt
-literal_terms s v [] (t ∷ ts) h = absurd h
-literal_terms s v (r ∷ rs) [] h = absurd h
-literal_terms s v (r ∷ rs) (t ∷ ts) h = (record { means = t; refers = h.0 }, literal_terms s v rs ts h.1)
 
 pub term_known : (s : Table) (v : TermsView) (r : ℕ) → IsTerm s v r → IsKnown v.pass r
 term_known s v r t = record { tree = t.refers.tree; stands = t.refers.known }
@@ -53,4 +42,4 @@ parts_known p r a b c first second = (record { tree = c.first; stands = first c.
 pub all_two : {X : Type 0} (P : X → Type 0) (old mid new : List X) (x y : X) → mid ≡ old ++ x ∷ [] → new ≡ mid ++ y ∷ [] → AllByRecursion P old → P x → P y → AllByRecursion P new
 all_two P old mid new x y first second all one two =
     subst (AllByRecursion P) (sym second)
-    (all_append P mid (y ∷ []) (subst (AllByRecursion P) (sym first) (all_append P old (x ∷ []) all (one, tt))) (two, tt))
+    (all_joined P mid (y ∷ []) (subst (AllByRecursion P) (sym first) (all_joined P old (x ∷ []) all (one, tt))) (two, tt))

@@ -9,62 +9,33 @@ use Rattle.term_pool.specs.Views.{TermsView, RefersTo, IsTerm, ReferToAll}
 use Rattle.rule_model.specs.declared.rules.Mode.{Mode}
 use Rattle.rule_model.specs.Statuses.{IsAsserted}
 use Rattle.step_check.specs.Steps.{AreAssertedTo}
-
-pub false_is : {P : Type 0} → ¬ P → IsTrue false ↔ P
-false_is n = (λ e. absurd cc, λ h. absurd (n h))
+use Rattle.schema_match.proofs.ReferLemmas.{refer_length, refer_at}
 
 module _ (s : Table) (v : TermsView) where
-  -- references and terms in step
-  pub zip_refers : (rs : List ℕ) (ts : List Term) → AllZip (RefersTo s v) rs ts → ReferToAll s v rs ts
-  zip_refers [] [] h = tt
-  zip_refers [] (t ∷ ts) h = absurd h
-  zip_refers (r ∷ rs) [] h = absurd h
-  zip_refers (r ∷ rs) (t ∷ ts) h = (h.0, zip_refers rs ts h.1)
-
-  pub refer_length : (rs : List ℕ) (ts : List Term) → ReferToAll s v rs ts → length rs ≡ length ts
-  refer_length [] [] h = refl
-  refer_length [] (t ∷ ts) h = absurd h
-  refer_length (r ∷ rs) [] h = absurd h
-  refer_length (r ∷ rs) (t ∷ ts) h = ap suc (refer_length rs ts h.1)
-
-  pub refer_at : (rs : List ℕ) (ts : List Term) (k d : ℕ) (e : Term) → ReferToAll s v rs ts → k < length rs → RefersTo s v (get_or rs k d) (get_or ts k e)
-  refer_at [] ts k d e h below = absurd (omega (arith, below))
-  refer_at (r ∷ rs) [] k d e h below = absurd h
-  refer_at (r ∷ rs) (t ∷ ts) zero d e h below = h.0
-  refer_at (r ∷ rs) (t ∷ ts) (suc k) d e h below = refer_at rs ts k d e h.1 (omega (arith, below))
-
-  pub refer_terms : (rs : List ℕ) (ts : List Term) → ReferToAll s v rs ts → All (IsTerm s v) rs
-  refer_terms rs ts h k d below =
-      record { means = get_or ts k (numeral 0); refers = refer_at rs ts k d (numeral 0) h below }
-
   -- what the pass knows
   pub known : (w : TermsView) (r : ℕ) → w ≡ v → IsTerm s v r → IsKnown w.pass r
   known w r same t = rw same (record { tree = t.refers.tree; stands = t.refers.known })
-
-  -- the terms of a clause
-  pub zip_terms : (rs : List ℕ) (ts : List Term) → AllZip (RefersTo s v) rs ts → All (IsTerm s v) rs
-  zip_terms rs ts h = refer_terms rs ts (zip_refers rs ts h)
 
   pub asserted_next : (rs clause : List ℕ) (q n : ℕ) (told : Bool) → AreAssertedTo s v rs clause n → n < length clause → q ≡ get_or clause n q → ((qs : List Term) (t : Term) → ReferToAll s v rs qs → RefersTo s v q t → IsTrue told ↔ IsAsserted Mode.Check qs t) → told ≡ true → AreAssertedTo s v rs clause (n + 1)
   asserted_next rs clause q n told before within is tells e qs ts all zip k d below =
       elim (cases_lt k n) [
         | inl under ↦ before qs ts all zip k d under
         | inr after ↦ (let same : k ≡ n = omega (arith, below, after) in
-            let here = subst (λ x. RefersTo s v x (get_or ts n d)) (sym is) (refer_at clause ts n q d (zip_refers clause ts zip) within) in
+            let here = subst (λ x. RefersTo s v x (get_or ts n d)) (sym is) (refer_at s v clause ts zip n q d within) in
             subst (λ j. IsAsserted Mode.Check qs (get_or ts j d)) (sym same) ((tells qs (get_or ts n d) all here).0 e))
       ]
 
   pub asserted_all : (rs clause : List ℕ) (n : ℕ) (qs ts : List Term) → AreAssertedTo s v rs clause n → length clause ≤ n → ReferToAll s v rs qs → AllZip (RefersTo s v) clause ts → All (IsAsserted Mode.Check qs) ts
   asserted_all rs clause n qs ts before long all zip k d below =
-      let same = refer_length clause ts (zip_refers clause ts zip) in
+      let same = refer_length s v clause ts zip in
       before qs ts all zip k d (omega (arith, below, same, long))
 
   pub not_all_asserted : (rs clause : List ℕ) (q n : ℕ) (qs ts : List Term) (told : Bool) → n < length clause → q ≡ get_or clause n q → ((qs : List Term) (t : Term) → ReferToAll s v rs qs → RefersTo s v q t → IsTrue told ↔ IsAsserted Mode.Check qs t) → told ≡ false → ReferToAll s v rs qs → AllZip (RefersTo s v) clause ts → ¬ All (IsAsserted Mode.Check qs) ts
   not_all_asserted rs clause q n qs ts told within is tells e all zip each =
-      let refers = zip_refers clause ts zip in
-      let same = refer_length clause ts refers in
+      let refers = zip in
+      let same = refer_length s v clause ts refers in
       let t = get_or ts n (numeral 0) in
-      let here = subst (λ x. RefersTo s v x t) (sym is) (refer_at clause ts n q (numeral 0) refers within) in
+      let here = subst (λ x. RefersTo s v x t) (sym is) (refer_at s v clause ts refers n q (numeral 0) within) in
       let met = (tells qs t all here).1 (each n (numeral 0) (omega (arith, within, same))) in
       let clash = sym e ∙ met in cc
 

@@ -2,6 +2,7 @@
 use Rattle.std.proofs.Common.{◌≡◌, ◌≢◌, ◌↔◌, ℕ, Bool, true, false, ◌||◌, inl, inr, List, Option, Some, None, IsTrue, refl, sym, ◌∙◌, subst, if◌then◌else◌, Result, Ok, Err, IfOk}
 use Rattle.sym_table.specs.Table.{Table}
 use Rattle.term_model.specs.Terms.{Var, Term}
+use Rattle.term_model.proofs.Basics.{then_branch}
 use Rattle.term_pool.specs.Views.{TermsView}
 use Rattle.proof_store.specs.declared.answers.Answer.{Answer}
 use Rattle.proof_store.specs.declared.answers.RuleStop.{RuleStop}
@@ -22,10 +23,6 @@ use Rattle.step_check.specs.Judged.{is_resolution, is_clausal, is_definition, is
 use Rattle.step_check.specs.Statuses.{checking}
 use Rattle.step_check.specs.declared.kinds.Kind.{Kind as KindOfCommand}
 use Rattle.step_check.specs.Steps.{IsOfFamily, IsKind, IsKindOfStep, IsAnswerAt, TellsMet}
-
--- the two answers of a test
-pub if_true : {X : Type 0} (test : Bool) (x y : X) → test ≡ true → (if test then x else y) ≡ x
-if_true test x y e = rw e refl
 
 pub if_false : {X : Type 0} (test : Bool) (x y : X) → test ≡ false → (if test then x else y) ≡ y
 if_false test x y e = rw e refl
@@ -84,7 +81,7 @@ judged_is_conditional flags ts Rule.Hole e = absurd cc
 judged_is_conditional flags ts Rule.LiaGeneric e = absurd cc
 judged_is_conditional flags ts Rule.RareRewrite e = absurd cc
 judged_is_conditional flags ts Rule.AllSimplify e = absurd cc
-judged_is_conditional flags ts rule e = if_true (is_judged rule) conditional (if flags.ignore_unknown then hole else unknown) e
+judged_is_conditional flags ts rule e = then_branch (is_judged rule) conditional (if flags.ignore_unknown then hole else unknown) e
 
 pub record IsPlain (rule : Rule) : Type 0 where
   pub no_assume : rule ≢ Rule.Assume
@@ -108,7 +105,7 @@ assume_is_assumed flags ts rule e = subst (λ r. kind_of_rule (checking flags ts
 pub step_is_kind : (flags : Flags) (ts : List Term) (rule : Rule) (kind : KindOfCommand) → IsPlain rule → IsKindOfStep flags rule kind → IsKind (kind_of_rule (checking flags ts) rule) rule kind
 step_is_kind flags ts rule KindOfCommand.Assumed p h = absurd h
 step_is_kind flags ts rule KindOfCommand.Hole p h =
-    other_is_not flags ts rule p (none_is_judged rule p.no_refl h.0) ∙ if_true flags.ignore_unknown hole unknown h.1
+    other_is_not flags ts rule p (none_is_judged rule p.no_refl h.0) ∙ then_branch flags.ignore_unknown hole unknown h.1
 step_is_kind flags ts rule KindOfCommand.Unknown p h =
     other_is_not flags ts rule p (none_is_judged rule p.no_refl h.0) ∙ if_false flags.ignore_unknown hole unknown h.1
 step_is_kind flags ts rule (KindOfCommand.Conditional family) p h =

@@ -1,10 +1,6 @@
 -- Items of lists by their places.
 use Rattle.std.proofs.Common.{◌≡◌, ◌⊎◌, inl, inr, ◌<◌, ◌≤◌, ◌+◌, ◌-◌, ℕ, zero, suc, List, [], ◌∷◌, ◌++◌, length, slice_get, Some, refl, subst, arith}
-use Rattle.rule_model.proofs.Lines.{get_append}
-
-only_item : {X : Type 0} (x y : X) (j : ℕ) → slice_get (x ∷ []) j ≡ Some y → (j ≡ 0) × (x ≡ y)
-only_item x y zero e = (refl, cc)
-only_item x y (suc j) e = absurd cc
+use Rattle.rule_model.proofs.Lines.{get_append, get_one}
 
 -- what holds of each item and its place holds with one item more
 pub each_push : {X : Type 0} (P : ℕ → X → Type 0) (xs : List X) (x : X) (n : ℕ) → length xs ≡ n → ((k : ℕ) (y : X) → slice_get xs k ≡ Some y → P k y) → P n x → (k : ℕ) (y : X) → slice_get (xs ++ x ∷ []) k ≡ Some y → P k y
@@ -13,7 +9,7 @@ each_push P xs x n long before here k y e = go (get_append xs (x ∷ []) k y e)
     go : ((k < length xs) × (slice_get xs k ≡ Some y)) ⊎ ((length xs ≤ k) × (slice_get (x ∷ []) (k - length xs) ≡ Some y)) → P k y
     go (inl found) = before k y found.1
     go (inr found) =
-        let last = only_item x y (k - length xs) found.1 in
+        let last = get_one x (k - length xs) y found.1 in
         let after = found.0 in
         let none = last.0 in
         let at : n ≡ k = omega (arith, long, after, none) in

@@ -11,7 +11,7 @@ use Rattle.rule_model.specs.declared.rules.Rule.{Rule}
 use Rattle.rule_model.specs.Reading.{rule_at}
 use Rattle.proof_store.specs.Meaning.{StandForItems}
 use Rattle.proof_contexts.specs.OpenAnchors.{IsAnchorImage}
-use Rattle.proof_contexts.specs.Placing.{LacksRoomForSome, PlacesOf}
+use Rattle.term_pool.specs.Placing.{LacksCellOf, PlacesCellsOf}
 use Rattle.rules_refl.specs.Sides.{IsSideOf}
 use Rattle.term_reader.specs.declared.flags.Flags.{Flags}
 use Rattle.step_check.specs.Judged.{is_judged}
@@ -50,9 +50,9 @@ IsPlacedOf proof t = IsAnchorImage proof t ⊎ IsSideOfSome proof t
 -- only cells of such terms were placed, of the proof for which the references stand
 abbrev pub PlacesOnly : Table → TermsView → TermsView → ProofItems ℕ ℕ → Type 0
 PlacesOnly s old new refs =
-    (proof : ProofItems Var Term) → StandForItems s old refs proof → PlacesOf s old.pass new.pass (IsPlacedOf proof)
+    (proof : ProofItems Var Term) → StandForItems s old refs proof → PlacesCellsOf s old.pass new.pass (IsPlacedOf proof)
 
 -- there was no room for a cell of such a term of the proof for which the references stand
 abbrev pub LacksRoomForPlaced : Table → TermsView → TermsView → ProofItems ℕ ℕ → Type 0
 LacksRoomForPlaced s old new refs =
-    (proof : ProofItems Var Term) → StandForItems s old refs proof → LacksRoomForSome s new.pass (IsPlacedOf proof)
+    (proof : ProofItems Var Term) → StandForItems s old refs proof → LacksCellOf s new.pass (IsPlacedOf proof)

@@ -1,15 +1,16 @@
--- What a table says after a leaf is looked up or added.
+-- Cited by crates above. What a table says after a leaf is looked up or added.
 use Rattle.std.proofs.Common.{◌≡◌, inl, inr, ℕ, ◌<◌, ◌≤◌, ◌+◌, ◌^◌, List, [], ◌∷◌, ◌++◌, map, length, slice_get, Some, refl, sym, ◌∙◌, ap, arith, subst, Result, Ok, Err, OnErr, Option, None, is_some, IfNone, false}
 use Rattle.std.proofs.lemmas.List.{length-append, length-map}
 use Rattle.std.proofs.lemmas.Option.{slice_get_within, get_or_from_slice_get}
+use Rattle.std.proofs.lemmas.Bool.{true≢false}
 use Rattle.term_model.specs.declared.symbols.Sort.{Sort}
+use Rattle.term_model.proofs.Lists.{slice_get-left, slice_get-last}
 use Rattle.sym_table.specs.declared.cells.Symbol.{Symbol}
 use Rattle.sym_table.specs.declared.cells.Function.{Function}
 use Rattle.sym_table.specs.Names.{PlacesItem}
 use Rattle.sym_table.specs.Leaf.{Leaf, variable, first_leaves}
 use Rattle.sym_table.specs.Table.{Table, IsLeaf, FindsOrAdds, Keeps, with_leaf, with_sort_name}
 use Rattle.sym_table.specs.Cells.{leaf_of_key, leaves_of, IsInRange, AreKeysLinked}
-use Rattle.sym_table.proofs.Lists.{slice_get-left, slice_get-last, true-false}
 use Rattle.sym_table.proofs.Links.{AreLinked-PlacesItem, AreLinked-more_variables, length-PlacesItem}
 use Rattle.sym_table.proofs.Tables.{key_leaf, leaves_of-push, leaves_of-more_variables}
 use Rattle.sym_table.proofs.Laws.{table_of, LacksLeaf-key}
@@ -99,4 +100,4 @@ on_err (Err e) p = p
 -- what a clause says of a missing value, where it is missing
 pub if_none : {T P : Type 0} (o : Option T) → is_some o ≡ false → IfNone o P → P
 if_none None e p = p
-if_none (Some x) e p = absurd (true-false e)
+if_none (Some x) e p = absurd (true≢false e)

@@ -1,12 +1,12 @@
 -- What a table says after a function is declared.
 use Rattle.std.proofs.Common.{◌≡◌, ◌⊎◌, ◌↔◌, inl, inr, ℕ, ◌<◌, ◌≤◌, ◌+◌, ◌^◌, Bool, true, false, List, [], ◌∷◌, ◌++◌, length, slice_get, Option, Some, None, is_some, IfSome, IfNone, refl, sym, ◌∙◌, ap, arith, subst}
+use Rattle.std.proofs.lemmas.Bool.{true≢false}
 use Rattle.sym_table.specs.declared.cells.Symbol.{Symbol}
 use Rattle.sym_table.specs.declared.cells.Function.{Function}
 use Rattle.sym_table.specs.Names.{Lacks}
 use Rattle.sym_table.specs.Leaf.{function}
 use Rattle.sym_table.specs.Table.{Table, IsFunctionName, with_leaf}
 use Rattle.sym_table.specs.Cells.{AreKeysLinked}
-use Rattle.sym_table.proofs.Lists.{true-false}
 use Rattle.sym_table.proofs.Links.{AreLinked-push_function, length-push}
 use Rattle.sym_table.proofs.Tables.{leaves_of-push_function}
 use Rattle.sym_table.proofs.Laws.{table_of}
@@ -53,9 +53,9 @@ module _ (names : List (List ℕ)) (functions : List Function) (variables : List
 
   -- a name is there exactly where it is declared
   pub declared_where_there : (o : Option ℕ) → IfSome o (λ k. slice_get names k ≡ Some name) → IfNone o (Lacks names name) → (is_some o ≡ true) ↔ IsFunctionName t name
-  declared_where_there None s n = (λ e. absurd (true-false (sym e)), λ d. absurd (lacks-IsFunctionName t names functions variables keys sorts name v h n d))
+  declared_where_there None s n = (λ e. absurd (true≢false (sym e)), λ d. absurd (lacks-IsFunctionName t names functions variables keys sorts name v h n d))
   declared_where_there (Some k) s n = (λ e. IsFunctionName-number t names functions variables keys sorts k name v h s, λ d. refl)
 
 -- an "or" of two tests
 pub or_else : {P Q : Type 0} (a b : Bool) → a ≡ false → (a ≡ true) ↔ P → (b ≡ true) ↔ Q → (b ≡ true) ↔ (P ⊎ Q)
-or_else a b failed p q = (λ e. inr (q.0 e), λ h. elim h [ inl x ↦ absurd (true-false (sym (p.1 x) ∙ failed)) | inr y ↦ q.1 y ])
+or_else a b failed p q = (λ e. inr (q.0 e), λ h. elim h [ inl x ↦ absurd (true≢false (sym (p.1 x) ∙ failed)) | inr y ↦ q.1 y ])

@@ -1,13 +1,13 @@
 -- Which leaves stand for functions.
 use Rattle.std.proofs.Common.{◌≡◌, inl, inr, ℕ, ◌<◌, ◌≤◌, ◌+◌, ◌-◌, ◌^◌, true, false, List, length, slice_get, get_or, Option, Some, None, IsSomeAnd, IsTrue, refl, sym, ◌∙◌, ap, arith, subst}
 use Rattle.std.proofs.lemmas.Option.{slice_get_within, same_Some, get_or_from_slice_get}
+use Rattle.std.proofs.lemmas.Bool.{true≢false}
 use Rattle.sym_table.specs.declared.cells.Symbol.{Symbol}
 use Rattle.sym_table.specs.declared.cells.Function.{Function}
 use Rattle.sym_table.specs.Names.{Lacks}
 use Rattle.sym_table.specs.Leaf.{Leaf, nil, let_head, operator, function, variable, numeral, is_function, kind_of, name_of, leaf_arguments, target_of}
 use Rattle.sym_table.specs.Table.{Table, LeafMeets, IsFunctionLeaf, IsFunctionNamed, IsFunctionName}
 use Rattle.sym_table.specs.Cells.{leaf_of_key, leaves_of, AreKeysLinked}
-use Rattle.sym_table.proofs.Lists.{true-false}
 use Rattle.sym_table.proofs.Tables.{function_at-known, key_leaf, leaf_cases}
 use Rattle.sym_table.proofs.Laws.{table_of, is_first, first_kind, function_at-shape}
 
@@ -22,9 +22,9 @@ meets P o x e p = subst (λ q. IsSomeAnd q P) (sym e) p
 -- a function is none of the first leaves
 function_kind : (l : Leaf) → is_function l ≡ true → is_first (kind_of 0 l) ≡ false
 function_kind (function name arguments target) e = refl
-function_kind nil e = absurd (true-false (sym e))
-function_kind let_head e = absurd (true-false (sym e))
-function_kind (operator op) e = absurd (true-false (sym e))
+function_kind nil e = absurd (true≢false (sym e))
+function_kind let_head e = absurd (true≢false (sym e))
+function_kind (operator op) e = absurd (true≢false (sym e))
 function_kind (variable name sort) e = refl
 function_kind (numeral n) e = refl
 
@@ -60,12 +60,12 @@ function_key t names functions variables keys sorts k v h m = go (there _ m)
     by_key l e is j (Symbol.Function n) p q same =
         let x = function_at-shape names functions n h.named (h.in_range j (Symbol.Function n) q) in
         (j, n, x.0, x.1, p, q, x.2, x.3, e ∙ ap Some (same ∙ x.4))
-    by_key l e is j (Symbol.Variable n sort) p q same = absurd (true-false (sym is ∙ ap is_function same))
-    by_key l e is j (Symbol.Numeral n) p q same = absurd (true-false (sym is ∙ ap is_function same))
+    by_key l e is j (Symbol.Variable n sort) p q same = absurd (true≢false (sym is ∙ ap is_function same))
+    by_key l e is j (Symbol.Numeral n) p q same = absurd (true≢false (sym is ∙ ap is_function same))
 
     go : (l : Leaf) × (slice_get t.leaves k ≡ Some l) × IsTrue (is_function l) → HasKey t names functions keys k
     go x = elim (leaf_cases names functions variables keys k x.0 (ap (λ (u : Table). slice_get u.leaves k) v ∙ x.1)) [
-      | inl a ↦ absurd (true-false (sym (first_kind k x.0 a) ∙ function_kind x.0 x.2))
+      | inl a ↦ absurd (true≢false (sym (first_kind k x.0 a) ∙ function_kind x.0 x.2))
       | inr a ↦ by_key x.0 x.1 x.2 a.0 a.1 a.2 a.3 a.4
     ]
 

@@ -2,12 +2,13 @@
 use Rattle.std.proofs.Common.{◌≡◌, ◌⊎◌, inl, inr, ℕ, ◌+◌, List, [], ◌∷◌, ◌++◌, length, get_or, slice_get, Bool, true, false, if◌then◌else◌, Some, sym, ◌∙◌, ap, arith}
 use Rattle.std.proofs.lemmas.List.{get_or_at, get_or_append_left}
 use Rattle.std.proofs.lemmas.Option.{slice_get_within}
+use Rattle.name_set.proofs.Positions.{slice_get-push_cases}
 use Rattle.sym_table.specs.declared.cells.Symbol.{Symbol}
 use Rattle.sym_table.specs.Cells.{is_function_key}
 use Rattle.sym_table.specs.KeyPlaces.{ArePlaced}
 use Rattle.sym_table.specs.Names.{Lacks, PlacesItem}
-use Rattle.sym_table.proofs.Lists.{slice_get-left, slice_get-last, slice_get-push_cases}
 use Rattle.sym_table.proofs.Links.{length-push}
+use Rattle.term_model.proofs.Lists.{slice_get-left, slice_get-last}
 
 -- a function comes
 pub ArePlaced-function : (all found : List Symbol) (places : List ℕ) (n : ℕ) → ArePlaced all found places → ArePlaced (all ++ Symbol.Function n ∷ []) found places

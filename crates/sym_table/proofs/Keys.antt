@@ -1,15 +1,10 @@
 -- The derived `==` of keys is equality.
-use Rattle.std.proofs.Common.{◌≡◌, Bool, true, false, ◌&&◌, refl, ap, Decides}
-use Rattle.std.proofs.lemmas.Bool.Decides.{Decides-eqb, Decides-int_eq}
+use Rattle.std.proofs.Common.{◌≡◌, refl, ap, Decides}
+use Rattle.std.proofs.lemmas.Bool.Decides.{Decides-eqb, Decides-int_eq, Decides-and}
 use Rattle.term_model.specs.declared.symbols.Sort.{Sort}
 use Rattle.term_model.specs.contracts.symbols.SortPartialEq.TheImpl as sorts
 use Rattle.sym_table.specs.declared.cells.Symbol.{Symbol}
 use Rattle.sym_table.specs.contracts.cells.SymbolPartialEq.TheImpl as symbols
-
-Decides-both : {P Q : Type 0} (a b : Bool) → Decides a P → Decides b Q → Decides (a && b) (P × Q)
-Decides-both true true p q = (λ h. (p.0 refl, q.0 refl), λ h. refl)
-Decides-both true false p q = (λ h. cc, λ h. q.1 h.1)
-Decides-both false b p q = (λ h. cc, λ h. p.1 h.0)
 
 pub Decides-sort : (s t : Sort) → Decides ((sorts.ghosts).eq s t) (s ≡ t)
 Decides-sort Sort.Bool Sort.Bool = (λ h. refl, λ h. refl)
@@ -25,7 +20,7 @@ Decides-sort (Sort.Declared m) Sort.Int = (λ h. cc, λ h. cc)
 pub Decides-symbol : (x y : Symbol) → Decides ((symbols.ghosts).eq x y) (x ≡ y)
 Decides-symbol (Symbol.Function m) (Symbol.Function n) = (λ h. ap Symbol.Function ((Decides-eqb m n).0 h), λ h. (Decides-eqb m n).1 (cc))
 Decides-symbol (Symbol.Variable m s) (Symbol.Variable n t) =
-    let both = Decides-both _ _ (Decides-eqb m n) (Decides-sort s t) in
+    let both = Decides-and _ _ (Decides-eqb m n) (Decides-sort s t) in
     (λ h. let e = both.0 h in let e0 = e.0 in let e1 = e.1 in cc, λ h. both.1 ((cc), (cc)))
 Decides-symbol (Symbol.Numeral m) (Symbol.Numeral n) = (λ h. ap Symbol.Numeral ((Decides-int_eq m n).0 h), λ h. (Decides-int_eq m n).1 (cc))
 Decides-symbol (Symbol.Function m) (Symbol.Variable n t) = (λ h. cc, λ h. cc)

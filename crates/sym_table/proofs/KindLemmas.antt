@@ -4,13 +4,14 @@ use Rattle.std.specs.List.{count_by}
 use Rattle.std.proofs.lemmas.List.Sums.{sum_by-append, count_by-le-length}
 use Rattle.std.proofs.lemmas.Option.{slice_get-get_or, same_Some}
 use Rattle.std.proofs.Math.Seq.{take-append-add}
+use Rattle.std.proofs.lemmas.Bool.{true≢false}
 use Rattle.sym_table.specs.declared.kind.Kind.{Kind}
 use Rattle.sym_table.specs.declared.cells.Symbol.{Symbol}
 use Rattle.sym_table.specs.declared.cells.Function.{Function}
 use Rattle.sym_table.specs.Leaf.{Leaf, nil, let_head, operator, function, variable, numeral, is_function, kind_of, name_of, first_leaves}
 use Rattle.sym_table.specs.Table.{Table, LeafMeets, IsFunctionLeaf, IsFun, functions_before}
 use Rattle.sym_table.specs.Cells.{leaf_of_key, leaves_of, is_function_key, IsInRange, AreKeysLinked}
-use Rattle.sym_table.proofs.Lists.{count_by-take-map, true-false}
+use Rattle.sym_table.proofs.Lists.{count_by-take-map}
 use Rattle.sym_table.proofs.Tables.{first_leaf, key_leaf}
 use Rattle.sym_table.proofs.Laws.{table_of, is_first, first_kind, function_at-shape}
 use Rattle.sym_table.proofs.Adds.{length-seen}
@@ -21,12 +22,12 @@ kind_of-first : (n : ℕ) (l : Leaf) → is_first (kind_of 0 l) ≡ true → kin
 kind_of-first n nil e = refl
 kind_of-first n let_head e = refl
 kind_of-first n (operator op) e = refl
-kind_of-first n (function name arguments target) e = absurd (true-false (sym e))
+kind_of-first n (function name arguments target) e = absurd (true≢false (sym e))
 kind_of-first n (variable name sort) e = refl
 kind_of-first n (numeral m) e = refl
 
 first_is_no_function : (kind : Kind) → is_first kind ≡ true → IsFun kind → ⊥
-first_is_no_function (Kind.Fun n) e f = true-false (sym e)
+first_is_no_function (Kind.Fun n) e f = true≢false (sym e)
 first_is_no_function Kind.Nil e f = f
 first_is_no_function Kind.Let e f = f
 first_is_no_function (Kind.Op op) e f = f

@@ -2,8 +2,10 @@
 use Rattle.std.proofs.Common.{◌≡◌, ◌⊎◌, inl, inr, ℤ, pos, ◌≤ℤ◌, ℕ, ◌<◌, ◌+◌, zero, suc, Bool, true, false, ◌&&◌, nat_eq, List, [], ◌∷◌, length, slice_get, slice_index_or, Option, Some, None, refl, sym, ◌∙◌, ap, arith, zero-add, subst}
 use Rattle.std.proofs.lemmas.Bool.Decides.{Decides-eqb}
 use Rattle.std.proofs.lemmas.Option.{slice_get-get_or, none-some, same_Some}
+use Rattle.std.proofs.lemmas.Bool.{true≢false}
 use Rattle.term_model.specs.declared.symbols.Op.{Op}
 use Rattle.term_model.specs.declared.symbols.Sort.{Sort}
+use Rattle.term_model.proofs.Basics.{and-left, and-right}
 use Rattle.sym_table.specs.declared.kind.Kind.{Kind}
 use Rattle.sym_table.specs.declared.cells.Symbol.{Symbol}
 use Rattle.sym_table.specs.declared.cells.Function.{Function}
@@ -11,7 +13,7 @@ use Rattle.sym_table.specs.Names.{Lacks, AreApart}
 use Rattle.sym_table.specs.Leaf.{Leaf, function, variable, numeral, kind_of, name_of, first_leaves}
 use Rattle.sym_table.specs.Table.{Table, IsTable, IsLeaf, LacksLeaf}
 use Rattle.sym_table.specs.Cells.{function_at, leaf_of_key, leaves_of, IsInRange, AreKeysLinked}
-use Rattle.sym_table.proofs.Lists.{slice_get-there, true-false, passes_at, and_left, and_right}
+use Rattle.sym_table.proofs.Lists.{slice_get-there, passes_at}
 use Rattle.sym_table.proofs.Tables.{function_at-known, first_leaf, leaf_cases}
 
 -- the table of some fields
@@ -66,8 +68,8 @@ place_at : (n : ℕ) (ls : List Leaf) (k : ℕ) (l : Leaf) → in_place n ls ≡
 unfolding in_place
 place_at n [] k l h e = absurd (none-some l e)
 place_at n (m ∷ ls) zero l h e =
-    ap (λ x. kind_place (kind_of 0 x)) (sym (same_Some m l e)) ∙ (Decides-eqb _ n).0 (and_left _ (in_place (suc n) ls) h) ∙ omega arith
-place_at n (m ∷ ls) (suc k) l h e = place_at (suc n) ls k l (and_right (nat_eq (kind_place (kind_of 0 m)) n) _ h) e ∙ omega arith
+    ap (λ x. kind_place (kind_of 0 x)) (sym (same_Some m l e)) ∙ (Decides-eqb _ n).0 (and-left _ (in_place (suc n) ls) h) ∙ omega arith
+place_at n (m ∷ ls) (suc k) l h e = place_at (suc n) ls k l (and-right (nat_eq (kind_place (kind_of 0 m)) n) _ h) e ∙ omega arith
 
 first_place : (k : ℕ) (l : Leaf) → slice_get first_leaves k ≡ Some l → kind_place (kind_of 0 l) ≡ k
 unfolding in_place kind_place operator_place
@@ -132,8 +134,8 @@ leaves_apart names functions variables keys h j k l m at_j at_k kinds names_same
 
     go : (slice_get first_leaves j ≡ Some l) ⊎ ((i : ℕ) × (key : Symbol) × (j ≡ 19 + i) × (slice_get keys i ≡ Some key) × (l ≡ leaf_of_key names functions variables key)) → (slice_get first_leaves k ≡ Some m) ⊎ ((i : ℕ) × (key : Symbol) × (k ≡ 19 + i) × (slice_get keys i ≡ Some key) × (m ≡ leaf_of_key names functions variables key)) → j ≡ k
     go (inl a) (inl b) = sym (first_place j l a) ∙ ap kind_place kinds ∙ first_place k m b
-    go (inl a) (inr b) = absurd (true-false (sym (first_kind j l a) ∙ ap is_first kinds ∙ ap (λ x. is_first (kind_of 0 x)) b.4 ∙ key_kind names functions variables b.1 h.named (range b.0 b.1 b.3)))
-    go (inr a) (inl b) = absurd (true-false (sym (first_kind k m b) ∙ ap is_first (sym kinds) ∙ ap (λ x. is_first (kind_of 0 x)) a.4 ∙ key_kind names functions variables a.1 h.named (range a.0 a.1 a.3)))
+    go (inl a) (inr b) = absurd (true≢false (sym (first_kind j l a) ∙ ap is_first kinds ∙ ap (λ x. is_first (kind_of 0 x)) b.4 ∙ key_kind names functions variables b.1 h.named (range b.0 b.1 b.3)))
+    go (inr a) (inl b) = absurd (true≢false (sym (first_kind k m b) ∙ ap is_first (sym kinds) ∙ ap (λ x. is_first (kind_of 0 x)) a.4 ∙ key_kind names functions variables a.1 h.named (range a.0 a.1 a.3)))
     go (inr a) (inr b) =
         let one : a.1 ≡ b.1 = same_key names functions variables keys h a.1 b.1 (range a.0 a.1 a.3) (range b.0 b.1 b.3) (sym (ap (kind_of 0) a.4) ∙ kinds ∙ ap (kind_of 0) b.4) (sym (ap name_of a.4) ∙ names_same ∙ ap name_of b.4) in
         let place = h.keys_apart a.0 b.0 b.1 (a.3 ∙ ap Some one) b.3 in
@@ -150,7 +152,7 @@ numeral_leaf names functions variables (Symbol.Numeral m) n same r e = let one :
 not_negative : (names : List (List ℕ)) (functions : List Function) (variables : List (List ℕ)) (keys : List Symbol) → AreKeysLinked names functions variables keys → (k : ℕ) (n : ℤ) → slice_get (leaves_of names functions variables keys) k ≡ Some (numeral n) → pos 0 ≤ℤ n
 not_negative names functions variables keys h k n e =
     elim (leaf_cases names functions variables keys k (numeral n) e) [
-      | inl a ↦ absurd (true-false (sym (first_kind k (numeral n) a)))
+      | inl a ↦ absurd (true≢false (sym (first_kind k (numeral n) a)))
       | inr a ↦ numeral_leaf names functions variables a.1 n h.named (h.in_range a.0 a.1 a.3) a.4
     ]
 
@@ -167,7 +169,7 @@ IsTable-linked names functions variables keys sorts h apart = record {
 pub LacksLeaf-key : (names : List (List ℕ)) (functions : List Function) (variables : List (List ℕ)) (keys : List Symbol) (sorts : List (List ℕ)) (key : Symbol) → AreKeysLinked names functions variables keys → IsInRange (length functions) (length variables) key → Lacks keys key → LacksLeaf (table_of names functions variables keys sorts) (leaf_of_key names functions variables key)
 LacksLeaf-key names functions variables keys sorts key h r lacks k e =
     elim (leaf_cases names functions variables keys k (leaf_of_key names functions variables key) e) [
-      | inl a ↦ true-false (sym (first_kind k _ a) ∙ key_kind names functions variables key h.named r)
+      | inl a ↦ true≢false (sym (first_kind k _ a) ∙ key_kind names functions variables key h.named r)
       | inr a ↦ lacks a.0 (a.3 ∙ ap Some (same_key names functions variables keys h a.1 key (h.in_range a.0 a.1 a.3) r (ap (kind_of 0) (sym a.4)) (ap name_of (sym a.4))))
     ]
 

@@ -5,11 +5,13 @@ use Rattle.std.proofs.lemmas.List.{length-append, take-append-le}
 use Rattle.std.proofs.lemmas.List.Sums.{sum_by-append}
 use Rattle.std.proofs.lemmas.Option.{slice_get_within}
 use Rattle.std.proofs.Math.Seq.{take-append_seam}
+use Rattle.name_set.proofs.Positions.{slice_get-push_cases}
 use Rattle.sym_table.specs.declared.cells.Symbol.{Symbol}
 use Rattle.sym_table.specs.declared.cells.Function.{Function}
 use Rattle.sym_table.specs.Names.{Lacks, PlacesItem}
 use Rattle.sym_table.specs.Cells.{is_function_key, IsInRange, AreKeysLinked}
-use Rattle.sym_table.proofs.Lists.{AreApart-push, AreApart-PlacesItem, slice_get-left, slice_get-last, slice_get-push_cases}
+use Rattle.sym_table.proofs.Lists.{AreApart-push, AreApart-PlacesItem}
+use Rattle.term_model.proofs.Lists.{slice_get-left, slice_get-last}
 
 -- a wider range has the keys of a narrower one
 pub in_wider : (f g v w : ℕ) (key : Symbol) → f ≤ g → v ≤ w → IsInRange f v key → IsInRange g w key

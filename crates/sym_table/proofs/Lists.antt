@@ -1,17 +1,14 @@
--- Items of a list by their places.
-use Rattle.std.proofs.Common.{◌≡◌, ◌⊎◌, inl, inr, ℕ, ◌<◌, ◌+◌, zero, suc, Bool, true, false, cond, not, ◌&&◌, List, [], ◌∷◌, ◌++◌, map, take, length, slice_get, Some, None, refl, sym, ◌∙◌, ap, subst, arith, zero-add, Decides, if◌then◌else◌}
+-- Cited by crates above. Items of a list by their places.
+use Rattle.std.proofs.Common.{◌≡◌, ◌⊎◌, inl, inr, ℕ, ◌<◌, ◌+◌, zero, suc, Bool, true, false, cond, not, List, [], ◌∷◌, ◌++◌, map, take, length, slice_get, Some, None, refl, sym, ◌∙◌, ap, subst, arith, zero-add, Decides, if◌then◌else◌}
 use Rattle.std.specs.List.{position_or_len, list_any, list_all, count_by}
 use Rattle.std.proofs.lemmas.Option.{none-some, same_Some}
 use Rattle.std.proofs.lemmas.List.Sums.{sum_by-cons}
 use Rattle.std.proofs.lemmas.Map.Keys.{any_passes_from_place}
+use Rattle.std.proofs.lemmas.Bool.{true≢false}
 use Rattle.indexmap.specs.IndexSet.{insert_key}
+use Rattle.name_set.proofs.Positions.{slice_get-push_cases}
 use Rattle.sym_table.specs.Names.{Lacks, AreApart, PlacesItem}
-
--- an item of the first list stays where it is
-pub slice_get-left : {X : Type 0} (xs ys : List X) (k : ℕ) (x : X) → slice_get xs k ≡ Some x → slice_get (xs ++ ys) k ≡ Some x
-slice_get-left [] ys k x e = cc
-slice_get-left (y ∷ xs) ys zero x e = e
-slice_get-left (y ∷ xs) ys (suc k) x e = slice_get-left xs ys k x e
+use Rattle.term_model.proofs.Basics.{and-left, and-right}
 
 -- an item of the second list comes after the first
 pub slice_get-right : {X : Type 0} (xs ys : List X) (k : ℕ) → slice_get (xs ++ ys) (length xs + k) ≡ slice_get ys k
@@ -20,24 +17,11 @@ slice_get-right (x ∷ xs) ys k =
     let next : length (x ∷ xs) + k ≡ suc (length xs + k) = omega arith in
     ap (slice_get (x ∷ (xs ++ ys))) next ∙ slice_get-right xs ys k
 
--- what was pushed stands last
-pub slice_get-last : {X : Type 0} (xs : List X) (x : X) → slice_get (xs ++ x ∷ []) (length xs) ≡ Some x
-slice_get-last [] x = refl
-slice_get-last (y ∷ xs) x = slice_get-last xs x
-
 -- an item of two lists joined is of the first or of the second
 pub slice_get-cases : {X : Type 0} (xs ys : List X) (k : ℕ) (x : X) → slice_get (xs ++ ys) k ≡ Some x → (slice_get xs k ≡ Some x) ⊎ ((j : ℕ) × (k ≡ length xs + j) × (slice_get ys j ≡ Some x))
 slice_get-cases [] ys k x e = inr (k, sym (zero-add k), e)
 slice_get-cases (y ∷ xs) ys zero x e = inl e
 slice_get-cases (y ∷ xs) ys (suc k) x e = elim (slice_get-cases xs ys k x e) [ inl h ↦ inl h | inr h ↦ inr (h.0, (let f = h.1 in omega arith), h.2) ]
-
--- an item after a push is an old one or the new one
-pub slice_get-push_cases : {X : Type 0} (xs : List X) (y : X) (k : ℕ) (x : X) → slice_get (xs ++ y ∷ []) k ≡ Some x → (slice_get xs k ≡ Some x) ⊎ ((k ≡ length xs) × (y ≡ x))
-slice_get-push_cases xs y k x e = elim (slice_get-cases xs (y ∷ []) k x e) [ inl h ↦ inl h | inr h ↦ inr (last h.0 h.1 h.2) ]
-  where
-    last : (j : ℕ) → k ≡ length xs + j → slice_get (y ∷ []) j ≡ Some x → (k ≡ length xs) × (y ≡ x)
-    last zero f g = ((omega arith), cc)
-    last (suc j) f g = cc
 
 -- two functions that agree on the items make the same list of them
 pub map-agree : {X Y : Type 0} (f g : X → Y) (xs : List X) → ((k : ℕ) (x : X) → slice_get xs k ≡ Some x → f x ≡ g x) → map f xs ≡ map g xs
@@ -59,12 +43,9 @@ place-next t x xs e = ap (λ b. cond (not b) (1 + position_or_len t xs) 0) e ∙
 place-here : {X : Type 0} (t : X → Bool) (x : X) (xs : List X) → t x ≡ true → position_or_len t (x ∷ xs) ≡ 0
 place-here t x xs e = ap (λ b. cond (not b) (1 + position_or_len t xs) 0) e
 
-pub true-false : ◌≡◌ {A = Bool} true false → ⊥
-true-false e = cc
-
 -- an item that passes stands at the place that the test finds
 found_place : {X : Type 0} (t : X → Bool) (xs : List X) → list_any t xs ≡ true → (x : X) × (slice_get xs (position_or_len t xs) ≡ Some x) × (t x ≡ true)
-found_place t [] h = absurd (true-false (sym h))
+found_place t [] h = absurd (true≢false (sym h))
 found_place {X} t (x ∷ xs) h = go (t x) refl (found_place t xs)
   where
     go : (b : Bool) → t x ≡ b → (list_any t xs ≡ true → (y : X) × (slice_get xs (position_or_len t xs) ≡ Some y) × (t y ≡ true)) → (y : X) × (slice_get (x ∷ xs) (position_or_len t (x ∷ xs)) ≡ Some y) × (t y ≡ true)
@@ -79,7 +60,7 @@ end_place t [] h = refl
 end_place t (x ∷ xs) h = go (t x) refl (end_place t xs)
   where
     go : (b : Bool) → t x ≡ b → (list_any t xs ≡ false → position_or_len t xs ≡ length xs) → position_or_len t (x ∷ xs) ≡ length (x ∷ xs)
-    go true e rest = absurd (true-false (sym (any-here t x xs e) ∙ h))
+    go true e rest = absurd (true≢false (sym (any-here t x xs e) ∙ h))
     go false e rest = place-next t x xs e ∙ ap suc (rest (sym (any-next t x xs e) ∙ h))
 
 -- what `insert_full` does, where the keys' `==` is equality
@@ -90,7 +71,7 @@ insert_key-places eq decides keys key = go (list_any (eq key) keys) refl
     go true e =
         let at = found_place (eq key) keys e in
         inl (at.1 ∙ ap Some (sym ((decides key at.0).0 at.2)), ap (λ b. if b then keys else keys ++ key ∷ []) e)
-    go false e = inr (λ k g. true-false (sym (any_passes_from_place (eq key) keys k key g ((decides key key).1 refl)) ∙ e), end_place (eq key) keys e, ap (λ b. if b then keys else keys ++ key ∷ []) e)
+    go false e = inr (λ k g. true≢false (sym (any_passes_from_place (eq key) keys k key g ((decides key key).1 refl)) ∙ e), end_place (eq key) keys e, ap (λ b. if b then keys else keys ++ key ∷ []) e)
 
 -- the items before a push are those of the list
 pub slice_get-kept : {X : Type 0} (xs ys : List X) (k : ℕ) → k < length xs → slice_get (xs ++ ys) k ≡ slice_get xs k
@@ -122,19 +103,11 @@ pub AreApart-PlacesItem : {X : Type 0} (old new : List X) (k : ℕ) (x : X) → 
 AreApart-PlacesItem old new k x apart (inl h) = subst AreApart (sym h.1) apart
 AreApart-PlacesItem old new k x apart (inr h) = subst AreApart (sym h.2) (AreApart-push old x apart h.0)
 
-pub and_left : (a b : Bool) → (a && b) ≡ true → a ≡ true
-and_left true b h = refl
-and_left false b h = h
-
-pub and_right : (a b : Bool) → (a && b) ≡ true → b ≡ true
-and_right true b h = h
-and_right false b h = absurd (true-false (sym h))
-
 -- what passes a test that all items pass
 pub passes_at : {X : Type 0} (p : X → Bool) (xs : List X) (k : ℕ) (x : X) → list_all p xs ≡ true → slice_get xs k ≡ Some x → p x ≡ true
 passes_at p [] k x h e = absurd (none-some x e)
-passes_at p (y ∷ xs) zero x h e = ap p (sym (same_Some y x e)) ∙ and_left (p y) (list_all p xs) h
-passes_at p (y ∷ xs) (suc k) x h e = passes_at p xs k x (and_right (p y) (list_all p xs) h) e
+passes_at p (y ∷ xs) zero x h e = ap p (sym (same_Some y x e)) ∙ and-left (p y) (list_all p xs) h
+passes_at p (y ∷ xs) (suc k) x h e = passes_at p xs k x (and-right (p y) (list_all p xs) h) e
 
 -- an item within the list is there
 pub slice_get-there : {X : Type 0} (xs : List X) (k : ℕ) → k < length xs → slice_get xs k ≡ None → ⊥

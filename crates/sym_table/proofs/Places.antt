@@ -1,4 +1,4 @@
--- Where a set of names has a name.
+-- Cited by crates above. Where a set of names has a name.
 use Rattle.std.proofs.Common.{◌≡◌, ℕ, List, slice_get, position, Option, Some, None, refl, sym, ◌∙◌, ap}
 use Rattle.std.specs.Str.{bytes_eq}
 use Rattle.std.proofs.lemmas.Slice.Eq.{bytes_eq-Decides}

@@ -1,4 +1,4 @@
--- What a table says, by the fields that keep it.
+-- Cited by crates above. What a table says, by the fields that keep it.
 use Rattle.std.proofs.Common.{◌≡◌, ◌⊎◌, inl, inr, ℕ, ◌+◌, List, [], ◌∷◌, ◌++◌, map, length, slice_get, slice_index_or, Option, Some, None, refl, sym, ◌∙◌, ap, arith, append_assoc}
 use Rattle.std.specs.Option.{option_map, option_map_or}
 use Rattle.std.proofs.lemmas.List.{map-append}
@@ -9,7 +9,9 @@ use Rattle.sym_table.specs.declared.cells.Function.{Function}
 use Rattle.sym_table.specs.Names.{PlacesItem}
 use Rattle.sym_table.specs.Leaf.{Leaf, nil, function, variable, first_leaves}
 use Rattle.sym_table.specs.Cells.{function_at, leaf_of_key, leaves_of, IsInRange, AreKeysLinked}
-use Rattle.sym_table.proofs.Lists.{slice_get-left, slice_get-right, slice_get-last, slice_get-cases, slice_get-kept, map-agree}
+use Rattle.sym_table.specs.Table.{Table, IsLeaf, Keeps}
+use Rattle.sym_table.proofs.Lists.{slice_get-right, slice_get-cases, slice_get-kept, map-agree}
+use Rattle.term_model.proofs.Lists.{slice_get-left, slice_get-last}
 
 -- the function of a number, where its name and its sorts are known
 pub function_at-known : (names : List (List ℕ)) (functions : List Function) (n : ℕ) (name : List ℕ) (f : Function) → slice_get names n ≡ Some name → slice_get functions n ≡ Some f → function_at names functions n ≡ function name f.arguments.items f.target
@@ -86,3 +88,11 @@ leaves_of-push_function names functions variables keys name f h =
 
     grown : leaves_of (names ++ name ∷ []) (functions ++ f ∷ []) variables keys ≡ leaves_of names functions variables keys
     grown = ap (λ ls. first_leaves ++ ls) (map-agree _ _ keys (λ k key e. same key (h.in_range k key e)))
+
+-- one leaf stands for one symbol
+pub one_symbol : (s : Table) (k : ℕ) (l m : Leaf) → IsLeaf s k l → IsLeaf s k m → l ≡ m
+one_symbol s k l m h g = let e : Some l ≡ Some m = sym h ∙ g in cc
+
+-- a table keeps what it has
+pub keeps_table : (s : Table) → Keeps s s
+keeps_table s = record { leaves = λ k l h. h; sorts = λ n name h. h }

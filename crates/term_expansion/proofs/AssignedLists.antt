@@ -1,21 +1,13 @@
 -- Variables that are put in and taken away again, one by one.
-use Rattle.std.proofs.Common.{◌≡◌, ℕ, ◌+◌, ◌-◌, ◌<◌, ◌≤◌, zero, suc, refl, sym, ◌∙◌, ap, arith, List, [], ◌∷◌, length, drop, get_or, drop-cons, Some, None, Bool, true, false, cond, eqb}
+use Rattle.std.proofs.Common.{◌≡◌, ℕ, ◌+◌, ◌-◌, ◌<◌, ◌≤◌, zero, suc, refl, sym, ◌∙◌, ap, arith, List, [], ◌∷◌, length, drop, get_or, Some, None, Bool, true, false, cond, eqb}
 use Rattle.std.proofs.lemmas.List.{get_or_default}
+use Rattle.term_model.proofs.Lists.{drop-whole}
+use Rattle.term_pool.proofs.BuildingLemmas.{drop-at_number}
 use Rattle.term_expansion.specs.Assigned.{assigned_for, term_of, assigned_all}
 use Rattle.term_expansion.specs.declared.assignments.Assigned.{Assigned}
 
-drop-whole : {X : Type 0} (xs : List X) → drop (length xs) xs ≡ []
-drop-whole [] = refl
-drop-whole (x ∷ xs) = drop-whole xs
-
 pub assign-start : (ks is : List ℕ) (outer : List Assigned) → outer ≡ assigned_all (drop (length ks) ks) (drop (length ks) is) outer
 assign-start ks is outer = sym (ap (λ js. assigned_all js (drop (length ks) is) outer) (drop-whole ks))
-
-drop-number : (xs : List ℕ) (at : ℕ) → 0 < at → at ≤ length xs → drop (at - 1) xs ≡ get_or xs (at - 1) 0 ∷ drop at xs
-drop-number xs at above within =
-    let back : suc (at - 1) ≡ at = omega arith in
-    let inside : at - 1 < length xs = omega arith in
-    drop-cons xs (at - 1) 0 inside ∙ ap (λ n. get_or xs (at - 1) 0 ∷ drop n xs) back
 
 pub assign-next : (ks is : List ℕ) (outer now new : List Assigned) (at i : ℕ) → length ks ≡ length is → 0 < at → at ≤ length ks → i ≡ get_or is (at - 1) i → now ≡ assigned_all (drop at ks) (drop at is) outer → new ≡ record { variable = get_or ks (at - 1) 0; term = i; outer = assigned_for (get_or ks (at - 1) 0) now } ∷ now → new ≡ assigned_all (drop (at - 1) ks) (drop (at - 1) is) outer
 assign-next ks is outer now new at i same above within read so_far e =
@@ -23,8 +15,8 @@ assign-next ks is outer now new at i same above within read so_far e =
     e
     ∙ ap (λ (j : ℕ). record { variable = get_or ks (at - 1) 0; term = j; outer = assigned_for (get_or ks (at - 1) 0) now } ∷ now) (read ∙ get_or_default is (at - 1) i 0 inside)
     ∙ ap (λ (o : List Assigned). record { variable = get_or ks (at - 1) 0; term = get_or is (at - 1) 0; outer = assigned_for (get_or ks (at - 1) 0) o } ∷ o) so_far
-    ∙ sym (ap (λ js. assigned_all js (drop (at - 1) is) outer) (drop-number ks at above within)
-    ∙ ap (λ js. assigned_all (get_or ks (at - 1) 0 ∷ drop at ks) js outer) (drop-number is at above (omega arith)))
+    ∙ sym (ap (λ js. assigned_all js (drop (at - 1) is) outer) (drop-at_number ks at above within)
+    ∙ ap (λ js. assigned_all (get_or ks (at - 1) 0 ∷ drop at ks) js outer) (drop-at_number is at above (omega arith)))
 
 pub assign-end : (ks is : List ℕ) (outer now : List Assigned) (at : ℕ) → at ≤ 0 → now ≡ assigned_all (drop at ks) (drop at is) outer → now ≡ assigned_all ks is outer
 assign-end ks is outer now at none e =

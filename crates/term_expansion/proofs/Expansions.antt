@@ -1,5 +1,5 @@
 -- What terms become, cell by cell.
-use Rattle.std.proofs.Common.{◌≡◌, ◌≢◌, ℕ, ◌+◌, ◌<◌, ◌≤◌, ◌⊎◌, ◌↔◌, inl, inr, zero, suc, refl, sym, ◌∙◌, ap, subst, arith, List, [], ◌∷◌, ◌++◌, length, take, get_or, slice_get, Some, Bool, true, false, cond, eqb, nat_eq, pos, Vec}
+use Rattle.std.proofs.Common.{◌≡◌, ◌≢◌, ℕ, ◌+◌, ◌<◌, ◌≤◌, ◌⊎◌, inl, inr, zero, suc, refl, sym, ◌∙◌, ap, subst, arith, List, [], ◌∷◌, ◌++◌, length, take, get_or, slice_get, Some, Bool, true, false, cond, eqb, nat_eq, pos, Vec}
 use Rattle.std.specs.Cmp.Lexicographic.{pointwise}
 use Rattle.std.specs.HashMap.{get}
 use Rattle.std.specs.Prelude.{Result, IfErr}
@@ -7,13 +7,16 @@ use Rattle.std.specs.List.{AllByRecursion}
 use Rattle.std.specs.declared.alloc.Global.{Global}
 use Rattle.std.proofs.lemmas.Bool.Decides.{eqb_tells}
 use Rattle.pair_pool.specs.Trees.{Tree, leaf}
-use Rattle.pair_pool.specs.Views.{PassView, Knows, IsKnown, IsPlaced, IsOneToOne}
+use Rattle.pair_pool.specs.Views.{PassView, Knows, IsKnown, IsOneToOne}
 use Rattle.sym_table.specs.Leaf.{Leaf, operator}
 use Rattle.sym_table.specs.Table.{Table, IsLeaf, IsTable}
 use Rattle.term_model.specs.Terms.{Var, Term, numeral, variable, operation, call, let_in, no_terms, term, Bindings}
 use Rattle.term_model.proofs.Zips.{zip_weaken, zip_push}
-use Rattle.term_pool.proofs.Keeping.{part-trans, placed-trans}
-use Rattle.term_pool.specs.Building.{IsAppliedLeaf, AreBindings, IsCellIn, PlacesOnlyIn, IsFullIn}
+use Rattle.term_model.proofs.Basics.{same_some}
+use Rattle.term_pool.proofs.Keeping.{placed-trans, placed-larger, full-larger}
+use Rattle.term_pool.proofs.Leaves.{let_is}
+use Rattle.term_pool.proofs.References.{AreOne}
+use Rattle.term_pool.specs.Building.{IsAppliedLeaf, AreBindings, PlacesOnlyIn, IsFullIn}
 use Rattle.term_pool.specs.Reading.{arguments_of, IsLet}
 use Rattle.term_pool.specs.StandsFor.{variable_leaf, function_leaf, StandsFor, StandForAll}
 use Rattle.term_pool.specs.Trees.{IsPartOf, app_tree}
@@ -28,15 +31,10 @@ use Rattle.term_expansion.specs.Needs.{IsNeeded, Values, AreValuesOf, HasNeeds}
 use Rattle.rule_model.specs.Replacement.{Replacement, replaced_by, replaced, replaced_bindings}
 use Rattle.term_expansion.specs.declared.assignments.Assigned.{Assigned}
 use Rattle.term_expansion.specs.declared.expanding.Expansion.{Expansion}
-use Rattle.term_expansion.proofs.Images.{same_some}
 use Rattle.term_expansion.proofs.NeedLemmas as need
 use Rattle.term_expansion.proofs.NeedLemmas.{HasGivenTerms, refers-grow}
-use Rattle.term_expansion.proofs.TermParts.{becomes_application, no_let, let_is}
+use Rattle.term_expansion.proofs.TermParts.{becomes_application, no_let}
 use Rattle.term_expansion.specs.SymbolsAndTerms.{both}
-
--- the law that references are equal exactly where terms are
-abbrev pub AreOne : Table → TermsView → Type 0
-AreOne s v = (p q : ℕ) (t u : Term) → RefersTo s v p t → RefersTo s v q u → (p ≡ q) ↔ (t ≡ u)
 
 -- the same for an equal view
 pub expands_moved : (s : Table) (v w z : TermsView) (a : List Assigned) (r i : ℕ) → w ≡ v → ExpandsOne (both s w) z a r i → ExpandsOne (both s v) z a r i
@@ -173,25 +171,6 @@ take-each q (u ∷ ts) zero t e =
 take-each q (u ∷ ts) (suc i) t e =
     let one : suc i + 1 ≡ suc (i + 1) = omega arith in
     ap (λ n. take n (replaced_each q (u ∷ ts))) one ∙ ap (λ (xs : List Term). replaced q u ∷ xs) (take-each q ts i t e)
-
-cell-larger : (p : PassView) (a b : ℕ) (s t : Tree) → IsPartOf s t → IsCellIn p a b s → IsCellIn p a b t
-cell-larger p a b s t part h = record {
-  first = h.first;
-  second = h.second;
-  first_known = h.first_known;
-  second_known = h.second_known;
-  part = part-trans _ s t h.part part;
-}
-
-placed-larger : (p q : PassView) (s t : Tree) → IsPartOf s t → PlacesOnlyIn p q s → PlacesOnlyIn p q t
-placed-larger p q s t part h n a b e = go (h n a b e)
-  where
-    go : IsPlaced p n a b ⊎ IsCellIn q a b s → IsPlaced p n a b ⊎ IsCellIn q a b t
-    go (inl x) = inl x
-    go (inr y) = inr (cell-larger q a b s t part y)
-
-full-larger : (p : PassView) (s t : Tree) → IsPartOf s t → IsFullIn p s → IsFullIn p t
-full-larger p s t part h = record { first = h.first; second = h.second; wanted = cell-larger p h.first h.second s t part h.wanted; full = h.full }
 
 -- one term of a list
 pub said_at : (s : Table) (v w : TermsView) (a b : List Assigned) (rs : List ℕ) (i r : ℕ) → KeepsTerms v w → b ≡ a → AreSaid (both s v) a rs → i < length rs → r ≡ get_or rs i r → IsSaid (both s w) b r

@@ -4,13 +4,13 @@ use Rattle.std.proofs.lemmas.List.Elements.{All-nil, All-cons, All-head, All-tai
 use Rattle.sym_table.specs.Table.{Table}
 use Rattle.term_model.specs.Terms.{Term, numeral, variable, operation, call, let_in, Terms, no_terms, term, list_of, Bindings, no_bindings, binding}
 use Rattle.term_model.specs.Heights.{height, highest, highest_bound}
+use Rattle.term_model.proofs.Basics.{same_some}
 use Rattle.term_pool.specs.Building.{AreBindings}
 use Rattle.term_pool.specs.Reading.{arguments_of, IsLet}
 use Rattle.term_pool.specs.Views.{TermsView, RefersTo, ReferToAll, KeepsTerms, IsTerm}
 use Rattle.term_expansion.specs.Expanding.{AreGiven}
 use Rattle.term_expansion.specs.Heights.{IsAtMost}
 use Rattle.term_expansion.specs.Needs.{value_of}
-use Rattle.term_expansion.proofs.Images.{same_some}
 use Rattle.term_expansion.proofs.NeedLemmas.{refers-grow}
 use Rattle.term_expansion.specs.SymbolsAndTerms.{both}
 

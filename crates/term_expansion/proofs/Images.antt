@@ -2,6 +2,7 @@
 use Rattle.std.proofs.Common.{◌≡◌, ◌≢◌, ℕ, ◌+◌, ◌-◌, ◌≤◌, ◌<◌, ◌⊎◌, inl, inr, refl, sym, ◌∙◌, ap, subst, arith, List, [], ◌∷◌, length, get_or, drop, drop-cons, suc, Some, None, Option, Bool, true, false, ◌&&◌, nat_eq, eqb, pos, cond, if◌then◌else◌}
 use Rattle.std.specs.HashMap.{get}
 use Rattle.std.proofs.lemmas.Bool.Decides.{eqb_tells}
+use Rattle.std.proofs.lemmas.Bool.{and_parts}
 use Rattle.pair_pool.specs.Trees.{Tree, leaf, cell}
 use Rattle.pair_pool.specs.Views.{PassView, Knows, IsKnown}
 use Rattle.sym_table.specs.Leaf.{Leaf, operator, nil}
@@ -9,6 +10,7 @@ use Rattle.sym_table.specs.Leaf as Leaf
 use Rattle.sym_table.specs.Table.{Table, IsLeaf, IsTable}
 use Rattle.term_model.specs.Terms.{Var, var_eq, Term, numeral, variable, operation, call, let_in, Terms, no_terms, term, Bindings, no_bindings, binding}
 use Rattle.term_model.proofs.Tests.{var_eq_decides}
+use Rattle.term_model.proofs.Basics.{same_some}
 use Rattle.term_model.specs.Heights.{height, highest, highest_bound}
 use Rattle.term_pool.specs.declared.putting.Image.{Image}
 use Rattle.term_pool.specs.Putting.{Piece, staying, joined_pieces, put, CellImages, IsImageOfPiece, IsLowPiece, IsImageOf, ArePiecesOfLeaves, HasPieceImages, PlacesPiece, LacksRoomForPiece}
@@ -17,6 +19,7 @@ use Rattle.term_pool.specs.Trees.{depth}
 use Rattle.term_pool.specs.Views.{TermsView}
 use Rattle.term_expansion.specs.Images.{IsSomeReplacement, IsSomeValue}
 use Rattle.term_pool.specs.Placing.{PlacesTerm, LacksRoomFor}
+use Rattle.term_pool.proofs.Leaves.{leaf_variable}
 use Rattle.term_expansion.specs.PutFor.{PutsFor, ArePutFor, IsPieceOf}
 use Rattle.rule_model.specs.Replacement.{Replacement, replaced_by, replaced, replaced_all, HasNoLet, HaveNoLet}
 use Rattle.rule_model.proofs.Replacing.{replaced-none}
@@ -60,20 +63,8 @@ mutual
   bindings-depth s (binding x t bs) (cell (cell a c) b) h =
       let y = height-depth s t c h.0.1 in let z = bindings-depth s bs b h.1 in omega arith
 
-pub same_some : {X : Type 0} {a b : X} → Some a ≡ Some b → a ≡ b
-same_some e = cc
-
 pub var_same : (x y : Var) → x.name ≡ y.name → x.sort ≡ y.sort → x ≡ y
 var_same x y e f = λ i. record { name = e i; sort = f i }
-
-pub leaf_variable : (x y : Var) → variable_leaf x ≡ variable_leaf y → x ≡ y
-leaf_variable x y e = var_same x y (names e) (sorts e)
-  where
-    names : variable_leaf x ≡ variable_leaf y → x.name ≡ y.name
-    names e = cc
-
-    sorts : variable_leaf x ≡ variable_leaf y → x.sort ≡ y.sort
-    sorts e = cc
 
 -- with a piece for leaf n
 abbrev pub with_piece : ℕ → Piece → (ℕ → Piece) → ℕ → Piece
@@ -194,11 +185,6 @@ record IsListPiece (s : Table) (p : Piece) (ts : Terms) : Type 0 where
   highest_is : p.highest ≡ highest ts
   plain : p.plain ≡ true → HaveNoLet ts
 
-both_true : (a b : Bool) → (a && b) ≡ true → (a ≡ true) × (b ≡ true)
-both_true true true e = (refl, refl)
-both_true true false e = absurd (cc)
-both_true false b e = absurd (cc)
-
 leaf_at : (s : Table) (l : Leaf) (p q : Piece) → p ≡ q → StandsForApplication s q.tree l no_terms → StandsForApplication s p.tree l no_terms
 leaf_at s l p q e h = rw e h
 
@@ -207,7 +193,7 @@ unfolding height
 joined_application s l a b c k t ts e g x y = record {
   stands = (leaf_at s l a (staying k) e g, (x.stands, y.stands));
   height_is = let xh = x.height in let yh = y.highest_is in omega arith;
-  plain = λ d. let parts = both_true a.plain (b.plain && c.plain) d in let two = both_true b.plain c.plain parts.1 in (x.plain two.0, y.plain two.1);
+  plain = λ d. let parts = and_parts a.plain (b.plain && c.plain) d in let two = and_parts b.plain c.plain parts.1 in (x.plain two.0, y.plain two.1);
 }
 
 joined_list : (s : Table) (b c : Piece) (t : Term) (ts : Terms) → IsPieceOf s b t → IsListPiece s c ts → IsListPiece s (joined_pieces b c) (term t ts)
@@ -215,7 +201,7 @@ unfolding height
 joined_list s b c t ts x y = record {
   stands = (x.stands, y.stands);
   highest_is = let xh = x.height in let yh = y.highest_is in omega arith;
-  plain = λ d. let two = both_true b.plain c.plain d in (x.plain two.0, y.plain two.1);
+  plain = λ d. let two = and_parts b.plain c.plain d in (x.plain two.0, y.plain two.1);
 }
 
 leaf_application : (s : Table) (l : Leaf) (p : Piece) (k : ℕ) → p ≡ staying k → IsLeaf s k l → IsApplicationPiece s p l no_terms

@@ -8,8 +8,8 @@ use Rattle.term_expansion.specs.Assigned.{term_of}
 use Rattle.term_expansion.specs.Expanding.{pairs_of, key_of, AreGiven, AreValuesGiven}
 use Rattle.term_expansion.specs.Needs.{value_of, Values, AreValuesOf}
 use Rattle.term_expansion.specs.declared.assignments.Assigned.{Assigned}
-use Rattle.term_expansion.proofs.SetLemmas.{none_in}
 use Rattle.term_model.proofs.Zips.{zip_weaken}
+use Rattle.term_model.proofs.Lists.{contains_none}
 
 -- one pair more
 pairs_of-push : (assigned : List Assigned) (leaves : List ℕ) (k : ℕ) → pairs_of assigned (leaves ++ k ∷ []) ≡ (pairs_of assigned leaves ++ k ∷ []) ++ term_of k assigned ∷ []
@@ -34,7 +34,7 @@ pub given-start : (ks rs gs ps : List ℕ) → gs ≡ [] → ps ≡ [] → AreVa
 given-start ks rs gs ps e f =
     subst (λ (xs : List ℕ). AreValuesGiven [] ks rs xs ps) (sym e)
     (subst (λ (xs : List ℕ). AreValuesGiven [] ks rs [] xs) (sym f)
-    (record { are = tt; all = λ k r c v. absurd (none_in k c) }))
+    (record { are = tt; all = λ k r c v. absurd (contains_none k c) }))
 
 pub given-found : (leaves ks rs gs ps : List ℕ) (k r : ℕ) → value_of k ks rs ≡ Some r → AreValuesGiven leaves ks rs gs ps → AreValuesGiven (leaves ++ k ∷ []) ks rs (gs ++ k ∷ []) (ps ++ r ∷ [])
 given-found leaves ks rs gs ps k r value h = record {

@@ -4,39 +4,21 @@ use Rattle.std.specs.HashMap.{get}
 use Rattle.std.specs.declared.alloc.Global.{Global}
 use Rattle.std.proofs.lemmas.Bool.Decides.{eqb_tells}
 use Rattle.std.proofs.lemmas.Option.{slice_get_within}
-use Rattle.pair_pool.specs.Views.{IsUnchanged}
 use Rattle.sym_table.specs.declared.kind.Kind.{Kind}
 use Rattle.sym_table.specs.Leaf.{Leaf, operator, kind_of}
-use Rattle.sym_table.specs.Leaf as Leaf
-use Rattle.sym_table.specs.Table.{Table, IsLeaf, LeafMeets, IsTable}
+use Rattle.sym_table.specs.Table.{Table, IsLeaf, LeafMeets}
+use Rattle.sym_table.proofs.Tables.{one_symbol}
 use Rattle.term_model.specs.declared.symbols.Sort.{Sort}
 use Rattle.term_model.specs.Terms.{Var, Term, numeral, variable, operation, call, let_in, Bindings}
+use Rattle.term_model.proofs.Lists.{contains_none}
+use Rattle.term_model.proofs.Basics.{same_some}
 use Rattle.term_pool.specs.Building.{IsAppliedLeaf, AreBindings}
 use Rattle.term_pool.specs.Reading.{IsLet}
 use Rattle.term_pool.specs.StandsFor.{variable_leaf, function_leaf}
-use Rattle.term_pool.specs.Views.{TermsView, ReferToAll, KeepsTerms}
+use Rattle.term_pool.specs.Views.{TermsView, ReferToAll}
+use Rattle.term_pool.proofs.Leaves.{one_variable}
 use Rattle.term_expansion.specs.Free.{HasVariable, IsLeafOfSome, AddsLeaves, AddsOne, AddsUnbound}
 use Rattle.term_expansion.specs.Needs.{Needs}
-use Rattle.term_expansion.proofs.Images.{leaf_variable}
-use Rattle.term_expansion.proofs.SetLemmas.{none_in}
-
--- a pass that was kept and did not change makes the same terms
-pub stays : (v w : TermsView) → KeepsTerms v w → IsUnchanged v.pass w.pass → w ≡ v
-stays v w k u = λ i. record {
-  pool = k.pool i;
-  pass = record { places = u.places i; shares = u.shares i; seen = u.seen i; known = u.known i; placed = u.placed i };
-}
-
-pub same_some : {X : Type 0} {a b : X} → Some a ≡ Some b → a ≡ b
-same_some e = cc
-
--- a leaf is that of one variable, and a variable has one leaf
-pub one_variable : (s : Table) (k : ℕ) (x y : Var) → IsLeaf s k (variable_leaf x) → IsLeaf s k (variable_leaf y) → x ≡ y
-one_variable s k x y g h = leaf_variable x y (same_some (sym g ∙ h))
-
-pub one_leaf : (s : Table) → IsTable s → (j k : ℕ) (x y : Var) → IsLeaf s j (variable_leaf x) → IsLeaf s k (variable_leaf y) → x ≡ y → j ≡ k
-one_leaf s table j k x y g h e =
-    table.apart j k (variable_leaf x) (variable_leaf y) g h (ap (λ (z : Var). Leaf.kind_of 0 (variable_leaf z)) e) (ap (λ (z : Var). Leaf.name_of (variable_leaf z)) e)
 
 -- the kind of a variable's leaf
 abbrev kind_is : Kind → ℕ → Option Leaf → Type 0
@@ -104,13 +86,10 @@ application-no_let s k ts (operation op us) h e = e
 application-no_let s k ts (call f us) h e = e
 application-no_let s k ts (let_in bs u) h e = h
 
-two_leaves : (s : Table) (k : ℕ) (l m : Leaf) → IsLeaf s k l → IsLeaf s k m → l ≡ m
-two_leaves s k l m g h = same_some (sym g ∙ h)
-
 pub is_variable : (s : Table) (k : ℕ) (x : Var) (ts : List Term) (t : Term) → IsLeaf s k (variable_leaf x) → IsAppliedLeaf s k ts t → t ≡ variable x
-is_variable s k x ts (numeral n) g h = absurd (let e = two_leaves s k (variable_leaf x) (Leaf.numeral (pos n)) g h.0 in cc)
-is_variable s k x ts (operation op us) g h = absurd (let e = two_leaves s k (variable_leaf x) (operator op) g h.0 in cc)
-is_variable s k x ts (call f us) g h = absurd (let e = two_leaves s k (variable_leaf x) (function_leaf f) g h.0 in cc)
+is_variable s k x ts (numeral n) g h = absurd (let e = one_symbol s k (variable_leaf x) (Leaf.numeral (pos n)) g h.0 in cc)
+is_variable s k x ts (operation op us) g h = absurd (let e = one_symbol s k (variable_leaf x) (operator op) g h.0 in cc)
+is_variable s k x ts (call f us) g h = absurd (let e = one_symbol s k (variable_leaf x) (function_leaf f) g h.0 in cc)
 is_variable s k x ts (let_in bs u) g h = absurd h
 is_variable s k x ts (variable y) g h = ap (λ (z : Var). variable z) (one_variable s k y x h.0 g)
 
@@ -136,12 +115,12 @@ bindings-from_none s v w old_ks old_rs ks rs bs e f g h =
 pub added-leaves : (s : Table) (leaves a b : List ℕ) (P : Var → Type 0) → AddsLeaves s [] leaves P → AddsUnbound leaves [] a b → AddsLeaves s a b P
 added-leaves s leaves a b P are adds = record {
   kept = adds.kept;
-  all = λ x h. let r = are.all x h in (r.0, r.1, adds.all r.0 r.2 (none_in r.0));
+  all = λ x h. let r = are.all x h in (r.0, r.1, adds.all r.0 r.2 (contains_none r.0));
   only = λ k c. elim (adds.only k c) [ inl old ↦ inl old | inr is ↦ inr (new k is.0) ];
 }
   where
     new : (k : ℕ) → Contains leaves k → IsLeafOfSome s k P
-    new k c = elim (are.only k c) [ inl none ↦ absurd (none_in k none) | inr is ↦ is ]
+    new k c = elim (are.only k c) [ inl none ↦ absurd (contains_none k none) | inr is ↦ is ]
 
 -- bodies
 pub one-more : (P : ℕ → Vec ℕ Global → Type 0) (old new : Needs) (r : ℕ) (leaves : Vec ℕ Global) → ((q : ℕ) → get nat_eq new q ≡ cond (eqb r q) (Some leaves) (get nat_eq old q)) → P r leaves → ((q : ℕ) (ls : Vec ℕ Global) → get nat_eq old q ≡ Some ls → P q ls) → (q : ℕ) (ls : Vec ℕ Global) → get nat_eq new q ≡ Some ls → P q ls

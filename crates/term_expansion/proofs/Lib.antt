@@ -4,7 +4,7 @@ pub mod LeafLemmas
 pub mod TermParts
 pub mod Heights
 pub mod Needing
-pub mod SameTerms
+pub mod BindingLengths
 pub mod AssignedLists
 pub mod NeedLemmas
 pub mod KeyLemmas

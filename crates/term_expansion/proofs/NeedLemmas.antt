@@ -4,12 +4,15 @@ use Rattle.std.specs.List.{AllZip}
 use Rattle.std.specs.Cmp.Lexicographic.{pointwise}
 use Rattle.std.proofs.lemmas.Bool.Decides.{eqb_tells, Decides-eqb}
 use Rattle.std.proofs.lemmas.Slice.Eq.{slice_eq-Decides}
+use Rattle.std.proofs.lemmas.Bool.{true≢false}
 use Rattle.pair_pool.specs.Trees.{Tree, leaf, cell}
 use Rattle.sym_table.specs.Leaf.{Leaf, operator}
 use Rattle.sym_table.specs.Table.{Table, IsLeaf, IsTable}
 use Rattle.term_model.specs.Terms.{Var, var_eq, Term, numeral, variable, operation, call, let_in, Terms, no_terms, term, list_of, Bindings, no_bindings, binding}
 use Rattle.term_model.proofs.Tests.{var_eq_decides}
+use Rattle.term_model.proofs.Basics.{same_some}
 use Rattle.term_pool.proofs.Keeping.{part-refl, part-trans}
+use Rattle.term_pool.proofs.Leaves.{leaf_variable, one_leaf}
 use Rattle.term_pool.specs.Building.{AreBindings}
 use Rattle.term_pool.specs.Reading.{arguments_of, IsLet}
 use Rattle.term_pool.specs.StandsFor.{variable_leaf, function_leaf, StandsForApplication, StandsForList}
@@ -21,8 +24,6 @@ use Rattle.term_expansion.specs.Free.{AddsLeaves}
 use Rattle.term_expansion.specs.Needs.{IsNeeded, IsNeededAmong, IsNeededFor, value_of, Needs, AreNeeds}
 use Rattle.rule_model.specs.Replacement.{Replacement, replaced_by, replaced, replaced_all, replaced_bindings}
 use Rattle.term_expansion.specs.declared.assignments.Assigned.{Assigned}
-use Rattle.term_expansion.proofs.Images.{leaf_variable, same_some}
-use Rattle.term_expansion.proofs.LeafLemmas.{one_leaf}
 use Rattle.term_expansion.specs.SymbolsAndTerms.{both}
 
 -- what is put in alike for all that a term needs
@@ -181,9 +182,6 @@ pub record IsUnbound (bs : Bindings) (x : Var) : Type 0 where
   pub put : (q : Replacement) → replaced_by (replaced_bindings q bs ++ q) x ≡ replaced_by q x
   pub needs : IsNeededFor x bs x
 
-true_false : ◌≡◌ {A = Bool} true false → ⊥
-true_false e = cc
-
 bound-first : (s : Table) (v : TermsView) (bs : Bindings) (z x : Var) (t : Term) (r : ℕ) → z ≡ x → RefersTo s v r t → IsBoundValue s v (binding z t bs) x r
 unfolding replaced
 bound-first s v bs z x t r e refers = record {
@@ -222,8 +220,8 @@ bound-value s v table (j ∷ ks) (i ∷ rs) (binding z t bs) h k r x g e =
     go : (b : Bool) → ((b ≡ true) × (j ≡ k)) ⊎ ((b ≡ false) × (j ≢ k)) → cond b (Some i) (value_of k ks rs) ≡ Some r → (value_of k ks rs ≡ Some r → IsBoundValue s v bs x r) → IsBoundValue s v (binding z t bs) x r
     go true (inl both) f rest =
         bound-first s v bs z x t r (one_variable s j k z x h.0 g both.1) (subst (λ (n : ℕ). RefersTo s v n t) (same_some f) h.1)
-    go true (inr both) f rest = absurd (true_false both.0)
-    go false (inl both) f rest = absurd (true_false (sym both.0))
+    go true (inr both) f rest = absurd (true≢false both.0)
+    go false (inl both) f rest = absurd (true≢false (sym both.0))
     go false (inr both) f rest = bound-later s v bs z x t r (λ same. both.1 (one_leaf s table j k z x h.0 g same)) (rest f)
 
 pub unbound-value : (s : Table) (v : TermsView) → IsTable s → (ks rs : List ℕ) (bs : Bindings) → AreBindings s v ks rs bs → (k : ℕ) (x : Var) → IsLeaf s k (variable_leaf x) → value_of k ks rs ≡ None → IsUnbound bs x
@@ -238,7 +236,7 @@ unbound-value s v table (j ∷ ks) (i ∷ rs) (binding z t bs) h k x g e =
   where
     go : (b : Bool) → ((b ≡ true) × (j ≡ k)) ⊎ ((b ≡ false) × (j ≢ k)) → cond b (Some i) (value_of k ks rs) ≡ None → (value_of k ks rs ≡ None → IsUnbound bs x) → IsUnbound (binding z t bs) x
     go true tells f rest = absurd cc
-    go false (inl both) f rest = absurd (true_false (sym both.0))
+    go false (inl both) f rest = absurd (true≢false (sym both.0))
     go false (inr both) f rest =
         let d : z ≢ x = λ same. both.1 (one_leaf s table j k z x h.0 g same) in
         let u = rest f in
@@ -319,8 +317,8 @@ inside-puts s w bs u (g ∷ gs) (t ∷ ts) (i ∷ is) assigned q k x l h refer r
     go true (inl both) later =
         let same = one_variable s g k h.0.variable x h.0.leaf l both.1 in
         subst (λ (z : Var). RefersTo s w i (replaced_by (replaced_bindings q bs ++ q) z)) same (subst (RefersTo s w i) (sym (h.0.put q)) refer.0)
-    go true (inr both) later = absurd (true_false both.0)
-    go false (inl both) later = absurd (true_false (sym both.0))
+    go true (inr both) later = absurd (true≢false both.0)
+    go false (inl both) later = absurd (true≢false (sym both.0))
     go false (inr both) later = later both.1
 
 pub inside-says : (s : Table) (v w : TermsView) → IsTable s → ((r : ℕ) (t : Term) → RefersTo s v r t → RefersTo s w r t) → (ks rs : List ℕ) (bs : Bindings) (u : Term) → AreBindings s v ks rs bs → (leaves : List ℕ) → AddsLeaves s [] leaves (λ x. IsNeeded x u) → (gs ps : List ℕ) → AreValuesGiven leaves ks rs gs ps → (ts : List Term) → AllZip (IsGivenTerm s bs u) gs ts → (is : List ℕ) (assigned : List Assigned) (q : Replacement) → Says (both s v) assigned q (let_in bs u) → ReferToAll s w is (map (replaced q) ts) → Says (both s w) (assigned_all gs is assigned) (replaced_bindings q bs ++ q) u

@@ -6,15 +6,18 @@ use Rattle.std.proofs.lemmas.Bool.Decides.{eqb_tells}
 use Rattle.std.proofs.lemmas.List.Elements.{Contains-get_or, Contains-append_left, Contains-push, Contains-push_cases}
 use Rattle.sym_table.specs.Table.{Table, IsLeaf, IsTable}
 use Rattle.term_model.specs.Terms.{Var, Term, numeral, variable, operation, call, let_in, Terms, no_terms, term, list_of, Bindings, no_bindings, binding}
+use Rattle.term_model.proofs.Lists.{contains_none}
+use Rattle.term_model.proofs.Basics.{same_some}
 use Rattle.term_pool.specs.Building.{IsAppliedLeaf, AreBindings}
 use Rattle.term_pool.specs.Reading.{arguments_of}
 use Rattle.term_pool.specs.StandsFor.{variable_leaf}
 use Rattle.term_pool.specs.Views.{TermsView, RefersTo, ReferToAll, IsTerm}
+use Rattle.term_pool.proofs.Leaves.{one_variable, one_leaf}
+use Rattle.term_pool.proofs.References.{AreOne}
 use Rattle.term_expansion.specs.Free.{HasVariable, IsLeafOfSome, AddsLeaves, AddsOne, AddsUnbound}
 use Rattle.term_expansion.specs.Needs.{IsNeeded, IsNeededAmong, IsNeededFor, IsNeededInAny, value_of, Values, AreValuesOf, HasNeeds, Needs, AreNeeds}
-use Rattle.term_expansion.proofs.LeafLemmas.{adds-same, adds-both, adds-none, added-leaves, swapped, one_variable, one_leaf, is_variable, one-adds, one-more}
-use Rattle.term_expansion.proofs.Images.{drop-at, same_some}
-use Rattle.term_expansion.proofs.SetLemmas.{none_in}
+use Rattle.term_expansion.proofs.LeafLemmas.{adds-same, adds-both, adds-none, added-leaves, swapped, is_variable, one-adds, one-more}
+use Rattle.term_expansion.proofs.Images.{drop-at}
 use Rattle.term_expansion.specs.SymbolsAndTerms.{both}
 
 -- by the top of a term
@@ -41,15 +44,11 @@ application-needs s k (call f us) a b never h adds =
     adds-same s a b _ _ (λ x p. any-among us x p) (λ x p. among-any us x p) adds
 application-needs s k (let_in bs u) a b never h adds = absurd h
 
--- the leaves that were found for a term are those of each term that its reference stands for: there is just one
-abbrev pub AreSame : Table → TermsView → Type 0
-AreSame s v = (p q : ℕ) (t u : Term) → RefersTo s v p t → RefersTo s v q u → (p ≡ q) ↔ (t ≡ u)
-
-pub needs-at : (s : Table) (v : TermsView) (r : ℕ) (leaves : List ℕ) (t : Term) → AreSame s v → HasNeeds (both s v) r leaves → RefersTo s v r t → AddsLeaves s [] leaves (λ x. IsNeeded x t)
+pub needs-at : (s : Table) (v : TermsView) (r : ℕ) (leaves : List ℕ) (t : Term) → AreOne s v → HasNeeds (both s v) r leaves → RefersTo s v r t → AddsLeaves s [] leaves (λ x. IsNeeded x t)
 needs-at s v r leaves t one h refers =
     subst (λ (u : Term). AddsLeaves s [] leaves (λ x. IsNeeded x u)) ((one r r h.means t h.refers refers).0 refl) h.are
 
-pub needs-added : (s : Table) (v : TermsView) (r : ℕ) (leaves a b : List ℕ) (t : Term) → AreSame s v → HasNeeds (both s v) r leaves → AddsUnbound leaves [] a b → RefersTo s v r t → AddsLeaves s a b (λ x. IsNeeded x t)
+pub needs-added : (s : Table) (v : TermsView) (r : ℕ) (leaves a b : List ℕ) (t : Term) → AreOne s v → HasNeeds (both s v) r leaves → AddsUnbound leaves [] a b → RefersTo s v r t → AddsLeaves s a b (λ x. IsNeeded x t)
 needs-added s v r leaves a b t one h adds refers = added-leaves s leaves a b _ (needs-at s v r leaves t one h refers) adds
 
 -- what is kept
@@ -166,7 +165,7 @@ pub through-none : (s : Table) (v now : TermsView) (variables values old : List 
 through-none s v now variables values old kept e h = record {
   same = e;
   needs = subst (λ z. AreNeeds (both s z) kept) e h;
-  adds = λ bs are. adds-none s old _ (λ x p. none_in p.1.0 p.1.2);
+  adds = λ bs are. adds-none s old _ (λ x p. contains_none p.1.0 p.1.2);
 }
 
 -- one leaf more
@@ -203,7 +202,7 @@ through-all s leaves old found bs u inside adds = adds-same s old found _ _ ther
 
     there : (x : Var) → IsNeededThrough s leaves bs x → IsNeeded x (let_in bs u)
     there x (y, (j, is, c), p) =
-        (y, elim (inside.only j c) [ inl none ↦ absurd (none_in j none) | inr some ↦ needed y j is some ], p)
+        (y, elim (inside.only j c) [ inl none ↦ absurd (contains_none j none) | inr some ↦ needed y j is some ], p)
 
     back : (x : Var) → IsNeeded x (let_in bs u) → IsNeededThrough s leaves bs x
     back x (y, n, p) = (y, inside.all y n, p)
@@ -213,7 +212,7 @@ pub needed-variable : (s : Table) (v : TermsView) (r : ℕ) (leaves list : List 
 needed-variable s v r leaves list i h e l =
     let k = get_or list i 0 in
     let there : Contains leaves k = subst (λ (ls : List ℕ). Contains ls k) e (Contains-get_or list i 0 l) in
-    elim (h.are.only k there) [ inl none ↦ absurd (none_in k none) | inr some ↦ (some.0, some.1) ]
+    elim (h.are.only k there) [ inl none ↦ absurd (contains_none k none) | inr some ↦ (some.0, some.1) ]
 
 -- the same terms
 pub needs_moved : (s : Table) (v w : TermsView) (needs : Needs) → w ≡ v → AreNeeds (both s v) needs → AreNeeds (both s w) needs

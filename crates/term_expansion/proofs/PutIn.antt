@@ -1,5 +1,6 @@
 -- What is put in for the variables of a term that has lets.
-use Rattle.std.proofs.Common.{◌≡◌, inl, refl, sym, ◌∙◌, subst, List, [], ◌∷◌, ◌++◌, Bool, true, false, ◌&&◌, if◌then◌else◌}
+use Rattle.std.proofs.Common.{◌≡◌, inl, sym, ◌∙◌, subst, List, [], ◌∷◌, ◌++◌, Bool, true, false, if◌then◌else◌}
+use Rattle.std.proofs.lemmas.Bool.{and_parts}
 use Rattle.std.specs.List.{list_all}
 use Rattle.pair_pool.specs.Trees.{Tree, leaf, cell}
 use Rattle.sym_table.specs.Leaf.{Leaf, operator}
@@ -128,18 +129,12 @@ put_lacks s v w a bs c fills says t q h k =
     let whole = whole_of s v bs c t q h k in
     record { tree = whole.tree; stands = whole.stands; full = fills t.tree q whole.tree h.refers (says_of s v a q t.tree (says q k)) whole.part }
 
--- where all that is put in is plain, so is the answer
-both_true : (a b : Bool) → (a && b) ≡ true → (a ≡ true) × (b ≡ true)
-both_true true true e = (refl, refl)
-both_true true false e = absurd (cc)
-both_true false b e = absurd (cc)
-
 let_free : (s : Table) (v : TermsView) (bs : List Bound) (q : Replacement) → IsReplacement (both s v) bs q → list_all (λ (b : Bound). b.value.plain) bs ≡ true → AreLetFree q
 let_free s v [] [] h e = tt
 let_free s v [] (x ∷ q) h e = absurd h
 let_free s v (b ∷ bs) [] h e = absurd h
 let_free s v (b ∷ bs) (x ∷ q) h e =
-    let both = both_true b.value.plain (list_all (λ (b : Bound). b.value.plain) bs) e in (h.0.value.plain both.0, let_free s v bs q h.1 both.1)
+    let both = and_parts b.value.plain (list_all (λ (b : Bound). b.value.plain) bs) e in (h.0.value.plain both.0, let_free s v bs q h.1 both.1)
 
 pub put_value : (s : Table) (v x y : TermsView) (bs : List Bound) (c d : Value) → y ≡ x → d.sort ≡ c.sort → d.plain ≡ list_all (λ (b : Bound). b.value.plain) bs → (t : Typed) (q : Replacement) → IsValue (both s v) c t → IsReplacement (both s v) bs q → RefersTo s x d.term (replaced q t.tree) → d.height ≡ height (replaced q t.tree) → IsValue (both s y) d (record { tree = replaced q t.tree; sort = t.sort })
 put_value s v x y bs c d e sort plain t q h k refers high =

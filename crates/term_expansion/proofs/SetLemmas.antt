@@ -1,24 +1,16 @@
--- Cited by crates above. Sets of numbers by what they have.
-use Rattle.std.proofs.Common.{◌≡◌, ℕ, ◌⊎◌, inl, inr, ◌↔◌, List, [], ◌∷◌, ◌++◌, Bool, true, false, nat_eq, cond, refl, sym, subst, Contains, arith}
+-- Sets of numbers by what they have.
+use Rattle.std.proofs.Common.{◌≡◌, ℕ, ◌⊎◌, inl, inr, List, [], ◌∷◌, ◌++◌, Bool, true, false, nat_eq, cond, refl, sym, subst, Contains}
 use Rattle.std.specs.List.{list_any}
-use Rattle.std.specs.Cmp.{nat_eq_equiv}
-use Rattle.std.proofs.lemmas.Bool.{eqb-true}
 use Rattle.std.proofs.lemmas.List.Elements.{Contains-append_left, Contains-push, Contains-push_cases}
-use Rattle.std.proofs.lemmas.Map.Views.{list_any-from_Contains, Contains-from_any}
 use Rattle.indexmap.specs.IndexSet.{insert_key}
+use Rattle.term_model.proofs.Lists.{contains_none, has_number}
 use Rattle.term_expansion.specs.Free.{AddsOne, AddsUnbound}
-
-pub none_in : (k : ℕ) → Contains {X = ℕ} [] k → ⊥
-none_in k h = let below = h.1 in absurd (omega arith)
-
-pub has-test : (ks : List ℕ) (k : ℕ) → (list_any (nat_eq k) ks ≡ true) ↔ Contains ks k
-has-test ks k = (λ e. Contains-from_any (λ x y f. eqb-true x y f) k ks e, λ h. list_any-from_Contains nat_eq_equiv k ks h)
 
 pub insert_key-adds : (ks : List ℕ) (k : ℕ) → AddsOne ks (insert_key nat_eq ks k) k
 insert_key-adds ks k = go (list_any (nat_eq k) ks) refl
   where
     go : (b : Bool) → list_any (nat_eq k) ks ≡ b → AddsOne ks (cond b ks (ks ++ k ∷ [])) k
-    go true e = record { kept = λ j h. h; here = (has-test ks k).0 e; only = λ j h. inl h }
+    go true e = record { kept = λ j h. h; here = (has_number ks k).0 e; only = λ j h. inl h }
     go false e = record {
       kept = λ j h. Contains-append_left ks (k ∷ []) j h;
       here = Contains-push ks k;
@@ -28,7 +20,7 @@ insert_key-adds ks k = go (list_any (nat_eq k) ks) refl
 -- what was added to an empty set without bounds
 pub added-had : (leaves old new : List ℕ) → AddsUnbound leaves [] old new → old ≡ [] → (k : ℕ) → Contains new k → Contains leaves k
 added-had leaves old new h e k c =
-    elim (h.only k c) [ inl before ↦ absurd (none_in k (subst (λ zs. Contains zs k) e before)) | inr is ↦ is.0 ]
+    elim (h.only k c) [ inl before ↦ absurd (contains_none k (subst (λ zs. Contains zs k) e before)) | inr is ↦ is.0 ]
 
 pub unbound-skip : (leaves more bound old new : List ℕ) (x : ℕ) → AddsUnbound leaves bound old new → Contains bound x → more ≡ leaves ++ x ∷ [] → AddsUnbound more bound old new
 unbound-skip leaves more bound old new x h is e = subst (λ zs. AddsUnbound zs bound old new) (sym e) (record { kept = h.kept; all = all; only = only })

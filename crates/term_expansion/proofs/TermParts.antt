@@ -1,4 +1,4 @@
--- The parts of the terms of a pool: references of terms, lists of them, applications and lets.
+-- Cited by crates above. The parts of the terms of a pool: references of terms, lists of them, applications and lets.
 use Rattle.std.proofs.Common.{◌≡◌, ◌≢◌, ℕ, ◌<◌, ◌≤◌, ◌^◌, refl, ap, subst, arith, List, ◌∷◌, map, length}
 use Rattle.std.proofs.lemmas.Option.{slice_get_within}
 use Rattle.sym_table.specs.Leaf.{Leaf}
@@ -7,6 +7,7 @@ use Rattle.term_model.specs.Terms.{Var, Term, numeral, variable, operation, call
 use Rattle.term_pool.specs.Building.{IsAppliedLeaf}
 use Rattle.term_pool.specs.Reading.{arguments_of, IsLet, IsLetTerm}
 use Rattle.term_pool.specs.Views.{TermsView, RefersTo, ReferToAll, IsTerm}
+use Rattle.term_pool.proofs.Leaves.{let_is}
 use Rattle.rule_model.specs.Replacement.{Replacement, replaced, replaced_all}
 
 -- the same terms
@@ -54,14 +55,6 @@ cell_no_variable s v w r head e few high same application x h =
 
 pub arguments_refer : (s : Table) (v : TermsView) (r head : ℕ) (rs : List ℕ) → ((t : Term) → RefersTo s v r t → IsAppliedLeaf s head (arguments_of t) t) → ((s : Table) (t : Term) → RefersTo s v r t → (IsLet t → ⊥) → ReferToAll s v rs (arguments_of t)) → (t : Term) → RefersTo s v r t → ReferToAll s v rs (arguments_of t)
 arguments_refer s v r head rs application arguments t h = arguments s t h (no_let s head (arguments_of t) t (application t h))
-
--- lets
-pub let_is : (t : Term) → IsLet t → (bs : Bindings) × (u : Term) × (t ≡ let_in bs u)
-let_is (numeral n) h = absurd h
-let_is (variable x) h = absurd h
-let_is (operation op ts) h = absurd h
-let_is (call f ts) h = absurd h
-let_is (let_in bs u) h = (bs, u, refl)
 
 pub let_refers : (s : Table) (v : TermsView) (r : ℕ) (t : Term) → RefersTo s v r t → IsLet t → (bs : Bindings) × (u : Term) × (t ≡ let_in bs u) × RefersTo s v r (let_in bs u)
 let_refers s v r t h is =

@@ -11,7 +11,7 @@ use Rattle.term_model.proofs.Tests.{sort_eq_decides, sorts_eq_decides}
 use Rattle.term_model.proofs.Sorting.{some_value_fits}
 use Rattle.term_model.proofs.Tables.{first_row_here, first_row_later}
 
-fun_eq : Fun → Fun → Bool
+abbrev pub fun_eq : Fun → Fun → Bool
 fun_eq f g = bytes_eq f.name g.name && (sorts_eq f.arguments g.arguments && sort_eq f.target g.target)
 
 same_fun : (f g : Fun) → f.name ≡ g.name → f.arguments ≡ g.arguments → f.target ≡ g.target → f ≡ g
@@ -19,8 +19,7 @@ same_fun f g p q r =
     ap (λ n. record f { name = n }) p
     ∙ (ap (λ ss. record g { arguments = ss; target = f.target }) q ∙ ap (λ s. record g { target = s }) r)
 
-fun_eq_decides : (f g : Fun) → Decides (fun_eq f g) (f ≡ g)
-unfolding fun_eq
+pub fun_eq_decides : (f g : Fun) → Decides (fun_eq f g) (f ≡ g)
 fun_eq_decides f g =
     Decides-like (fun_eq f g) (λ h. same_fun f g h.0 h.1.0 h.1.1)
     (λ e. (ap (λ h. h.name) e, (ap (λ h. h.arguments) e, ap (λ h. h.target) e)))

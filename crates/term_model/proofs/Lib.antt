@@ -10,3 +10,5 @@ pub mod Chains
 pub mod Satisfaction
 pub mod Flips
 pub mod Zips
+pub mod Lists
+pub mod HeightLaws

@@ -3,6 +3,7 @@ use Rattle.std.proofs.Common.{◌≡◌, ◌≢◌, suc, List, [], ◌∷◌, ma
 use Rattle.std.specs.List.{AllByRecursion, list_all, list_any}
 use Rattle.std.proofs.lemmas.List.Elements.{All-from_recursion, recursion_from_All}
 use Rattle.std.proofs.lemmas.List.Kept.{AllPairs-cons}
+use Rattle.std.proofs.lemmas.Bool.{not-true}
 use Rattle.term_model.specs.declared.symbols.Sort.{Sort}
 use Rattle.term_model.specs.declared.symbols.Op.{Op}
 use Rattle.term_model.specs.Terms.{Term, operation, Terms, no_terms, term, list_of, terms_of, not_of}
@@ -158,16 +159,12 @@ equal_none v (w ∷ vs) h =
     ap (λ b. b || list_any (value_eq v) vs) (not_true (value_eq v w) (λ e. h.0 ((value_eq_decides v w).0 e)))
     ∙ equal_none v vs h.1
 
-not_false : (b : Bool) → not b ≡ true → b ≡ false
-not_false true e = absurd cc
-not_false false e = refl
-
 pairs : (vs : List Value) → pairwise_distinct vs ≡ true → AllPairs (λ v w. v ≢ w) vs
 pairs [] e = λ i j d below within. absurd (omega arith)
 pairs (v ∷ vs) e =
     AllPairs-cons (λ v w. v ≢ w) v vs
     (All-from_recursion (λ w. v ≢ w) vs
-    (none_equal v vs (not_false (list_any (value_eq v) vs) (and-left (not (list_any (value_eq v) vs)) (pairwise_distinct vs) e))))
+    (none_equal v vs (not-true (list_any (value_eq v) vs) (and-left (not (list_any (value_eq v) vs)) (pairwise_distinct vs) e))))
     (pairs vs (and-right (not (list_any (value_eq v) vs)) (pairwise_distinct vs) e))
 
 paired : (vs : List Value) → AllPairs (λ v w. v ≢ w) vs → pairwise_distinct vs ≡ true

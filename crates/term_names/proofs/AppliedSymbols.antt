@@ -3,12 +3,13 @@ use Rattle.std.proofs.Common.{◌≡◌, ℕ, ◌+◌, ◌<◌, inl, inr, List, 
 use Rattle.std.specs.List.{list_all}
 use Rattle.std.proofs.lemmas.List.Elements.{All-cons, All-nil}
 use Rattle.std.proofs.lemmas.Option.{slice_get_within}
+use Rattle.std.proofs.lemmas.Bool.{and_parts}
 use Rattle.pair_pool.specs.Trees.{Tree}
 use Rattle.pair_pool.specs.Views.{IsKnown}
 use Rattle.sym_table.specs.Leaf as leaf
 use Rattle.sym_table.specs.Table.{Table, LeafMeets}
 use Rattle.term_model.specs.declared.symbols.Sort.{Sort}
-use Rattle.term_model.specs.Terms.{Term, list_of, terms_of, operation, call}
+use Rattle.term_model.specs.Terms.{Term, operation, call}
 use Rattle.sort_check.specs.Applications.{applied_sort}
 use Rattle.sort_check.proofs.Leaves.{at_leaf}
 use Rattle.term_pool.specs.Building.{IsAppliedLeaf, Builds, LacksRoom}
@@ -17,6 +18,7 @@ use Rattle.term_pool.specs.Trees.{app_tree}
 use Rattle.term_pool.specs.Views.{TermsView, RefersTo, ReferToAll, KnowsAll}
 use Rattle.term_names.specs.Heads.{IsSymbolOf}
 use Rattle.term_model.specs.Heights.{height, highest}
+use Rattle.term_model.proofs.Lists.{list_of-terms_of}
 use Rattle.term_names.specs.Making.{Makes}
 use Rattle.problem_text.specs.Names.{Meaning, value, trees, sorts_of, meaning_applied}
 use Rattle.rule_model.specs.Replacement.{HasNoLet, HaveNoLet}
@@ -26,7 +28,6 @@ use Rattle.term_expansion.specs.Values.{AreValues}
 use Rattle.term_names.specs.declared.faults.ReadFault.{ReadFault}
 use Rattle.term_expansion.specs.declared.values.Value.{Value}
 use Rattle.term_names.proofs.MadeTerms.{made, full, unchanged}
-use Rattle.term_names.proofs.ScopeNames.{both_true}
 use Rattle.term_names.proofs.ValueLists.{references}
 use Rattle.term_expansion.specs.SymbolsAndTerms.{both}
 
@@ -58,7 +59,7 @@ module _ (s : Table) (v : TermsView) where
         stand = (is.refers.stands, rest.stand);
         refer = (is.refers, rest.refer);
         high = let e = is.high in let f = rest.high in omega arith;
-        plain = λ e. let parts = both_true c.plain (list_all (λ c. c.plain) cs) e in (is.plain parts.0, rest.plain parts.1);
+        plain = λ e. let parts = and_parts c.plain (list_all (λ c. c.plain) cs) e in (is.plain parts.0, rest.plain parts.1);
       }
 
   pub values-sorts : (cs : List Value) (ts : List Typed) → AreValues (both s v) cs ts → map (λ c. c.sort) cs ≡ sorts_of ts
@@ -66,10 +67,6 @@ module _ (s : Table) (v : TermsView) where
 
   pub values-known : (cs : List Value) (ts : List Typed) → AreValues (both s v) cs ts → All (IsKnown v.pass) (references cs)
   values-known cs ts h = (values-trees cs ts h).each
-
-list-terms : (ts : List Term) → list_of (terms_of ts) ≡ ts
-list-terms [] = refl
-list-terms (t ∷ ts) = ap (λ us. t ∷ us) (list-terms ts)
 
 -- the term is that of the symbol applied to the others
 pub record IsTermOf (s : Table) (k : ℕ) (ts : List Typed) (t : Term) : Type 0 where
@@ -90,7 +87,7 @@ symbol-applied s k m ts sort (inl (f, here, e)) h =
       refl,
       record {
         expected = ap (λ o. option_map (λ z. record { tree = call f (trees ts); sort = z }) o) (sym given);
-        is = record { application = (here, list-terms (map (λ u. u.tree) ts)); high = refl; plain = λ p. p };
+        is = record { application = (here, list_of-terms_of (map (λ u. u.tree) ts)); high = refl; plain = λ p. p };
       },
     )
 symbol-applied s k m ts sort (inr (op, here, e)) h =
@@ -100,7 +97,7 @@ symbol-applied s k m ts sort (inr (op, here, e)) h =
       refl,
       record {
         expected = ap (λ o. option_map (λ z. record { tree = operation op (trees ts); sort = z }) o) (sym given);
-        is = record { application = (here, list-terms (map (λ u. u.tree) ts)); high = refl; plain = λ p. p };
+        is = record { application = (here, list_of-terms_of (map (λ u. u.tree) ts)); high = refl; plain = λ p. p };
       },
     )
 

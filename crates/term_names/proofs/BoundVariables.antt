@@ -8,9 +8,11 @@ use Rattle.std.proofs.lemmas.List.{get_or_default}
 use Rattle.indexmap.proofs.SetLemmas.{AllZip-push}
 use Rattle.sym_table.specs.Table.{Table, IsLeaf}
 use Rattle.term_model.proofs.Tests.{sort_eq_decides, var_eq_decides}
+use Rattle.term_model.proofs.Lists.{all_at_end}
 use Rattle.term_model.specs.Terms.{Var, Term, sort_eq, var_eq}
 use Rattle.term_pool.specs.StandsFor.{variable_leaf}
 use Rattle.term_pool.specs.Views.{TermsView}
+use Rattle.term_pool.proofs.Leaves.{one_variable}
 use Rattle.term_names.specs.BoundLeaves.{IsBoundLeaf, AreBoundLeaves, PutsInBound}
 use Rattle.term_expansion.specs.Free.{AreFreeLeaves}
 use Rattle.term_names.specs.InScope.{IsScope}
@@ -19,11 +21,9 @@ use Rattle.rule_model.specs.Replacement.{Replacement, replaced_by}
 use Rattle.term_names.specs.Scope.{Scoped}
 use Rattle.term_expansion.specs.Values.{PutsIn, IsReplacement}
 use Rattle.term_expansion.specs.declared.values.Bound as held
-use Rattle.problem_text.proofs.Outcomes.{all_at_end}
 use Rattle.term_names.proofs.ScopeNames.{AreFound, found_in_scope, passes_each}
 use Rattle.term_expansion.proofs.Images.{var_same}
 use Rattle.term_expansion.specs.SymbolsAndTerms.{both}
-use Rattle.term_expansion.proofs.LeafLemmas.{one_variable}
 
 -- a variable that is bound stands for what the innermost variable of its name stands for
 innermost_stands : (bs : List Bound) (x : Var) (b : Bound) → innermost bs x.name ≡ Some b → b.variable ≡ x → replaced_by (replacement bs) x ≡ b.stands_for

@@ -6,10 +6,13 @@ use Rattle.std.proofs.lemmas.List.Elements.{Contains-append_right, Contains-appe
 use Rattle.sym_table.specs.Table.{Table, IsLeaf, IsTable}
 use Rattle.term_model.specs.FreeVariables.{IsFree, IsFreeAmong, IsFreeBound, Binds, variables_of, bound_terms}
 use Rattle.term_model.specs.Terms.{Var, Term, numeral, variable, operation, call, let_in, Terms, no_terms, term, list_of, Bindings, no_bindings, binding}
+use Rattle.term_model.proofs.Lists.{contains_none}
+use Rattle.term_model.proofs.Basics.{same_some}
 use Rattle.term_pool.specs.Building.{IsAppliedLeaf, AreBindings}
 use Rattle.term_pool.specs.Reading.{arguments_of, IsLet, IsLetTerm}
 use Rattle.term_pool.specs.StandsFor.{variable_leaf}
 use Rattle.term_pool.specs.Views.{TermsView, RefersTo, ReferToAll}
+use Rattle.term_pool.proofs.Leaves.{one_variable, one_leaf}
 use Rattle.term_expansion.specs.Free.{HasVariable, IsLeafOfSome, AreFreeLeaves, AddsLeaves, AddsOne, AddsUnbound}
 use Rattle.term_expansion.specs.Heights.{IsAtMost}
 use Rattle.term_names.specs.FreeParts.{IsFreeInAny, ArePartsOfLet, CoversFree, Bodies, AreBodies}
@@ -22,8 +25,7 @@ use Rattle.term_names.specs.declared.names.KnownEntry.{KnownEntry}
 use Rattle.term_names.specs.declared.names.Which.{Which}
 use Rattle.term_expansion.proofs.Images.{drop-at}
 use Rattle.rule_model.proofs.Freedom.{free_variables-are}
-use Rattle.term_expansion.proofs.SetLemmas.{none_in}
-use Rattle.term_expansion.proofs.LeafLemmas.{added-leaves, adds-both, adds-same, has_more, is_variable, one-adds, one-more, one_leaf, one_variable, same_some, swapped}
+use Rattle.term_expansion.proofs.LeafLemmas.{added-leaves, adds-both, adds-same, has_more, is_variable, one-adds, one-more, swapped}
 use Rattle.term_expansion.proofs.Heights.{is_term}
 use Rattle.term_expansion.proofs.NeedLemmas.{contains-here}
 use Rattle.term_expansion.proofs.TermParts.{is_let_term}
@@ -131,7 +133,7 @@ bound_leaf s (k ∷ ks) (binding y t bs) x h (inr later) =
     let r = bound_leaf s ks bs x h.1 later in (r.0, r.1, Contains-append_right (k ∷ []) ks r.0 r.2)
 
 leaf_bound : (s : Table) (ks : List ℕ) (bs : Bindings) (x : Var) (k : ℕ) → AreLeavesOf s ks (variables_of bs) → IsLeaf s k (variable_leaf x) → Contains ks k → Binds bs x
-leaf_bound s [] bs x k h leaf c = absurd (none_in k c)
+leaf_bound s [] bs x k h leaf c = absurd (contains_none k c)
 leaf_bound s (j ∷ ks) no_bindings x k h leaf c = absurd h
 leaf_bound s (j ∷ ks) (binding y t bs) x k h leaf c =
     elim (Contains-append_cases (j ∷ []) ks k c) [ inl first ↦ inl (one_variable s k y x (subst (λ i. IsLeaf s i (variable_leaf y)) (only first) h.0) leaf) | inr later ↦ inr (leaf_bound s ks bs x k h.1 leaf later) ]
@@ -155,7 +157,7 @@ unbound-adds s table ks leaves a b bs u are free adds = record { kept = adds.kep
 
     new : (k : ℕ) → Contains leaves k → ¬ Contains ks k → IsLeafOfSome s k (λ x. (¬ Binds bs x) × IsFree x u)
     new k c never =
-        elim (free.only k c) [ inl none ↦ absurd (none_in k none) | inr is ↦ (is.0, is.1, (apart k never is.0 is.1, is.2)) ]
+        elim (free.only k c) [ inl none ↦ absurd (contains_none k none) | inr is ↦ (is.0, is.1, (apart k never is.0 is.1, is.2)) ]
 
     only : (k : ℕ) → Contains b k → Contains a k ⊎ IsLeafOfSome s k (λ x. (¬ Binds bs x) × IsFree x u)
     only k c = elim (adds.only k c) [ inl old ↦ inl old | inr is ↦ inr (new k is.0 is.1) ]
@@ -171,12 +173,12 @@ leaves-free s leaves t h = record { each = each; all = λ x c. h.all x ((free_va
   where
     each : (k : ℕ) → Contains leaves k → (x : Var) × IsLeaf s k (variable_leaf x) × Contains (free_variables t) x
     each k c =
-        elim (h.only k c) [ inl none ↦ absurd (none_in k none) | inr is ↦ (is.0, is.1, (free_variables-are is.0 t).1 is.2) ]
+        elim (h.only k c) [ inl none ↦ absurd (contains_none k none) | inr is ↦ (is.0, is.1, (free_variables-are is.0 t).1 is.2) ]
 
 -- leaves of free variables are those of the variables that stand free
 pub free-leaves : (s : Table) (leaves : List ℕ) (t : Term) → AreFreeLeaves s leaves (free_variables t) → AddsLeaves s [] leaves (λ x. IsFree x t)
 free-leaves s leaves t h = record {
-  kept = λ k c. absurd (none_in k c);
+  kept = λ k c. absurd (contains_none k c);
   all = λ x free. h.all x ((free_variables-are x t).1 free);
   only = λ k c. let is = h.each k c in inr (is.0, is.1, (free_variables-are is.0 t).0 is.2);
 }

@@ -8,12 +8,10 @@ use Rattle.std.proofs.lemmas.Option.{slice_get-get_or, slice_get_read, get_or_fr
 use Rattle.std.proofs.lemmas.Slice.Eq.{bytes_eq-Decides}
 use Rattle.term_names.specs.declared.names.Held.{Held}
 use Rattle.name_set.specs.Names.{StandOnce}
+use Rattle.sym_table.proofs.Lists.{slice_get-kept}
 use Rattle.term_names.specs.Scope.{Scoped, bound_of}
 use Rattle.term_names.specs.Held.{scoped_held, scoped, innermost_held, AreHeld, IsHeldLinked}
 use Rattle.term_names.specs.NameNumbers.{IsNumbered}
-
-true-false : ◌≡◌ {A = Bool} true false → ⊥
-true-false e = cc
 
 -- whether the variable's name has the number
 abbrev pub has_number : ℕ → Held → Bool
@@ -31,11 +29,6 @@ innermost-within k (h ∷ held) = go (eqb h.name k) (innermost-within k held)
     go : (b : Bool) → innermost_held k held ≤ length held → cond b (length held + 1) (innermost_held k held) ≤ suc (length held)
     go true e = omega arith
     go false e = omega arith
-
-slice_get-kept : {X : Type 0} (xs ys : List X) (k : ℕ) → k < length xs → slice_get (xs ++ ys) k ≡ slice_get xs k
-slice_get-kept [] ys k h = absurd (omega arith)
-slice_get-kept (x ∷ xs) ys zero h = refl
-slice_get-kept (x ∷ xs) ys (suc k) h = slice_get-kept xs ys k (omega arith)
 
 pub slice_get-last : {X : Type 0} (xs : List X) (x : X) (k : ℕ) → length xs ≡ k → slice_get (xs ++ x ∷ []) k ≡ Some x
 slice_get-last xs x k e =
@@ -59,12 +52,6 @@ find-innermost k (h ∷ held) =
 own_place : (names : List (List ℕ)) (k : ℕ) (name : List ℕ) → StandOnce names → k < length names → bytes_eq (get_or names k []) name ≡ true → position (bytes_eq name) names ≡ Some k
 own_place names k name apart l e =
     apart k name (slice_get-get_or names k [] l ∙ ap Some ((bytes_eq-Decides (get_or names k []) name).0 e))
-
--- the item at the place of a name is the name
-pub at_place : (names : List (List ℕ)) (k : ℕ) (name : List ℕ) → position (bytes_eq name) names ≡ Some k → slice_get names k ≡ Some name
-at_place names k name e =
-    let at = position-Some (bytes_eq name) names k [] e in
-    slice_get-get_or names k [] at.0 ∙ ap Some (sym ((bytes_eq-Decides name (get_or names k [])).0 at.1))
 
 -- a name is that of number k where its own number is k
 same_test : (names : List (List ℕ)) (k j : ℕ) (name : List ℕ) → StandOnce names → position (bytes_eq name) names ≡ Some k → j < length names → bytes_eq (get_or names j []) name ≡ eqb j k

@@ -7,7 +7,8 @@ use Rattle.sym_table.specs.Table.{Table}
 use Rattle.term_pool.specs.Building.{PlacesOnlyIn, IsCellIn, IsFullIn}
 use Rattle.term_pool.specs.Views.{TermsView}
 use Rattle.term_pool.specs.StandsFor.{StandsFor}
-use Rattle.term_names.specs.Making.{IsWantedCell, PlacesCellsOf, IsExpected, IsMade, Makes}
+use Rattle.term_pool.specs.Placing.{IsWantedCell, PlacesCellsOf}
+use Rattle.term_names.specs.Making.{IsExpected, IsMade, Makes}
 use Rattle.problem_text.specs.TypedTerms.{Typed}
 use Rattle.term_expansion.specs.Values.{IsValue}
 use Rattle.term_names.specs.declared.faults.ReadFault.{ReadFault}

@@ -6,8 +6,8 @@ use Rattle.std.proofs.lemmas.Bool.Decides.{eqb_tells}
 use Rattle.std.proofs.lemmas.List.{length_push, get_or_at, get_or_append_left, get_or-set_same, get_or-set_other}
 use Rattle.std.proofs.lemmas.List.Quantifiers.{position-Some}
 use Rattle.std.proofs.lemmas.Option.{get_or_from_slice_get}
+use Rattle.sym_table.proofs.Places.{position-there}
 use Rattle.term_names.specs.NameTable.{mark_of, AreMarked}
-use Rattle.term_names.proofs.HeldVariables.{at_place}
 
 -- a name whose mark is not set has no number
 pub unmarked_nowhere : (names : List (List ℕ)) (marks : List Bool) (name : List ℕ) → AreMarked names marks → get_or marks (mark_of name) false ≡ false → position (bytes_eq name) names ≡ None
@@ -17,7 +17,7 @@ unmarked_nowhere names marks name marked none = go (position (bytes_eq name) nam
     go None e = refl
     go (Some k) e =
         let within = (position-Some (bytes_eq name) names k [] e).0 in
-        let same : get_or names k [] ≡ name = get_or_from_slice_get names k name [] (at_place names k name e) in
+        let same : get_or names k [] ≡ name = get_or_from_slice_get names k name [] (position-there names name k e) in
         let set : get_or marks (mark_of name) false ≡ true = sym (ap (λ n. get_or marks (mark_of n) false) same) ∙ marked k within in
         absurd cc
 

@@ -6,12 +6,12 @@ use Rattle.std.proofs.lemmas.List.Quantifiers.{position-Some}
 use Rattle.std.proofs.lemmas.Option.{slice_get-get_or, same_Some}
 use Rattle.std.proofs.lemmas.Slice.Eq.{bytes_eq-Decides}
 use Rattle.name_set.specs.Names.{StandOnce}
+use Rattle.sym_table.proofs.Places.{position-there}
 use Rattle.term_names.specs.declared.entries.Entry.{Entry}
 use Rattle.term_names.specs.declared.entries.Entry.TheVariants.{Function, Reserved, Macro, Named}
 use Rattle.term_names.specs.Entries.{EntriesView, lookup, Puts, IsThere}
 use Rattle.term_names.specs.EntryTables.{AreThere, AreTableNumbers, number_given}
 use Rattle.term_names.specs.NameTable.{entries_in}
-use Rattle.term_names.proofs.HeldVariables.{at_place}
 use Rattle.term_names.proofs.Positions.{next_place, position_cons}
 
 -- a new name that means nothing yet has no entry
@@ -46,7 +46,7 @@ first_alone n names name once e = go (position (bytes_eq name) names) refl
     go : (o : Option ℕ) → position (bytes_eq name) names ≡ o → o ≡ None
     go None f = refl
     go (Some j) f =
-        let later : position (bytes_eq name) (n ∷ names) ≡ Some (suc j) = once (suc j) name (at_place names j name f) in
+        let later : position (bytes_eq name) (n ∷ names) ≡ Some (suc j) = once (suc j) name (position-there names name j f) in
         let here = first in
         cc
 
@@ -118,7 +118,7 @@ module _ (names : List (List ℕ)) (es : List (Option Entry)) (name : List ℕ) 
         where
           apart : j ≢ k
           apart g =
-              let same : other ≡ name = same_Some _ _ (sym (at_place names j other f) ∙ ap (slice_get names) g ∙ at_place names k name here) in
+              let same : other ≡ name = same_Some _ _ (sym (position-there names other j f) ∙ ap (slice_get names) g ∙ position-there names name k here) in
               let equal = (bytes_eq-Decides other name).1 same in
               absurd cc
 

@@ -10,9 +10,9 @@ use Rattle.term_pool.specs.Views.{TermsView}
 use Rattle.term_names.specs.BoundLeaves.{PutsInBound}
 use Rattle.term_expansion.specs.Free.{AreFreeLeaves}
 use Rattle.term_expansion.specs.Images.{IsSomeReplacement}
-use Rattle.term_pool.specs.Placing.{PlacesTerm, LacksRoomFor}
+use Rattle.term_pool.specs.Placing.{PlacesTerm, LacksRoomFor, PlacesCellsOf}
 use Rattle.term_names.specs.LookingUp.{term_used, IsNamedMeant}
-use Rattle.term_names.specs.Making.{IsMade, Makes, PlacesCellsOf, IsExpected}
+use Rattle.term_names.specs.Making.{IsMade, Makes, IsExpected}
 use Rattle.problem_text.specs.Names.{Place, Meaning, value, is_bound, replacement, meaning_applied}
 use Rattle.rule_model.specs.Replacement.{Replacement, replaced, free_variables}
 use Rattle.problem_text.specs.TypedTerms.{Typed}

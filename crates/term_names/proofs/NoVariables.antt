@@ -5,10 +5,10 @@ use Rattle.sym_table.specs.Table.{Table, IsLeaf}
 use Rattle.pair_pool.specs.Trees.{Tree, leaf, cell}
 use Rattle.term_model.specs.FreeVariables.{IsFree, IsFreeAmong, IsFreeBound}
 use Rattle.term_model.specs.Terms.{Var, Term, numeral, variable, operation, call, let_in, Terms, no_terms, term, Bindings, no_bindings, binding}
+use Rattle.term_model.proofs.Lists.{contains_none}
 use Rattle.term_pool.specs.StandsFor.{StandsFor, StandsForApplication, StandsForList, StandsForBindings, variable_leaf, function_leaf}
 use Rattle.term_pool.specs.Views.{TermsView, RefersTo}
 use Rattle.term_expansion.specs.Free.{AddsLeaves}
-use Rattle.term_expansion.proofs.SetLemmas.{none_in}
 
 -- no leaf is that of a variable
 abbrev pub HasNoVariables : Table → Type 0
@@ -52,5 +52,5 @@ pub none-free : (s : Table) (v : TermsView) (r : ℕ) → HasNoVariables s → (
 none-free s v r none t h = record {
   kept = λ k c. c;
   all = λ x free. absurd (closed s none t h.tree h.stands x free);
-  only = λ k c. absurd (none_in k c);
+  only = λ k c. absurd (contains_none k c);
 }

@@ -3,6 +3,7 @@ use Rattle.std.proofs.Common.{◌≡◌, ℕ, Bool, true, false, cond, ◌||◌,
 use Rattle.std.specs.Prelude.{bytes_eq}
 use Rattle.std.proofs.lemmas.List.Folds.{list_any-append}
 use Rattle.std.proofs.lemmas.Slice.Eq.{bytes_eq-Decides}
+use Rattle.std.proofs.lemmas.Bool.{or_right}
 use Rattle.sym_table.specs.Table.{Table}
 use Rattle.sym_table.specs.Words.{operator_symbol, built_in_words}
 use Rattle.term_model.specs.declared.symbols.Op.{Op}
@@ -14,10 +15,6 @@ use Rattle.problem_text.specs.Words.{is_among, is_built_in, operators, operator_
 use Rattle.term_names.specs.declared.names.KnownEntry.{KnownEntry}
 use Rattle.term_expansion.specs.SymbolsAndTerms.{both}
 
-or_true : (a b : Bool) → b ≡ true → (a || b) ≡ true
-or_true true b h = refl
-or_true false b h = h
-
 -- a name by which an operator is found is the symbol of one
 symbol_among : (ops : List Op) (name : List ℕ) (op : Op) → find (λ o. bytes_eq (operator_symbol o) name) ops ≡ Some op → is_among (map operator_symbol ops) name ≡ true
 symbol_among [] name op e = cc
@@ -27,7 +24,7 @@ symbol_among (o ∷ ops) name op e = go (bytes_eq (operator_symbol o) name) refl
         → (find (λ p. bytes_eq (operator_symbol p) name) ops ≡ Some op → is_among (map operator_symbol ops) name ≡ true)
         → (bytes_eq name (operator_symbol o) || is_among (map operator_symbol ops) name) ≡ true
     go true same f later = ap (λ b. b || is_among (map operator_symbol ops) name) ((bytes_eq-Decides name (operator_symbol o)).1 (sym ((bytes_eq-Decides (operator_symbol o) name).0 same)))
-    go false differs f later = or_true (bytes_eq name (operator_symbol o)) (is_among (map operator_symbol ops) name) (later f)
+    go false differs f later = or_right (bytes_eq name (operator_symbol o)) (is_among (map operator_symbol ops) name) (later f)
 
 -- the built-in words begin with the symbols of the operators
 operator_is_built_in : (name : List ℕ) (op : Op) → operator_named name ≡ Some op → is_built_in name ≡ true

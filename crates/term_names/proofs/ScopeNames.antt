@@ -6,11 +6,13 @@ use Rattle.std.specs.Option.{option_map_or}
 use Rattle.std.proofs.lemmas.Bool.Decides.{eqb_tells}
 use Rattle.std.proofs.lemmas.List.{get_or_default}
 use Rattle.std.proofs.lemmas.Slice.Eq.{bytes_eq-Decides}
+use Rattle.std.proofs.lemmas.Bool.{and_parts}
 use Rattle.sym_table.specs.Table.{Table, IsTable, IsLeaf}
 use Rattle.term_model.proofs.Tests.{sort_eq_decides}
 use Rattle.term_model.specs.Terms.{Var, sort_eq}
 use Rattle.term_pool.specs.StandsFor.{variable_leaf}
 use Rattle.term_pool.specs.Views.{TermsView}
+use Rattle.term_pool.proofs.Leaves.{one_variable, one_leaf}
 use Rattle.term_expansion.specs.Free.{AreFreeLeaves}
 use Rattle.term_names.specs.InScope.{IsScope}
 use Rattle.problem_text.specs.Names.{Bound, innermost, is_bound}
@@ -19,7 +21,6 @@ use Rattle.term_expansion.specs.Values.{PutsIn}
 use Rattle.term_expansion.specs.declared.values.Bound as held
 use Rattle.term_expansion.specs.SymbolsAndTerms.{both}
 use Rattle.term_expansion.proofs.Images.{var_same}
-use Rattle.term_expansion.proofs.LeafLemmas.{one_leaf, one_variable}
 
 -- what is found in the code is what is found by the definition
 abbrev pub AreFound : Table → TermsView → List ℕ → Option Scoped → Option Bound → Type 0
@@ -78,15 +79,10 @@ passes_all P (x ∷ xs) h =
     both : (a b : Bool) → a ≡ true → b ≡ true → (a && b) ≡ true
     both a b e f = rw (e, f)
 
-pub both_true : (a b : Bool) → (a && b) ≡ true → (a ≡ true) × (b ≡ true)
-both_true true true e = (refl, refl)
-both_true true false e = absurd cc
-both_true false b e = absurd cc
-
 pub passes_each : (P : Var → Bool) (xs : List Var) → list_all P xs ≡ true → (x : Var) → Contains xs x → P x ≡ true
 passes_each P [] e x (k, below, same) = absurd (omega arith)
-passes_each P (y ∷ ys) e x (zero, below, same) = ap P (sym same) ∙ (both_true (P y) (list_all P ys) e).0
-passes_each P (y ∷ ys) e x (suc k, below, same) = passes_each P ys (both_true (P y) (list_all P ys) e).1 x (k, omega arith, same)
+passes_each P (y ∷ ys) e x (zero, below, same) = ap P (sym same) ∙ (and_parts (P y) (list_all P ys) e).0
+passes_each P (y ∷ ys) e x (suc k, below, same) = passes_each P ys (and_parts (P y) (list_all P ys) e).1 x (k, omega arith, same)
 
 -- the leaves of free variables
 pub all_are_bound : (s : Table) (bs : List Bound) (leaves : List ℕ) (xs : List Var) → AreFreeLeaves s leaves xs → ((x : Var) (k : ℕ) → k < length leaves → IsLeaf s (get_or leaves k 0) (variable_leaf x) → is_bound bs x ≡ true) → list_all (is_bound bs) xs ≡ true

@@ -1,37 +1,13 @@
 -- Public. What a call that makes a term answers and places.
-use Rattle.std.specs.Prelude.{◌≡◌, ℕ, Option, Some, None, Result, Ok, Err, ◌⊎◌}
-use Rattle.pair_pool.specs.Trees.{Tree}
-use Rattle.pair_pool.specs.Views.{PassView, IsPlaced}
-use Rattle.sym_table.specs.Table.{Table}
+use Rattle.std.specs.Prelude.{◌≡◌, Option, Some, None, Result, Ok, Err}
 use Rattle.term_model.specs.Terms.{Term}
-use Rattle.term_pool.specs.Building.{IsCellIn, IsFullIn}
-use Rattle.term_pool.specs.StandsFor.{StandsFor}
 use Rattle.term_pool.specs.Views.{TermsView}
+use Rattle.term_pool.specs.Placing.{PlacesCellsOf, LacksCellOf}
 use Rattle.problem_text.specs.TypedTerms.{Typed}
 use Rattle.term_expansion.specs.Values.{IsValue}
 use Rattle.term_names.specs.declared.faults.ReadFault.{ReadFault}
 use Rattle.term_expansion.specs.declared.values.Value.{Value}
 use Rattle.term_expansion.specs.SymbolsAndTerms.{SymbolsAndTerms}
-
--- the references a and b are the parts of a cell of a term that is wanted
-pub record IsWantedCell (s : Table) (pass : PassView) (IsWanted : Term → Type 0) (a b : ℕ) : Type 0 where
-  pub whole : Term
-  pub wanted : IsWanted whole
-  pub tree : Tree
-  pub stands : StandsFor s tree whole
-  pub cell : IsCellIn pass a b tree
-
--- what the new pass placed and the old one had not, are cells of terms that are wanted
-abbrev pub PlacesCellsOf : Table → PassView → PassView → (Term → Type 0) → Type 0
-PlacesCellsOf s old new IsWanted = (r a b : ℕ) → IsPlaced new r a b → IsPlaced old r a b ⊎ IsWantedCell s new IsWanted a b
-
--- the pass has seen all places occupied by other cells than one of a term that is wanted
-pub record LacksCellOf (s : Table) (pass : PassView) (IsWanted : Term → Type 0) : Type 0 where
-  pub whole : Term
-  pub wanted : IsWanted whole
-  pub tree : Tree
-  pub stands : StandsFor s tree whole
-  pub full : IsFullIn pass tree
 
 -- the term is the one that is expected
 abbrev pub IsExpected : Option Typed → Term → Type 0

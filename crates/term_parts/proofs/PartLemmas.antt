@@ -1,12 +1,12 @@
--- What a term is an application of, and its arguments.
-use Rattle.std.proofs.Common.{◌≡◌, ◌≢◌, ◌↔◌, ◌<◌, ◌∷◌, ℕ, zero, suc, length, Bool, true, false, refl, sym, ◌∙◌, ap, subst, arith, IsTrue, nat_eq, Option, Some, None}
+-- Cited by crates above. What a term is an application of, and its arguments.
+use Rattle.std.proofs.Common.{◌≡◌, ◌≢◌, ◌↔◌, ◌<◌, ℕ, length, false, refl, sym, ◌∙◌, ap, subst, arith, IsTrue, nat_eq, Some}
 use Rattle.std.specs.List.{slice_get}
 use Rattle.std.proofs.lemmas.Bool.{eqb-true, eq-eqb}
 use Rattle.sym_table.specs.Leaf.{operator}
 use Rattle.sym_table.specs.Table.{Table, IsTable, IsLeaf}
 use Rattle.term_model.specs.declared.symbols.Op.{Op}
 use Rattle.term_model.specs.Flips.{equality}
-use Rattle.term_model.specs.Terms.{Term, Terms, numeral, variable, operation, call, let_in, term, no_terms, list_of, not_of}
+use Rattle.term_model.specs.Terms.{Term, numeral, variable, operation, call, let_in, term, no_terms, not_of}
 use Rattle.term_pool.specs.Building.{IsAppliedLeaf}
 use Rattle.term_pool.specs.Reading.{arguments_of, IsLet, HasArgument}
 use Rattle.term_pool.specs.Views.{TermsView, RefersTo, IsTerm}

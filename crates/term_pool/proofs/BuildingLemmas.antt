@@ -1,4 +1,4 @@
--- Building a tree from parts, cell by cell.
+-- Cited by crates above. Building a tree from parts, cell by cell.
 use Rattle.std.proofs.Common.{Result, Ok, Err, IfOk, OnErr, ◌≡◌, ℕ, ◌⊎◌, inl, inr, refl, List, [], ◌∷◌, drop, zero, suc, ◌<◌, ◌≤◌, ◌-◌, length, get_or, arith, drop-cons}
 use Rattle.std.specs.List.{All}
 use Rattle.std.proofs.lemmas.List.Elements.{All-head, All-tail}

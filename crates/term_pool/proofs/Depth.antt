@@ -1,4 +1,4 @@
--- A known tree is no deeper than there are references: on a way down no cell comes twice.
+-- Cited by crates above. A known tree is no deeper than there are references: on a way down no cell comes twice.
 use Rattle.std.proofs.Common.{◌≡◌, ℕ, suc, ◌+◌, ◌^◌, ◌<◌, ◌≤◌, ◌⊎◌, inl, inr, max, refl, ◌∙◌, ap, arith, List, [], ◌∷◌, length, Bool, true, false, eqb}
 use Rattle.std.specs.List.{IsDistinct, AllByRecursion, list_any}
 use Rattle.std.proofs.lemmas.Map.Steps.{length-le_from_distinct_below}

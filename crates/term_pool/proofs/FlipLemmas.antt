@@ -1,9 +1,11 @@
--- Terms that are equal up to flips, and their trees.
-use Rattle.std.proofs.Common.{◌≡◌, ◌≢◌, ◌↔◌, ℕ, ◌⊎◌, inl, inr, refl, sym, ◌∙◌, ap, subst, Bool, true, false, ◌&&◌, ◌||◌, if◌then◌else◌, nat_eq, IsTrue, Some}
+-- Cited by crates above. Terms that are equal up to flips, and their trees.
+use Rattle.std.proofs.Common.{◌≡◌, ◌≢◌, ◌↔◌, ℕ, ◌⊎◌, inl, inr, refl, sym, ◌∙◌, ap, subst, Bool, true, false, ◌&&◌, ◌||◌, if◌then◌else◌, nat_eq, IsTrue}
+use Rattle.std.proofs.lemmas.Bool.{or_right}
 use Rattle.pair_pool.specs.Trees.{Tree, leaf, cell}
 use Rattle.pair_pool.specs.Views.{Knows}
 use Rattle.sym_table.specs.Leaf.{Leaf, operator, let_head}
 use Rattle.sym_table.specs.Table.{Table, IsLeaf, IsTable}
+use Rattle.sym_table.proofs.Tables.{one_symbol}
 use Rattle.term_model.specs.declared.symbols.Op.{Op}
 use Rattle.term_model.specs.Terms.{Fun, Term, Terms, numeral, variable, operation, call, let_in, no_terms, term}
 use Rattle.term_pool.specs.StandsFor.{nil_tree, function_leaf, StandsFor, StandsForApplication, StandsForList}
@@ -15,10 +17,6 @@ use Rattle.term_pool.proofs.OneTree.{one_tree}
 use Rattle.term_pool.proofs.OneTerm.{one_term}
 use Rattle.term_pool.proofs.HeightLemmas.{other_head}
 use Rattle.term_pool.proofs.PairLemmas.{tree_refl, tree_same, terms_refl}
-
--- one leaf stands for one symbol, and one symbol for one leaf
-one_symbol : (s : Table) (k : ℕ) (l m : Leaf) → IsLeaf s k l → IsLeaf s k m → l ≡ m
-one_symbol s k l m h e = let f : Some l ≡ Some m = sym h ∙ e in cc
 
 -- a term that the tree stands for, and that is equal to t up to flips
 record IsFound (s : Table) (b : Tree) (t : Term) : Type 0 where
@@ -189,10 +187,6 @@ leaf_alone : (s : Table) → IsTable s → (l : Leaf) (j k : ℕ) → IsLeaf s j
 leaf_alone s table l j k p q =
     let e : j ≡ k = table.apart j k l l p q refl refl in rw e (tree_refl (leaf k))
 
-or_true : (b c : Bool) → c ≡ true → (b || c) ≡ true
-or_true true c e = refl
-or_true false c e = e
-
 applications_same : (s : Table) → IsTable s → (equal : ℕ) → (l : Leaf) → l ≢ let_head → (ts us : Terms) → AllEqualUpToFlips ts us → ((a b : Tree) → StandsForList s a ts → StandsForList s b us → same_lists equal a b ≡ true) → (a b : Tree) → StandsForApplication s a l ts → StandsForApplication s b l us → same_terms equal a b ≡ true
 applications_same s table equal l apart _ _ none lists (leaf j) (leaf k) p q = leaf_alone s table l j k p q
 applications_same s table equal l apart _ _ none lists (leaf j) (cell c d) p q = absurd q
@@ -232,7 +226,7 @@ mutual
       let nil : same_tree end nil_tree ≡ true = rw p.1.1.1 refl in
       let nil2 : same_tree rest nil_tree ≡ true = rw q.1.1.1 refl in
       rw (heads, no_let, equals, nil, nil2, outer, inner)
-      (or_true (same_lists equal (cell a (cell b end)) (cell c (cell d rest))) true refl)
+      (or_right (same_lists equal (cell a (cell b end)) (cell c (cell d rest))) true refl)
 
   lists_same : (s : Table) → IsTable s → (equal : ℕ) → IsLeaf s equal (operator Op.Equal) → (ts us : Terms) → AllEqualUpToFlips ts us → (a b : Tree) → StandsForList s a ts → StandsForList s b us → same_lists equal a b ≡ true
   lists_same s table equal h _ _ none a b p q = rw (p, q) refl

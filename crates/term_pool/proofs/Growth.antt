@@ -1,4 +1,4 @@
--- A tree that stands for a term by a table does so by a table that keeps its leaves.
+-- Cited by crates above. A tree that stands for a term by a table does so by a table that keeps its leaves.
 use Rattle.std.proofs.Common.{pos}
 use Rattle.pair_pool.specs.Trees.{Tree, leaf, cell}
 use Rattle.sym_table.specs.Leaf.{Leaf, operator}

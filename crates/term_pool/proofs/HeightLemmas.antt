@@ -1,4 +1,4 @@
--- Heights of trees that stand for terms.
+-- Cited by crates above. Heights of trees that stand for terms.
 use Rattle.std.proofs.Common.{◌≡◌, ◌≢◌, ℕ, zero, suc, slice_get, ◌<◌, ◌≤◌, ◌^◌, refl, ◌∙◌, ap, arith, Some, false, nat_eq}
 use Rattle.std.proofs.lemmas.Bool.Decides.{nat_tests}
 use Rattle.pair_pool.specs.Trees.{Tree, leaf, cell}
@@ -105,7 +105,3 @@ value_less (variable y) u x i e = absurd (cc)
 value_less (operation op ts) u x i e = absurd (cc)
 value_less (call f ts) u x i e = absurd (cc)
 value_less (let_in bs t) u x i e = let h = value_high bs i x u e in omega arith
-
-pub body_less : (bs : Bindings) (u : Term) → height u < height (let_in bs u)
-unfolding height
-body_less bs u = omega arith

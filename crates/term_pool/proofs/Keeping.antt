@@ -1,8 +1,8 @@
 -- Cited by crates above. What a pass keeps as it comes to know more, parts of trees, and cells that are placed.
 use Rattle.std.proofs.Common.{◌≡◌, ℕ, ◌⊎◌, inl, inr, refl, ◌∙◌, subst}
 use Rattle.pair_pool.specs.Trees.{Tree, leaf, cell}
-use Rattle.pair_pool.specs.Views.{PassView, IsPlaced}
-use Rattle.term_pool.specs.Building.{IsCellIn, PlacesOnlyIn}
+use Rattle.pair_pool.specs.Views.{PassView, IsPlaced, IsUnchanged}
+use Rattle.term_pool.specs.Building.{IsCellIn, PlacesOnlyIn, IsFullIn}
 use Rattle.term_pool.specs.Trees.{IsPartOf}
 use Rattle.term_pool.specs.Views.{TermsView, KeepsPass, KeepsTerms}
 
@@ -52,3 +52,32 @@ placed-trans p q r t k h j n a b e = elim (j n a b e) [ inl x ↦ go (h n a b x)
     go : IsPlaced p n a b ⊎ IsCellIn q a b t → IsPlaced p n a b ⊎ IsCellIn r a b t
     go (inl x) = inl x
     go (inr y) = inr (in_later q r k a b t y)
+
+-- a cell of a part is a cell of the whole
+pub in_larger : (p : PassView) (a b : ℕ) (s t : Tree) → IsPartOf s t → IsCellIn p a b s → IsCellIn p a b t
+in_larger p a b s t part h = record {
+  first = h.first;
+  second = h.second;
+  first_known = h.first_known;
+  second_known = h.second_known;
+  part = part-trans (cell h.first h.second) s t h.part part;
+}
+
+pub placed-larger : (p q : PassView) (s t : Tree) → IsPartOf s t → PlacesOnlyIn p q s → PlacesOnlyIn p q t
+placed-larger p q s t part h r a b e = elim (h r a b e) [ inl x ↦ inl x | inr y ↦ inr (in_larger q a b s t part y) ]
+
+pub full-larger : (p : PassView) (s t : Tree) → IsPartOf s t → IsFullIn p s → IsFullIn p t
+full-larger p s t part h = record { first = h.first; second = h.second; wanted = in_larger p h.first h.second s t part h.wanted; full = h.full }
+
+-- what is unchanged is the same
+pub same_pass : (old new : PassView) → IsUnchanged old new → new ≡ old
+same_pass old new h = λ i. record {
+  places = h.places i;
+  shares = h.shares i;
+  seen = h.seen i;
+  known = h.known i;
+  placed = h.placed i;
+}
+
+pub same_terms : (v w : TermsView) → KeepsTerms v w → IsUnchanged v.pass w.pass → w ≡ v
+same_terms v w k u = λ i. record { pool = k.pool i; pass = same_pass v.pass w.pass u i }

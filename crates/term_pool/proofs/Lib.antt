@@ -22,3 +22,6 @@ pub mod PuttingLemmas
 pub mod Ways
 pub mod PairLemmas
 pub mod FlipLemmas
+pub mod Leaves
+pub mod References
+pub mod PlacedCells

@@ -2,8 +2,9 @@
 use Rattle.std.proofs.Common.{◌≡◌, ℕ, zero, suc, ◌<◌, ◌≤◌, ◌+◌, ◌^◌, ◌%◌, refl, ◌∙◌, ap, arith, Bool, IsTrue, ◌↔◌}
 use Rattle.pair_pool.specs.Trees.{Tree, leaf, cell}
 use Rattle.pair_pool.specs.Views.{PassView, Knows, IsKnown, IsOneToOne, HasPartsOfTrees, HasListsInOrder}
-use Rattle.sym_table.specs.Leaf.{Leaf, operator, let_head}
+use Rattle.sym_table.specs.Leaf.{operator, let_head}
 use Rattle.sym_table.specs.Table.{Table, IsLeaf, IsTable}
+use Rattle.sym_table.proofs.Tables.{one_symbol}
 use Rattle.term_model.specs.declared.symbols.Op.{Op}
 use Rattle.term_model.specs.Terms.{Term, numeral, variable, operation, call, let_in, no_terms, term, not_of}
 use Rattle.term_pool.specs.StandsFor.{nil_tree, let_tree, function_leaf, StandsFor}
@@ -55,9 +56,6 @@ nots_known p k r n a h = record { tree = h.tree; stands = h.inner_known }
 pub nots_all : (p : PassView) (k r n a : ℕ) → IsNotsSoFar p k r n a → ((t : Tree) → Knows p a (not_tree k t) → ⊥) → IsUnderNots p k r n a
 nots_all p k r n a h none = record { tree = h.tree; inner_known = h.inner_known; known = h.known; bare = none }
 
-same_symbol : (s : Table) (k : ℕ) (l m : Leaf) → IsLeaf s k l → IsLeaf s k m → l ≡ m
-same_symbol s k l m p q = cc
-
 -- a term whose tree is an application of the leaf of `not` to one argument is a negation
 under : (s : Table) (k : ℕ) → IsTable s → IsLeaf s k (operator Op.Not) → (t : Term) (tree : Tree) → StandsFor s (not_tree k tree) t → (u : Term) × (t ≡ not_of u) × StandsFor s tree u
 under s k table is_not (numeral n) tree h = absurd h
@@ -65,7 +63,7 @@ under s k table is_not (variable x) tree h = absurd h
 under s k table is_not (operation op no_terms) tree h = absurd h
 under s k table is_not (operation op (term t (term u us))) tree h = absurd h.1.1
 under s k table is_not (operation op (term t no_terms)) tree h =
-    let same : operator op ≡ operator Op.Not = same_symbol s k _ _ h.0 is_not in
+    let same : operator op ≡ operator Op.Not = one_symbol s k _ _ h.0 is_not in
     let is_op = go same in
     (t, (rw is_op refl), h.1.0)
   where
@@ -73,7 +71,7 @@ under s k table is_not (operation op (term t no_terms)) tree h =
     go e = cc
 under s k table is_not (call f no_terms) tree h = absurd h
 under s k table is_not (call f (term t ts)) tree h =
-    let same : function_leaf f ≡ operator Op.Not = same_symbol s k _ _ h.0 is_not in absurd (go same)
+    let same : function_leaf f ≡ operator Op.Not = one_symbol s k _ _ h.0 is_not in absurd (go same)
   where
     go : function_leaf f ≡ operator Op.Not → ⊥
     go e = cc
@@ -86,7 +84,7 @@ under s k table is_not (let_in bs u) tree h = absurd (go h.0 (table.begins 1 let
     differ e = cc
 
     go : leaf k ≡ let_tree → IsLeaf s 1 let_head → ⊥
-    go e p = let f = number k 1 e in differ (same_symbol s 1 _ _ p (rw f at is_not))
+    go e p = let f = number k 1 e in differ (one_symbol s 1 _ _ p (rw f at is_not))
 
 pub all_under : (s : Table) (k : ℕ) → IsTable s → IsLeaf s k (operator Op.Not) → (n : ℕ) (t : Term) (tree : Tree) → StandsFor s (nots_tree k n tree) t → (u : Term) × (t ≡ negated n u) × StandsFor s tree u
 all_under s k table is_not zero t tree h = (t, refl, h)

@@ -1,4 +1,4 @@
--- Numbering cells: no cell has two numbers, so there are no more numbers than references.
+-- Cited by crates above. Numbering cells: no cell has two numbers, so there are no more numbers than references.
 use Rattle.std.proofs.Common.{◌≡◌, ◌≢◌, ℕ, suc, zero, ◌+◌, ◌-◌, ◌<◌, ◌≤◌, ◌^◌, ◌⊎◌, inl, inr, sym, ◌∙◌, ap, arith, List, [], ◌∷◌, ◌++◌, length, get_or, set, replicate, get_or-set_same, get_or-set_other, length-set, true, nat_eq, eqb, Option, Some, None, MatchOption}
 use Rattle.std.specs.List.{list_any}
 use Rattle.std.specs.Map.{update}
@@ -6,13 +6,11 @@ use Rattle.std.proofs.lemmas.Bool.{cases_eq, cases_lt}
 use Rattle.std.proofs.lemmas.List.{length-replicate, get_or-replicate, get_or_past, get_or_append_left, get_or_push, length_push}
 use Rattle.std.proofs.lemmas.Map.{update_here, update_apart}
 use Rattle.std.proofs.lemmas.Map.Steps.{length-le_from_distinct_below}
+use Rattle.term_model.proofs.Basics.{same_some}
 use Rattle.term_pool.specs.declared.numbering.Numbering.{Numbering}
 use Rattle.term_pool.specs.CellCounts.{Has, AreApart}
 use Rattle.term_pool.specs.Numbering.{number_or_zero, number_in, HasNumber, HasNumberRoom, IsPlace, IsNumbering, IsFilled}
 use Rattle.term_pool.proofs.Members.{AreDistinct, has_number, number_has, apart_from_distinct, any_has, distinct_from_apart}
-
-same_some : {X : Type 0} {a b : X} → Some a ≡ Some b → a ≡ b
-same_some f = cc
 
 pub cells_distinct : (n : Numbering) → IsNumbering n → AreDistinct 0 n.cells.items
 cells_distinct n h i j l m e =
@@ -64,7 +62,7 @@ number_told n h r place None e = absent
 number_told n h r place (Some k) e = h.only r k place.cell (sym e)
 
 -- a vector of no numbers
-zero_at : (n i : ℕ) → get_or {A = ℕ} (replicate {A = ℕ} n 0) i 0 ≡ 0
+pub zero_at : (n i : ℕ) → get_or {A = ℕ} (replicate {A = ℕ} n 0) i 0 ≡ 0
 zero_at n i = go (cases_lt i n)
   where
     go : (i < n) ⊎ (n ≤ i) → get_or {A = ℕ} (replicate {A = ℕ} n 0) i 0 ≡ 0

@@ -1,4 +1,4 @@
--- A tree stands for one term: it can be decoded.
+-- Cited by crates above. A tree stands for one term: it can be decoded.
 use Rattle.std.proofs.Common.{◌≡◌, ℕ, refl, ap, ◌∙◌, pos, Option, Some}
 use Rattle.pair_pool.specs.Trees.{Tree, leaf, cell}
 use Rattle.pair_pool.specs.Views.{IsOneToOne, HasPartsOfTrees}

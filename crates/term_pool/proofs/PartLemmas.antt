@@ -9,6 +9,7 @@ use Rattle.sym_table.specs.Leaf.{operator, let_head}
 use Rattle.sym_table.specs.Table.{Table, IsLeaf, IsTable}
 use Rattle.term_model.specs.Terms.{Var, Term, Terms, Bindings, numeral, variable, operation, call, let_in, no_terms, term, list_of, no_bindings, binding}
 use Rattle.term_model.proofs.Zips.{zip_then}
+use Rattle.term_model.proofs.Lists.{drop-whole}
 use Rattle.term_pool.specs.StandsFor.{let_tree, function_leaf, StandsFor, StandsForList, StandsForBindings}
 use Rattle.term_pool.specs.Trees.{pair_leaves}
 use Rattle.term_pool.specs.TreeLists.{tree_items, AreLeafPairs, pair_trees, AddsItems, IsPairList, AddsPairs}
@@ -117,15 +118,11 @@ no_arguments s (call f no_terms) k h = refl
 no_arguments s (call f (term t ts)) k h = absurd h
 no_arguments s (let_in bs u) k h = absurd h
 
-drop-all : {X : Type 0} → (xs : List X) → drop (length xs) xs ≡ []
-drop-all [] = refl
-drop-all (x ∷ xs) = drop-all xs
-
 pub leaf_arguments : (s : Table) (v : TermsView) → IsOneToOne v.pass → HasPartsOfTrees v.pass → (r : ℕ) (old : List ℕ) → r < 2 ^ 30 → (t : Term) → RefersTo s v r t → ReferToAll s v (drop (length old) old) (arguments_of t)
 leaf_arguments s v one parts r old low t h =
     let is : h.tree ≡ leaf r = leaf_of v.pass one parts r h.tree h.known low in
     let none = no_arguments s t r (rw is at h.stands) in
-    rw (drop-all old, none) tt
+    rw (drop-whole old, none) tt
 
 pub added_arguments : (s : Table) (v : TermsView) → IsOneToOne v.pass → (r list : ℕ) (old new : List ℕ) → IsKnownCell v.pass r → ((s t : Tree) → Knows v.pass r (cell s t) → Knows v.pass list t) → AddsItems v.pass list old new → (t : Term) → RefersTo s v r t → (IsLet t → ⊥) → ReferToAll s v (drop (length old) new) (arguments_of t)
 added_arguments s v one r list old new c second adds t h never =

@@ -1,19 +1,10 @@
 -- A pass that is unchanged is the same.
 use Rattle.std.proofs.Common.{◌≡◌, ℕ, ◌+◌, ◌<◌, ◌≤◌, ◌^◌, ◌∙◌, ap, arith, suc}
 use Rattle.pair_pool.specs.Trees.{Tree, leaf, cell}
-use Rattle.pair_pool.specs.Views.{PassView, Knows, IsUnchanged, IsOneToOne, HasPartsOfTrees, HasListsInOrder}
+use Rattle.pair_pool.specs.Views.{PassView, Knows, IsOneToOne, HasPartsOfTrees, HasListsInOrder}
 use Rattle.term_pool.specs.TreeLists.{list_length, list_item, HasItem}
 use Rattle.term_pool.specs.Views.{IsKnownCell}
 use Rattle.term_pool.proofs.Depth.{depth-bound, list_length-depth, is_cell}
-
-pub same_pass : (old new : PassView) → IsUnchanged old new → new ≡ old
-same_pass old new h = λ i. record {
-  places = h.places i;
-  shares = h.shares i;
-  seen = h.seen i;
-  known = h.known i;
-  placed = h.placed i;
-}
 
 -- the items of a list that are left to count, where so many are counted
 pub record IsCounted (p : PassView) (list rest count : ℕ) : Type 0 where

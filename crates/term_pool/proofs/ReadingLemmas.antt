@@ -1,10 +1,12 @@
--- What the parts of a term's tree stand for.
-use Rattle.std.proofs.Common.{◌≡◌, ℕ, zero, suc, ◌<◌, ◌≤◌, ◌^◌, refl, sym, ◌∙◌, ap, arith, List, [], ◌∷◌, length, slice_get, Some}
+-- Cited by crates above. What the parts of a term's tree stand for.
+use Rattle.std.proofs.Common.{◌≡◌, ℕ, zero, suc, ◌<◌, ◌≤◌, ◌^◌, refl, sym, ◌∙◌, ap, arith, length, slice_get, Some}
 use Rattle.pair_pool.specs.Trees.{Tree, leaf, cell}
 use Rattle.pair_pool.specs.Views.{PassView, Knows, IsKnown, IsOneToOne, HasPartsOfTrees, IsUnchanged}
 use Rattle.sym_table.specs.Leaf.{Leaf, operator}
 use Rattle.sym_table.specs.Table.{Table, IsLeaf}
 use Rattle.term_model.specs.Terms.{Var, Term, Terms, Bindings, numeral, variable, operation, call, let_in, no_terms, term, list_of, no_bindings, binding}
+use Rattle.term_model.proofs.Basics.{same_some}
+use Rattle.term_model.proofs.Lists.{nth_there}
 use Rattle.term_pool.specs.StandsFor.{let_tree, variable_leaf, function_leaf, StandsFor, StandsForApplication, StandsForList, StandsForBindings}
 use Rattle.term_pool.specs.Trees.{IsCellTree}
 use Rattle.term_pool.specs.TreeLists.{list_length, list_item, HasItem}
@@ -72,11 +74,6 @@ argument_tree s (variable x) tree i a h e = absurd (cc)
 argument_tree s (operation op ts) tree i a h e = application_argument s (operator op) ts tree i a h e
 argument_tree s (call f ts) tree i a h e = application_argument s (function_leaf f) ts tree i a h e
 argument_tree s (let_in bs u) tree i a h e = absurd (cc)
-
-pub nth_there : {X : Type 0} → (xs : List X) (i : ℕ) → i < length xs → (a : X) × (slice_get xs i ≡ Some a)
-nth_there [] i h = absurd (omega arith)
-nth_there (x ∷ xs) zero h = (x, refl)
-nth_there (x ∷ xs) (suc i) h = nth_there xs i (omega arith)
 
 pub argument_cell : (v : TermsView) (r i : ℕ) → HasArgument v r i → IsKnownCell v.pass r
 argument_cell v r i h =
@@ -183,9 +180,6 @@ pub record BindingTree (s : Table) (list : Tree) (x : Var) (u : Term) (i : ℕ) 
   pub pair : list_item list i ≡ cell (leaf name) value
   pub names : IsLeaf s name (variable_leaf x)
   pub stands : StandsFor s value u
-
-same_some : {X : Type 0} {a b : X} → Some a ≡ Some b → a ≡ b
-same_some e = cc
 
 pub binding_tree : (s : Table) (bs : Bindings) (list : Tree) (i : ℕ) (x : Var) (u : Term) → StandsForBindings s list bs → slice_get (list_of_bindings bs) i ≡ Some (x, u) → BindingTree s list x u i
 binding_tree s no_bindings list i x u h e = absurd (cc)

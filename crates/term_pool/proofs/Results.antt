@@ -1,10 +1,6 @@
 -- Facts about the variants of a result.
-use Rattle.std.proofs.Common.{Result, Ok, Err, OnErr, IfErr, Bool, false, ℕ, ◌≡◌, nat_eq, arith}
+use Rattle.std.proofs.Common.{Result, Ok, Err, IfErr, Bool, false, ℕ, ◌≡◌, nat_eq, arith}
 use Rattle.std.proofs.lemmas.Bool.Decides.{nat_tests}
-
-pub on_err : {T E P : Type 0} → (r : Result T E) → P → OnErr r P
-on_err (Ok x) p = tt
-on_err (Err e) p = p
 
 pub not_zero : (b : Bool) (n : ℕ) → b ≡ nat_eq n 0 → b ≡ false → n ≡ 0 → ⊥
 not_zero b n e f g = grind (arith, nat_tests)

@@ -1,4 +1,4 @@
--- The trees of terms that are built and read.
+-- Cited by crates above. The trees of terms that are built and read.
 use Rattle.std.proofs.Common.{◌≡◌, ℕ, refl, List, [], ◌∷◌, ◌↔◌}
 use Rattle.pair_pool.specs.Trees.{Tree}
 use Rattle.pair_pool.specs.Views.{PassView, Knows, IsOneToOne}

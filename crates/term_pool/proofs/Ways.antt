@@ -1,22 +1,15 @@
--- The way of a walk, from its start to where it is: each item is above those behind it, and none has been met.
+-- Cited by crates above. The way of a walk, from its start to where it is: each item is above those behind it, and none has been met.
 use Rattle.std.proofs.Common.{◌≡◌, ℕ, ◌-◌, ◌⊎◌, inl, inr, refl, ◌∙◌, List, [], ◌∷◌, ◌++◌, take}
 use Rattle.std.specs.List.{AllByRecursion}
+use Rattle.term_model.proofs.Lists.{all_at_end, all_last}
 
 pub none_left : {X : Type 0} (xs ys : List X) (n : ℕ) → n ≡ 0 → ys ≡ take (n - 1) xs → xs ≡ ys ++ [] → xs ≡ []
 none_left xs ys n z rest whole = whole ∙ rw (rest, z)
 
 module _ {X : Type 0} where
-  last_of : (P : X → Type 0) → (xs : List X) (at : X) → AllByRecursion P (xs ++ at ∷ []) → P at
-  last_of P [] at h = h.0
-  last_of P (x ∷ xs) at h = last_of _ xs at h.1
-
   front_of : (P : X → Type 0) → (xs : List X) (at : X) → AllByRecursion P (xs ++ at ∷ []) → AllByRecursion P xs
   front_of P [] at h = tt
   front_of P (x ∷ xs) at h = (h.0, front_of _ xs at h.1)
-
-  push_all : (P : X → Type 0) → (xs : List X) (at : X) → AllByRecursion P xs → P at → AllByRecursion P (xs ++ at ∷ [])
-  push_all P [] at h e = (e, tt)
-  push_all P (x ∷ xs) at h e = (h.0, push_all _ xs at h.1 e)
 
   abbrev pub Starts : X → List X → Type 0
   Starts start [] = ⊥
@@ -44,7 +37,7 @@ module _ {X : Type 0} where
     way_start Met r unmet = record { descends = (tt, tt); unmet = (unmet, tt); starts = refl }
 
     pub way_unmet : (Met : X → Type 0) (r at : X) (way : List X) → IsWay Met r (way ++ at ∷ []) → Met at → ⊥
-    way_unmet Met r at way h = last_of _ way at h.unmet
+    way_unmet Met r at way h = all_last _ way at h.unmet
 
     -- what holds of the start and below anything, holds of where the walk is
     pub way_here : (P : X → Type 0) → ((x y : X) → Below x y → P y) → (Met : X → Type 0) (r at : X) (way : List X) → P r → IsWay Met r (way ++ at ∷ []) → P at
@@ -52,7 +45,7 @@ module _ {X : Type 0} where
       where
         go : (xs : List X) → Descends (xs ++ at ∷ []) → Starts r (xs ++ at ∷ []) → P at
         go [] d s = rw s root
-        go (x ∷ xs) d s = below x at (last_of _ xs at d.0)
+        go (x ∷ xs) d s = below x at (all_last _ xs at d.0)
 
     pub way_end : (Met : X → Type 0) (r at : X) (way : List X) → way ≡ [] → IsWay Met r (way ++ at ∷ []) → at ≡ r
     way_end Met r at way e h = go way e h.starts
@@ -64,11 +57,11 @@ module _ {X : Type 0} where
     below_all : ((x y z : X) → Below x y → Below y z → Below x z) → (xs : List X) (at part : X) → Descends (xs ++ at ∷ []) → Below at part → AllByRecursion (λ x. Below x part) (xs ++ at ∷ [])
     below_all further [] at part h k = (k, tt)
     below_all further (x ∷ xs) at part h k =
-        (further x at part (last_of _ xs at h.0) k, below_all further xs at part h.1 k)
+        (further x at part (all_last _ xs at h.0) k, below_all further xs at part h.1 k)
 
     descends_push : (xs : List X) (part : X) → Descends xs → AllByRecursion (λ x. Below x part) xs → Descends (xs ++ part ∷ [])
     descends_push [] part h k = (tt, tt)
-    descends_push (x ∷ xs) part h k = (push_all _ xs part h.0 k.0, descends_push xs part h.1 k.1)
+    descends_push (x ∷ xs) part h k = (all_at_end _ xs part h.0 k.0, descends_push xs part h.1 k.1)
 
     descends_front : (xs : List X) (at : X) → Descends (xs ++ at ∷ []) → Descends xs
     descends_front [] at h = tt
@@ -77,7 +70,7 @@ module _ {X : Type 0} where
     pub way_down : ((x y z : X) → Below x y → Below y z → Below x z) → (Met : X → Type 0) (r at part : X) (way : List X) → IsWay Met r (way ++ at ∷ []) → Below at part → (Met part → ⊥) → IsWay Met r ((way ++ at ∷ []) ++ part ∷ [])
     way_down further Met r at part way h k unmet = record {
       descends = descends_push (way ++ at ∷ []) part h.descends (below_all further way at part h.descends k);
-      unmet = push_all _ (way ++ at ∷ []) part h.unmet unmet;
+      unmet = all_at_end _ (way ++ at ∷ []) part h.unmet unmet;
       starts = starts_push r (way ++ at ∷ []) part h.starts;
     }
 
@@ -88,7 +81,7 @@ module _ {X : Type 0} where
       where
         go : Old x ⊎ (x ≡ at) → ⊥
         go (inl before) = k.0 before
-        go (inr same) = never at (rw same at (last_of _ xs at h.0))
+        go (inr same) = never at (rw same at (all_last _ xs at h.0))
 
     pub way_up : ((x : X) → Below x x → ⊥) → (Old New : X → Type 0) (r above at : X) (way : List X) → ((x : X) → New x → Old x ⊎ (x ≡ at)) → IsWay Old r ((way ++ above ∷ []) ++ at ∷ []) → IsWay New r (way ++ above ∷ [])
     way_up never Old New r above at way more h = record {

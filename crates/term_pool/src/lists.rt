@@ -43,7 +43,7 @@ pub(crate) fn list_of(pool: &Pool, pass: &mut Pass, items: &[Ref]) -> Result<Ref
 }
 
 /// The parts of a cell.
-#[tactic(auto, using(crate::proofs::PassLemmas::same_pass))]
+#[tactic(auto, using(crate::proofs::Keeping::same_pass))]
 pub(crate) fn parts(pool: &Pool, pass: &mut Pass, r: Ref) -> (Ref, Ref)
     requires of_pool { IsPassOf pool.now pass.old }
     requires tree { IsKnownCell pass.old r }

@@ -7,10 +7,10 @@ use Rattle.term_model.specs.Terms.{Term}
 use Rattle.term_pool.specs.Views.{TermsView, KeepsTerms}
 use Rattle.problem_text.specs.Outcomes.{Outcome, done, going_on, and_then}
 use Rattle.term_expansion.specs.SymbolsAndTerms.{SymbolsAndTerms, both}
-use Rattle.term_names.specs.Making.{PlacesCellsOf}
+use Rattle.term_pool.specs.Placing.{PlacesCellsOf}
+use Rattle.term_pool.proofs.PlacedCells.{places_none, places_then, places_more, lacks_more}
 use Rattle.term_names.specs.declared.faults.ReadFault.{ReadFault}
 use Rattle.term_reader.specs.Reading.{IsReadBy, IsAnswer, Comes, Gives, ComesTo}
-use Rattle.term_reader.proofs.Staying.{places_none, places_more, places_then, lacks_more}
 
 -- what the part reads is read by the whole, and a fault of the part is one of the whole
 pub record IsPartOf {S A B : Type 0} (read : S → List Term) (o : Outcome S A) (whole : Outcome S B) : Type 0 where

@@ -8,6 +8,7 @@ use Rattle.sym_table.specs.Table.{Table}
 use Rattle.term_model.specs.declared.symbols.Sort.{Sort}
 use Rattle.term_model.specs.Terms.{Term, numeral}
 use Rattle.term_pool.specs.Views.{TermsView, KeepsTerms}
+use Rattle.term_pool.proofs.Keeping.{terms-refl}
 use Rattle.term_reader.specs.Entering.{HasTop, IsNumber, IsHeadFound, IsReadAlone}
 use Rattle.term_reader.specs.Leaving.{with_open, Spends}
 use Rattle.term_reader.specs.Credits.{credit}
@@ -46,7 +47,7 @@ use Rattle.term_reader.proofs.Resuming.{first_argument, unknown_head, first_bind
 use Rattle.term_reader.proofs.Coming.{IsPartOf, answers, answers_whole, fails, refuses, no_memory}
 use Rattle.term_reader.proofs.MoreRead.{with_read, same_script}
 use Rattle.term_reader.proofs.Settled.{part_resumed, nothing_made}
-use Rattle.term_reader.proofs.Staying.{adds_none, keeps_none, frames_stay, stands_stays}
+use Rattle.term_reader.proofs.Staying.{adds_none, frames_stay, stands_stays}
 use Rattle.term_expansion.specs.SymbolsAndTerms.{both}
 
 -- other terms that were read and other names of lets change nothing of what the tables stand for
@@ -120,7 +121,7 @@ module _ (items : ItemsView) (g : WholeReading) (s : Table) (v : TermsView) (r :
       → Goes items g v (both z v) r (Ok (Turn.Use c (k + 1)))
   number_goes z c n h adds is =
       let (m, e, same, alone) = h.top in
-      value_goes z v c h.at (record { symbols = adds; terms = keeps_none v }) alone
+      value_goes z v c h.at (record { symbols = adds; terms = terms-refl v }) alone
       (answers (record { tree = numeral m; sort = Sort.Int }) (with_term (numeral m) h.at.script) refl
       (ap (λ (f : Form). term_from f h.at.place h.at.script) e
       ∙ number_comes (place_of (item_at items k)) m h.at.place h.at.script (limit_so h.at.place.settings r.replaces_lets h.at.stands.settings))

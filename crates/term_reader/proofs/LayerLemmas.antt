@@ -29,6 +29,7 @@ use Rattle.term_reader.specs.ShapeFaults.{IsSymbolLayer, IsTokenLayer}
 use Rattle.text_items.specs.Stepping.{AreInside, BeginsItem, has_two, name_in, IsSymbolAt}
 use Rattle.text_items.proofs.ItemsAtLemmas.{ends_behind, ends_inside, item_is, items_are, no_items_are}
 use Rattle.text_items.proofs.ShapeLemmas.{list_is}
+use Rattle.term_model.proofs.Basics.{or_none}
 use Rattle.term_reader.proofs.FormSteps.{range_on}
 
 pub is_symbol_item : (i : Item) → symbol_fault i ≡ None → is_some (symbol_name i) ≡ true
@@ -376,21 +377,17 @@ name_wanted (quoted place spelling) e = absurd cc
 name_wanted (string place spelling) e = absurd cc
 name_wanted (list place items) e = absurd cc
 
-no_fault : (a b : Option ℕ) → option_or a b ≡ None → (a ≡ None) × (b ≡ None)
-no_fault None b e = (refl, e)
-no_fault (Some n) b e = absurd cc
-
 names_symbols : (before : Item) (others : Items) → misplaced naming (after_item naming before) others ≡ None → NamesAreSymbols before others
 names_symbols before no_items e = tt
 names_symbols before (item i rest) e =
-    let (none, later) = no_fault (next_fault (after_item naming before) i) (misplaced naming (after_item naming i) rest) e in (
+    let (none, later) = or_none (next_fault (after_item naming before) i) (misplaced naming (after_item naming i) rest) e in (
       λ named. is_symbol_item i (ap (λ (n : Next). next_fault n i) (sym (name_wanted before named)) ∙ none),
       names_symbols i rest later,
     )
 
 attributes_fit : (place : ℕ) (first : Item) (rest : Items) → attributes_fault naming place (item first rest) ≡ None → misplaced naming (after_item naming first) rest ≡ None
 attributes_fit place first rest e =
-    (no_fault (next_fault word_next first) (misplaced naming (after_item naming first) rest) (go (is_value (at_end naming word_next (item first rest)) || lacks_keyword naming (item first rest)) e)).1
+    (or_none (next_fault word_next first) (misplaced naming (after_item naming first) rest) (go (is_value (at_end naming word_next (item first rest)) || lacks_keyword naming (item first rest)) e)).1
   where
     earliest : (a b : Option ℕ) → earlier a b ≡ None → a ≡ None
     earliest None b e = refl

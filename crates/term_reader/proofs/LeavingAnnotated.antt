@@ -2,7 +2,9 @@
 use Rattle.std.proofs.Common.{◌≡◌, ◌∙◌, arith, ap, sym, ℕ, List, Result, Ok, Err}
 use Rattle.pair_pool.specs.Views.{IsUnchanged}
 use Rattle.sym_table.specs.Table.{Table}
+use Rattle.sym_table.proofs.Tables.{keeps_table}
 use Rattle.term_pool.specs.Views.{TermsView, KeepsTerms}
+use Rattle.term_pool.proofs.PlacedCells.{places_none}
 use Rattle.term_reader.specs.Frames.{WholeReading}
 use Rattle.term_names.specs.Known.{macro_of}
 use Rattle.term_reader.specs.Layers.{names_at}
@@ -27,7 +29,7 @@ use Rattle.term_reader.specs.declared.reader.Turn.{Turn}
 use Rattle.term_expansion.specs.declared.values.Value.{Value}
 use Rattle.term_reader.proofs.Resuming.{annotated_read}
 use Rattle.term_reader.proofs.Settled.{part_resumed}
-use Rattle.term_reader.proofs.Staying.{table_keeps_none, value_stays, scope_stays, frames_stay, places_none}
+use Rattle.term_reader.proofs.Staying.{value_stays, scope_stays, frames_stay}
 use Rattle.term_expansion.specs.SymbolsAndTerms.{both}
 
 module _ (items : ItemsView) (g : WholeReading) (s : Table) (v : TermsView) (r : ReadingView) (c : Value) (n end : ℕ)
@@ -59,13 +61,13 @@ module _ (items : ItemsView) (g : WholeReading) (s : Table) (v : TermsView) (r :
             waiting = rest;
             stands = record {
               script = script;
-              scope = rw scope (scope_stays s s v w (table_keeps_none s) keeps r.names.scope h.place.scope h.stands.scope);
+              scope = rw scope (scope_stays s s v w (keeps_table s) keeps r.names.scope h.place.scope h.stands.scope);
               settings = h.stands.settings;
               low = h.stands.low;
             };
-            is = value_stays s s v w (table_keeps_none s) keeps c h.term h.is;
+            is = value_stays s s v w (keeps_table s) keeps c h.term h.is;
             low = h.low;
-            frames = rw scope (frames_stay s s v w (table_keeps_none s) keeps items g r.names.known names.known macros r.frames _ _ _ _ _ _ outer);
+            frames = rw scope (frames_stay s s v w (keeps_table s) keeps items g r.names.known names.known macros r.frames _ _ _ _ _ _ outer);
             comes = ap (resumed rest) (sym whole) ∙ names_come;
           };
           placed = places_none s v.pass w.pass (IsReadBy terms_read g.whole) same.placed;

@@ -3,6 +3,7 @@ use Rattle.std.proofs.Common.{◌<◌, ◌≡◌, ◌≢◌, ◌∙◌, ◌≤�
 use Rattle.std.proofs.lemmas.Bool.{eqb-true, eqb-false, not-true, not-false, false≢true}
 use Rattle.std.proofs.lemmas.List.{take-append-le, length-append}
 use Rattle.sym_table.specs.Table.{Table}
+use Rattle.sym_table.proofs.Tables.{keeps_table}
 use Rattle.term_pool.specs.Views.{TermsView, KeepsTerms}
 use Rattle.problem_text.specs.Forms.{Forms, no_forms}
 use Rattle.term_names.specs.Heads.{HeadMeans}
@@ -23,6 +24,7 @@ use Rattle.term_names.specs.declared.faults.ReadFault.{ReadFault}
 use Rattle.term_reader.specs.declared.frames.Frame.{Frame}
 use Rattle.term_reader.specs.declared.frames.OpenArguments.{OpenArguments}
 use Rattle.text_items.specs.ItemsAt.{ItemsView, end_at}
+use Rattle.term_model.proofs.Lists.{all_at_end}
 use Rattle.term_reader.specs.ReadingViews.{ReadingView}
 use Rattle.term_reader.specs.declared.reader.Turn.{Turn}
 use Rattle.term_expansion.specs.declared.values.Value.{Value}
@@ -30,10 +32,9 @@ use Rattle.term_reader.proofs.FormSteps.{forms_done, forms_more, range_on}
 use Rattle.term_reader.proofs.InnermostForm.{around, same_reader}
 use Rattle.term_reader.proofs.Limited.{limit_so}
 use Rattle.term_reader.proofs.MoreRead.{low_below, zip_pushed}
-use Rattle.problem_text.proofs.Outcomes.{all_at_end}
 use Rattle.term_reader.proofs.Resuming.{next_argument_read, last_argument_read}
 use Rattle.term_reader.proofs.Settled.{Settles, IsWhole, Closes, unmade_ends, unsettled_ends, settled_goes_on, nothing_made}
-use Rattle.term_reader.proofs.Staying.{table_keeps_none, adds_none, script_stays, scope_stays, frames_stay}
+use Rattle.term_reader.proofs.Staying.{adds_none, script_stays, scope_stays, frames_stay}
 use Rattle.term_expansion.specs.SymbolsAndTerms.{both}
 
 abbrev pub pushed : ReadingView → Value → List Value
@@ -96,11 +97,11 @@ module _ (items : ItemsView) (g : WholeReading) (s : Table) (v : TermsView) (r :
         around = h.place;
         stands = record {
           script = script_stays s s v w (adds_none s) keeps r.names.known h.script h.stands.script;
-          scope = scope_stays s s v w (table_keeps_none s) keeps r.names.scope h.place.scope h.stands.scope;
+          scope = scope_stays s s v w (keeps_table s) keeps r.names.scope h.place.scope h.stands.scope;
           settings = h.stands.settings;
           low = low_below opened.from (pushed r c) low_pushed;
         };
-        frames = frames_stay s s v w (table_keeps_none s) keeps items g r.names.known r.names.known (λ _. refl) r.frames _ _ _ _ _ _ (rw take_pushed outer);
+        frames = frames_stay s s v w (keeps_table s) keeps items g r.names.known r.names.known (λ _. refl) r.frames _ _ _ _ _ _ (rw take_pushed outer);
       }
 
   -- the next one is read

@@ -6,7 +6,9 @@ use Rattle.sexpr.specs.declared.causes.Refusal.{Refusal}
 use Rattle.sym_table.specs.Leaf as leaf
 use Rattle.sym_table.specs.Table.{Table, IsLeaf}
 use Rattle.term_model.specs.declared.symbols.Sort.{Sort}
+use Rattle.term_model.proofs.Lists.{all_at_end}
 use Rattle.term_pool.specs.Views.{TermsView}
+use Rattle.term_pool.proofs.Keeping.{terms-refl}
 use Rattle.text_items.specs.ItemShapes.{Name}
 use Rattle.problem_text.specs.Forms.{Form, LetBinds, no_binds}
 use Rattle.term_reader.specs.Frames.{WholeReading, AreFrames}
@@ -34,11 +36,10 @@ use Rattle.term_expansion.specs.declared.values.Value.{Value}
 use Rattle.term_reader.proofs.FormSteps.{binds_done, binds_more}
 use Rattle.term_reader.proofs.Limited.{replaces_so}
 use Rattle.term_reader.proofs.MoreRead.{zip_pushed, same_script}
-use Rattle.problem_text.proofs.Outcomes.{all_at_end}
 use Rattle.term_reader.proofs.RepeatLemmas.{repeat_here, repeat_on}
 use Rattle.term_reader.proofs.Resuming.{next_binding_read, next_binding_refused, last_binding_read}
 use Rattle.term_reader.proofs.Settled.{nothing_made}
-use Rattle.term_reader.proofs.Staying.{keeps_none, value_stays, bound_stays, script_stays, scope_stays, frames_stay}
+use Rattle.term_reader.proofs.Staying.{value_stays, bound_stays, script_stays, scope_stays, frames_stay}
 use Rattle.term_expansion.specs.SymbolsAndTerms.{both}
 
 module _ (items : ItemsView) (g : WholeReading) (s : Table) (v : TermsView) (r : ReadingView) (c : Value) (n : ℕ) (opened : OpenBindings)
@@ -95,13 +96,13 @@ module _ (items : ItemsView) (g : WholeReading) (s : Table) (v : TermsView) (r :
     bound_now =
         let (read, earlier, left, rest, is, here, outer) = h.frames in
         let (k, leaf_is, leaves_are) = added.leaf in
-        let before = bound_stays s t v v added.adds.keeps (keeps_none v) (drop opened.leaves r.leaves.items) (drop opened.from r.values) read here.read_bound in
+        let before = bound_stays s t v v added.adds.keeps (terms-refl v) (drop opened.leaves r.leaves.items) (drop opened.from r.values) read here.read_bound in
         let new = bound_to this h.term in
         rw (leaves_are, added.values_are)
         (record {
           leaves = zip_pushed _ opened.leaves r.leaves.items read k new here.leaves_within before.leaves
               (subst (λ (sort : Sort). IsLeaf t k (leaf.variable this.name sort)) h.is.sort leaf_is);
-          values = zip_pushed _ opened.from r.values read c new here.within before.values (value_stays s t v v added.adds.keeps (keeps_none v) c h.term h.is);
+          values = zip_pushed _ opened.from r.values read c new here.within before.values (value_stays s t v v added.adds.keeps (terms-refl v) c h.term h.is);
         })
 
     within_now : opened.from ≤ length values
@@ -123,7 +124,7 @@ module _ (items : ItemsView) (g : WholeReading) (s : Table) (v : TermsView) (r :
         let values_stay = take-append-le opened.from r.values (c ∷ []) here.within in
         let leaves_stay = take-append-le opened.leaves r.leaves.items (k ∷ []) here.leaves_within in
         rw (added.values_are, leaves_are, values_stay, leaves_stay)
-        (frames_stay s t v v added.adds.keeps (keeps_none v) items g r.names.known r.names.known (λ _. refl) r.frames _ _ _ _ _ _ outer)
+        (frames_stay s t v v added.adds.keeps (terms-refl v) items g r.names.known r.names.known (λ _. refl) r.frames _ _ _ _ _ _ outer)
 
     pub bindings_bound : (w : TermsView) × (bs : List Bound) × AreValuesBound (both t w) (drop opened.leaves leaves) (drop opened.from values) bs
     bindings_bound = (v, all_read, bound_now)
@@ -136,14 +137,14 @@ module _ (items : ItemsView) (g : WholeReading) (s : Table) (v : TermsView) (r :
     body_begins last names inner ks known are binds split each q leaves_are =
         let (read, earlier, left, rest, is, here, outer) = h.frames in
         let none : left ≡ no_binds = binds_done items n left opened.body here.left_here last in
-        let around = scope_stays s t v v added.adds.keeps (keeps_none v) r.names.scope h.place.scope h.stands.scope in
+        let around = scope_stays s t v v added.adds.keeps (terms-refl v) r.names.scope h.place.scope h.stands.scope in
         let counted : length inner ≡ length leaves - opened.leaves = each ∙ ap length are ∙ length-drop opened.leaves leaves in
         record {
           script = h.script;
           place = inside all_read h.place;
           waiting = body_of opened.place all_read h.place ∷ rest;
           stands = record {
-            script = rw known (script_stays s t v v added.adds (keeps_none v) r.names.known h.script h.stands.script);
+            script = rw known (script_stays s t v v added.adds (terms-refl v) r.names.known h.script h.stands.script);
             scope = binds v all_read h.place (rw are bound_now) around (replaces_so h.place.settings r.replaces_lets h.stands.settings);
             settings = h.stands.settings;
             low = low_now;
@@ -183,8 +184,8 @@ module _ (items : ItemsView) (g : WholeReading) (s : Table) (v : TermsView) (r :
           place = h.place;
           waiting = bindings opened.place all_read (name_in items (n + 1)) (this.name ∷ earlier) a.others body h.place ∷ rest;
           stands = record {
-            script = same_script t v r.names.known _ _ h.script (script_stays s t v v added.adds (keeps_none v) r.names.known h.script h.stands.script);
-            scope = scope_stays s t v v added.adds.keeps (keeps_none v) r.names.scope h.place.scope h.stands.scope;
+            script = same_script t v r.names.known _ _ h.script (script_stays s t v v added.adds (terms-refl v) r.names.known h.script h.stands.script);
+            scope = scope_stays s t v v added.adds.keeps (terms-refl v) r.names.scope h.place.scope h.stands.scope;
             settings = h.stands.settings;
             low = low_now;
           };

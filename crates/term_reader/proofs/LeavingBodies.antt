@@ -2,6 +2,7 @@
 use Rattle.std.proofs.Common.{◌≡◌, ◌∙◌, ◌+◌, ◌-◌, arith, refl, ap, sym, ℕ, List, ◌++◌, length, take, drop, Option, Some, Result, Ok, Err}
 use Rattle.std.proofs.Math.Seq.{drop-append_seam}
 use Rattle.sym_table.specs.Table.{Table}
+use Rattle.sym_table.proofs.Tables.{keeps_table}
 use Rattle.term_pool.specs.Views.{TermsView, KeepsTerms}
 use Rattle.term_reader.specs.Frames.{WholeReading}
 use Rattle.term_names.specs.InScope.{AreValuesBound}
@@ -27,7 +28,7 @@ use Rattle.term_reader.proofs.Limited.{replaces_so, limit_so}
 use Rattle.term_reader.proofs.MoreRead.{low_below}
 use Rattle.term_reader.proofs.Resuming.{body_read}
 use Rattle.term_reader.proofs.Settled.{Settles, IsWhole, Closes, unmade_ends, unsettled_ends, settled_goes_on}
-use Rattle.term_reader.proofs.Staying.{table_keeps_none, adds_none, script_stays, scope_stays, frames_stay}
+use Rattle.term_reader.proofs.Staying.{adds_none, script_stays, scope_stays, frames_stay}
 use Rattle.term_expansion.specs.SymbolsAndTerms.{both}
 
 -- the variables outside a let, where those inside it are as many as its leaves
@@ -81,12 +82,12 @@ module _ (items : ItemsView) (g : WholeReading) (s : Table) (v : TermsView) (r :
         around = outer;
         stands = record {
           script = rw known_is (script_stays s s v w (adds_none s) keeps r.names.known h.script h.stands.script);
-          scope = rw scope_same (scope_stays s s v w (table_keeps_none s) keeps around outer.scope here.around_here);
+          scope = rw scope_same (scope_stays s s v w (keeps_table s) keeps around outer.scope here.around_here);
           settings = outer_settings outer bound here.same_place;
           low = rw values_are (low_below opened.from r.values h.stands.low);
         };
         frames = rw (known_is, values_are, leaves_are, scope_same)
-            (frames_stay s s v w (table_keeps_none s) keeps items g r.names.known r.names.known (λ _. refl) r.frames _ _ _ _ _ _ frames);
+            (frames_stay s s v w (keeps_table s) keeps items g r.names.known r.names.known (λ _. refl) r.frames _ _ _ _ _ _ frames);
       }
 
   -- What is done.

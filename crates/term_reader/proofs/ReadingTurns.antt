@@ -2,6 +2,7 @@
 use Rattle.std.proofs.Common.{◌≡◌, ◌≤◌, ◌<◌, ◌+◌, ◌-◌, ℕ, refl, sym, ◌∙◌, ap, arith, List, [], ◌∷◌, length, Result, Ok, Err}
 use Rattle.sym_table.specs.Table.{Table}
 use Rattle.term_pool.specs.Views.{TermsView}
+use Rattle.term_pool.proofs.PlacedCells.{places_then}
 use Rattle.term_reader.specs.Frames.{WholeReading, AreFrames}
 use Rattle.term_reader.specs.Credits.{credit}
 use Rattle.term_names.specs.InScope.{IsScope}
@@ -23,7 +24,7 @@ use Rattle.term_reader.specs.declared.reader.Turn.{Turn}
 use Rattle.term_expansion.specs.declared.values.Value.{Value}
 use Rattle.text_items.proofs.ItemsAtLemmas.{ends_behind, ends_inside}
 use Rattle.term_reader.proofs.Settled.{nothing_made}
-use Rattle.term_reader.proofs.Staying.{grow_by_terms_none, grow_by_terms_then, places_then}
+use Rattle.term_reader.proofs.Staying.{grow_by_terms_none, grow_by_terms_then}
 use Rattle.term_expansion.specs.SymbolsAndTerms.{both}
 
 -- the reading of the item at node k

@@ -16,12 +16,7 @@ use Rattle.term_reader.specs.Shapes.{IsFirstRepeat}
 use Rattle.term_reader.specs.ShapeFaults.{has_name}
 use Rattle.term_reader.proofs.FormSteps.{AreMoreBinds, binds_more, binds_done, binds_ordered}
 use Rattle.text_items.proofs.ItemsAtLemmas.{ends_behind}
-
--- two tests that hold together are one
-same_tests : (a b : Bool) → (a ≡ true → b ≡ true) → (b ≡ true → a ≡ true) → a ≡ b
-same_tests true b there back = sym (there refl)
-same_tests false true there back = back refl
-same_tests false false there back = refl
+use Rattle.term_model.proofs.Basics.{same_tests}
 
 pub among_from_words : (words : List (List ℕ)) (name : List ℕ) (answer : Bool) → (answer ≡ true → Contains words name) → (Contains words name → answer ≡ true) → answer ≡ is_among words name
 among_from_words words name answer there back =

@@ -4,6 +4,7 @@ use Rattle.sexpr.specs.declared.causes.Refusal.{Refusal}
 use Rattle.sym_table.specs.Table.{Table}
 use Rattle.term_model.specs.Terms.{Term}
 use Rattle.term_pool.specs.Views.{TermsView}
+use Rattle.term_pool.proofs.PlacedCells.{places_none, places_more, lacks_more}
 use Rattle.problem_text.specs.Limits.{most_height}
 use Rattle.problem_text.specs.Names.{Place}
 use Rattle.problem_text.specs.Outcomes.{Outcome}
@@ -27,7 +28,6 @@ use Rattle.term_reader.specs.declared.reader.Turn.{Turn}
 use Rattle.term_reader.proofs.Coming.{IsPartOf, fails, answers_whole}
 use Rattle.term_reader.proofs.MoreRead.{same_script}
 use Rattle.term_reader.proofs.Resuming.{refused_whole}
-use Rattle.term_reader.proofs.Staying.{places_more, places_none, lacks_more}
 use Rattle.term_reader.proofs.StillRead.{by_resumed, settled_is_read}
 
 -- what is read now is a part of what waits for it

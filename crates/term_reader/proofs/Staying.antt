@@ -1,22 +1,21 @@
 -- Cited by crates above. What the code holds stays what it is, as the table of symbols grows and as the pass comes to know more; and the cells
 -- that were placed stay cells of what was wanted.
-use Rattle.std.proofs.Common.{◌≡◌, ◌≢◌, ◌⊎◌, inl, inr, ℕ, ℤ, pos, ◌+◌, ◌≤◌, zero, suc, refl, ◌∙◌, ap, arith, List, [], ◌∷◌, ◌++◌, length, take, drop, slice_get, Option, Some, None}
+use Rattle.std.proofs.Common.{◌≡◌, ◌≢◌, ◌⊎◌, inl, inr, ℕ, ℤ, ◌+◌, ◌≤◌, zero, suc, refl, ◌∙◌, ap, arith, List, [], ◌∷◌, ◌++◌, length, take, drop, slice_get, Option, Some, None}
 use Rattle.std.proofs.lemmas.List.{length-append}
-use Rattle.pair_pool.specs.Trees.{Tree, leaf, cell}
-use Rattle.pair_pool.specs.Views.{PassView, IsPlaced}
 use Rattle.sym_table.specs.Leaf.{Leaf, nil, let_head, operator, function}
 use Rattle.sym_table.specs.Table.{Table, IsLeaf, IsFunctionNamed, FindsOrAdds, Keeps}
-use Rattle.term_model.specs.Terms.{Var, Fun, Term, Terms, Bindings, numeral, variable, operation, call, let_in, no_terms, term, no_bindings, binding}
-use Rattle.term_pool.specs.Building.{IsCellIn}
-use Rattle.term_pool.specs.StandsFor.{variable_leaf, function_leaf, IsLeafOf, StandsFor, StandsForApplication, StandsForList, StandsForBindings}
-use Rattle.term_pool.specs.Views.{TermsView, RefersTo, KeepsPass, KeepsTerms}
+use Rattle.sym_table.proofs.Tables.{keeps_table}
+use Rattle.term_model.specs.Terms.{Var, Fun, Term}
+use Rattle.term_pool.specs.StandsFor.{variable_leaf, function_leaf}
+use Rattle.term_pool.specs.Views.{TermsView, RefersTo, KeepsTerms, ReferToAll}
+use Rattle.term_pool.proofs.Keeping.{terms-refl, terms-trans}
+use Rattle.term_pool.proofs.Growth.{stays}
 use Rattle.problem_text.specs.Forms.{LetBinds}
 use Rattle.term_names.specs.Heads.{IsSymbolOf, IsMacroMeant, HeadMeans}
 use Rattle.term_reader.specs.Frames.{HasArgumentsSoFar, HasBindings, HasBody, WholeReading, AreFrames}
 use Rattle.term_expansion.specs.Free.{AreFreeLeaves}
 use Rattle.term_names.specs.InScope.{IsScoped, IsScope, AreValuesBound}
 use Rattle.term_names.specs.Known.{KnownView, known_entry, macro_of}
-use Rattle.term_names.specs.Making.{IsWantedCell, PlacesCellsOf, LacksCellOf}
 use Rattle.problem_text.specs.Names.{Bound, Place, Meaning}
 use Rattle.term_reader.specs.Turns.{ReaderStands}
 use Rattle.term_reader.specs.Resuming.{Waiting}
@@ -38,10 +37,6 @@ use Rattle.term_expansion.specs.declared.values.Bound as bound
 use Rattle.term_expansion.specs.declared.values.Value.{Value}
 use Rattle.term_expansion.specs.SymbolsAndTerms.{SymbolsAndTerms, both, Grow}
 
--- tables
-pub table_keeps_none : (s : Table) → Keeps s s
-table_keeps_none s = record { leaves = λ k l h. h; sorts = λ n name h. h }
-
 pub table_keeps_then : (s t z : Table) → Keeps s t → Keeps t z → Keeps s z
 table_keeps_then s t z h g = record {
   leaves = λ k l e. g.leaves k l (h.leaves k l e);
@@ -49,7 +44,7 @@ table_keeps_then s t z h g = record {
 }
 
 pub adds_none : (s : Table) → AddsNoSymbols s s
-adds_none s = record { keeps = table_keeps_none s; sorts = refl; functions = λ k f h. h }
+adds_none s = record { keeps = keeps_table s; sorts = refl; functions = λ k f h. h }
 
 pub adds_then : (s t z : Table) → AddsNoSymbols s t → AddsNoSymbols t z → AddsNoSymbols s z
 adds_then s t z h g = record {
@@ -88,75 +83,26 @@ leaf_more old new k l (inr h) =
     let f = length-append old.leaves (l ∷ []) in
     omega arith
 
--- passes
-pub pass_keeps_none : (p : PassView) → KeepsPass p p
-pass_keeps_none p = record { places = refl; shares = refl; grows = λ r t h. h; sees = λ r a b h. h }
-
-pub pass_keeps_then : (p q r : PassView) → KeepsPass p q → KeepsPass q r → KeepsPass p r
-pass_keeps_then p q r h g = record {
-  places = g.places ∙ h.places;
-  shares = g.shares ∙ h.shares;
-  grows = λ n t e. g.grows n t (h.grows n t e);
-  sees = λ n a b e. g.sees n a b (h.sees n a b e);
-}
-
-pub keeps_none : (v : TermsView) → KeepsTerms v v
-keeps_none v = record { pool = refl; pass = pass_keeps_none v.pass }
-
-pub keeps_then : (v w x : TermsView) → KeepsTerms v w → KeepsTerms w x → KeepsTerms v x
-keeps_then v w x h g = record { pool = g.pool ∙ h.pool; pass = pass_keeps_then v.pass w.pass x.pass h.pass g.pass }
-
 pub grow_none : (w : SymbolsAndTerms) → Grow w w
-grow_none w = record { symbols = table_keeps_none w.symbols; terms = keeps_none w.terms }
+grow_none w = record { symbols = keeps_table w.symbols; terms = terms-refl w.terms }
 
 pub grow_then : (u v w : SymbolsAndTerms) → Grow u v → Grow v w → Grow u w
 grow_then u v w h g = record {
   symbols = table_keeps_then u.symbols v.symbols w.symbols h.symbols g.symbols;
-  terms = keeps_then u.terms v.terms w.terms h.terms g.terms;
+  terms = terms-trans u.terms v.terms w.terms h.terms g.terms;
 }
 
 pub grow_by_terms_none : (w : SymbolsAndTerms) → GrowByTerms w w
-grow_by_terms_none w = record { symbols = adds_none w.symbols; terms = keeps_none w.terms }
+grow_by_terms_none w = record { symbols = adds_none w.symbols; terms = terms-refl w.terms }
 
 pub grow_by_terms_then : (u v w : SymbolsAndTerms) → GrowByTerms u v → GrowByTerms v w → GrowByTerms u w
 grow_by_terms_then u v w h g = record {
   symbols = adds_then u.symbols v.symbols w.symbols h.symbols g.symbols;
-  terms = keeps_then u.terms v.terms w.terms h.terms g.terms;
+  terms = terms-trans u.terms v.terms w.terms h.terms g.terms;
 }
 
 -- what a tree stands for
 module _ (s z : Table) (keeps : Keeps s z) where
-  leaf_of_stays : (l : Leaf) (a : Tree) → IsLeafOf s a l → IsLeafOf z a l
-  leaf_of_stays l (leaf k) h = keeps.leaves k l h
-  leaf_of_stays l (cell a b) h = absurd h
-
-  mutual
-    pub tree_stays : (t : Term) (a : Tree) → StandsFor s a t → StandsFor z a t
-    tree_stays (numeral n) a h = leaf_of_stays (Leaf.numeral (pos n)) a h
-    tree_stays (variable x) a h = leaf_of_stays (variable_leaf x) a h
-    tree_stays (operation op ts) a h = application_stays (operator op) ts a h
-    tree_stays (call f ts) a h = application_stays (function_leaf f) ts a h
-    tree_stays (let_in bs u) (leaf k) h = absurd h
-    tree_stays (let_in bs u) (cell a (leaf k)) h = absurd h.1
-    tree_stays (let_in bs u) (cell a (cell b c)) h = (h.0, (bindings_stay bs b h.1.0, tree_stays u c h.1.1))
-
-    application_stays : (l : Leaf) (ts : Terms) (a : Tree) → StandsForApplication s a l ts → StandsForApplication z a l ts
-    application_stays l no_terms a h = leaf_of_stays l a h
-    application_stays l (term t ts) (leaf k) h = absurd h
-    application_stays l (term t ts) (cell a (leaf k)) h = absurd h.1
-    application_stays l (term t ts) (cell a (cell b c)) h = (leaf_of_stays l a h.0, (tree_stays t b h.1.0, list_stays ts c h.1.1))
-
-    list_stays : (ts : Terms) (a : Tree) → StandsForList s a ts → StandsForList z a ts
-    list_stays no_terms a h = h
-    list_stays (term t ts) (leaf k) h = absurd h
-    list_stays (term t ts) (cell a b) h = (tree_stays t a h.0, list_stays ts b h.1)
-
-    bindings_stay : (bs : Bindings) (a : Tree) → StandsForBindings s a bs → StandsForBindings z a bs
-    bindings_stay no_bindings a h = h
-    bindings_stay (binding x t bs) (leaf k) h = absurd h
-    bindings_stay (binding x t bs) (cell (leaf k) b) h = absurd h.0
-    bindings_stay (binding x t bs) (cell (cell a c) b) h = ((leaf_of_stays (variable_leaf x) a h.0.0, tree_stays t c h.0.1), bindings_stay bs b h.1)
-
   pub leaves_stay : (ks : List ℕ) (xs : List Var) → AreLeavesOf s ks xs → AreLeavesOf z ks xs
   leaves_stay = zip_weaken _ _ (λ k x h. keeps.leaves k (variable_leaf x) h)
 
@@ -176,8 +122,11 @@ module _ (s z : Table) (v w : TermsView) (keeps : Keeps s z) (terms : KeepsTerms
   refers_stays r t h = record {
     tree = h.tree;
     known = terms.pass.grows r h.tree h.known;
-    stands = tree_stays s z keeps t h.tree h.stands;
+    stands = stays s z keeps t h.tree h.stands;
   }
+
+  pub all_stay : (rs : List ℕ) (ts : List Term) → ReferToAll s v rs ts → ReferToAll z w rs ts
+  all_stay = zip_weaken (RefersTo s v) (RefersTo z w) refers_stays
 
   pub value_stays : (c : Value) (t : Typed) → IsValue (both s v) c t → IsValue (both z w) c t
   value_stays c t h = record { refers = refers_stays c.term t.tree h.refers; sort = h.sort; high = h.high; plain = h.plain }
@@ -363,53 +312,3 @@ module _ (s z : Table) (v w : TermsView) (adds : AddsNoSymbols s z) (terms : Kee
     settings = h.settings;
     low = h.low;
   }
-
--- Placed cells.
--- nothing is placed
-pub places_none : (s : Table) (old new : PassView) (P : Term → Type 0) → new.placed ≡ old.placed → PlacesCellsOf s old new P
-places_none s old new P e r a b h = inl (rw e at h)
-
--- a cell stays a cell
-pub cell_in_stays : (p q : PassView) → KeepsPass p q → (a b : ℕ) (t : Tree) → IsCellIn p a b t → IsCellIn q a b t
-cell_in_stays p q keeps a b t h = record {
-  first = h.first;
-  second = h.second;
-  first_known = keeps.grows a h.first h.first_known;
-  second_known = keeps.grows b h.second h.second_known;
-  part = h.part;
-}
-
-pub cell_stays : (s z : Table) (p q : PassView) (P : Term → Type 0) → Keeps s z → KeepsPass p q → (a b : ℕ) → IsWantedCell s p P a b → IsWantedCell z q P a b
-cell_stays s z p q P table keeps a b h = record {
-  whole = h.whole;
-  wanted = h.wanted;
-  tree = h.tree;
-  stands = tree_stays s z table h.whole h.tree h.stands;
-  cell = cell_in_stays p q keeps a b h.tree h.cell;
-}
-
-pub cell_more : (s : Table) (p : PassView) (P Q : Term → Type 0) → ((t : Term) → P t → Q t) → (a b : ℕ) → IsWantedCell s p P a b → IsWantedCell s p Q a b
-cell_more s p P Q more a b h = record { whole = h.whole; wanted = more h.whole h.wanted; tree = h.tree; stands = h.stands; cell = h.cell }
-
--- one call and then another
-pub places_then : (s z : Table) (a b c : PassView) (P : Term → Type 0) → Keeps s z → KeepsPass b c → PlacesCellsOf s a b P → PlacesCellsOf z b c P
-    → PlacesCellsOf z a c P
-places_then s z a b c P table keeps h k r m n e = go (k r m n e)
-  where
-    earlier : IsPlaced a r m n ⊎ IsWantedCell s b P m n → IsPlaced a r m n ⊎ IsWantedCell z c P m n
-    earlier (inl x) = inl x
-    earlier (inr y) = inr (cell_stays s z b c P table keeps m n y)
-
-    go : IsPlaced b r m n ⊎ IsWantedCell z c P m n → IsPlaced a r m n ⊎ IsWantedCell z c P m n
-    go (inl x) = earlier (h r m n x)
-    go (inr y) = inr y
-
-pub places_more : (s : Table) (a b : PassView) (P Q : Term → Type 0) → ((t : Term) → P t → Q t) → PlacesCellsOf s a b P → PlacesCellsOf s a b Q
-places_more s a b P Q more h r m n e = go (h r m n e)
-  where
-    go : IsPlaced a r m n ⊎ IsWantedCell s b P m n → IsPlaced a r m n ⊎ IsWantedCell s b Q m n
-    go (inl x) = inl x
-    go (inr y) = inr (cell_more s b P Q more m n y)
-
-pub lacks_more : (s : Table) (p : PassView) (P Q : Term → Type 0) → ((t : Term) → P t → Q t) → LacksCellOf s p P → LacksCellOf s p Q
-lacks_more s p P Q more h = record { whole = h.whole; wanted = more h.whole h.wanted; tree = h.tree; stands = h.stands; full = h.full }

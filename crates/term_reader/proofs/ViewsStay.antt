@@ -1,8 +1,6 @@
--- What a problem and a reader of terms stand for stays as the table gets numerals and variables, and as the pool grows.
-use Rattle.std.proofs.Common.{ℕ, List, [], ◌∷◌}
+-- Cited by crates above. What a problem and a reader of terms stand for stays as the table gets numerals and variables, and as the pool grows.
 use Rattle.sym_table.specs.Table.{Table}
-use Rattle.term_model.specs.Terms.{Term}
-use Rattle.term_pool.specs.Views.{TermsView, KeepsTerms, ReferToAll}
+use Rattle.term_pool.specs.Views.{TermsView, KeepsTerms}
 use Rattle.term_names.specs.Entries.{no_entries}
 use Rattle.problem_text.specs.Names.{Place}
 use Rattle.term_reader.specs.ProblemViews.{ProblemView, ReaderView, IsProblemOf, IsReaderOf}
@@ -10,16 +8,10 @@ use Rattle.term_reader.specs.Reading.{IsReaderIdle}
 use Rattle.problem_text.specs.Scripts.{Script}
 use Rattle.term_names.specs.Standing.{AddsNoSymbols}
 use Rattle.term_reader.specs.ReadingViews.{ReadingView}
-use Rattle.term_reader.proofs.Staying.{leaves_stay, refers_stays, scope_stays, script_stays}
+use Rattle.term_reader.proofs.Staying.{leaves_stay, scope_stays, script_stays, all_stay}
 use Rattle.term_expansion.specs.SymbolsAndTerms.{both}
 
 module _ (s z : Table) (v w : TermsView) (adds : AddsNoSymbols s z) (terms : KeepsTerms v w) where
-  refer_stays : (rs : List ℕ) (ts : List Term) → ReferToAll s v rs ts → ReferToAll z w rs ts
-  refer_stays [] [] h = h
-  refer_stays [] (t ∷ ts) h = absurd h
-  refer_stays (r ∷ rs) [] h = absurd h
-  refer_stays (r ∷ rs) (t ∷ ts) h = (refers_stays s z v w adds.keeps terms r t h.0, refer_stays rs ts h.1)
-
   idle_stays : (r : ReadingView) (sc : Script) (p : Place) → IsReaderIdle (both s v) r sc p → IsReaderIdle (both z w) r sc p
   idle_stays r sc p h = record {
     script = script_stays s z v w adds terms r.names.known sc h.script;
@@ -42,5 +34,5 @@ module _ (s z : Table) (v w : TermsView) (adds : AddsNoSymbols s z) (terms : Kee
   pub problem_stays : (p : ProblemView) (sc : Script) → IsProblemOf s v p sc → IsProblemOf z w p sc
   problem_stays p sc h = record {
     script = script_stays s z v w adds terms (record { base = p.entries; own = no_entries }) sc h.script;
-    assertions = refer_stays p.assertions sc.assertions h.assertions;
+    assertions = all_stay s z v w adds.keeps terms p.assertions sc.assertions h.assertions;
   }

@@ -14,7 +14,7 @@ use Rattle.term_expansion.specs.SymbolsAndTerms.{SymbolsAndTerms}
 use Rattle.term_expansion.specs.Values.{IsValue}
 use Rattle.term_expansion.specs.declared.values.Value.{Value}
 use Rattle.term_names.specs.InScope.{IsScope}
-use Rattle.term_names.specs.Making.{PlacesCellsOf, LacksCellOf}
+use Rattle.term_pool.specs.Placing.{PlacesCellsOf, LacksCellOf}
 use Rattle.term_names.specs.Standing.{IsScript}
 use Rattle.term_names.specs.declared.faults.ReadFault.{ReadFault}
 use Rattle.term_reader.specs.ReadingViews.{ReadingView}

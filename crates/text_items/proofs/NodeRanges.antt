@@ -1,4 +1,4 @@
--- Cited by crates above. Items as ranges of nodes: what is pushed behind them, or set outside of them, changes nothing.
+-- Items as ranges of nodes: what is pushed behind them, or set outside of them, changes nothing.
 use Rattle.std.proofs.Common.{◌≡◌, ℕ, zero, suc, ◌+◌, ◌<◌, ◌≤◌, arith, List, [], ◌∷◌, ◌++◌, length, length-append, Some, refl, sym, ap, ◌∙◌, subst, slice_get, slice_set}
 use Rattle.std.proofs.Math.ListN.{length-set}
 use Rattle.sexpr.specs.declared.lexing.Token.{Token}

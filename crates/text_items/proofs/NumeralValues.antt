@@ -1,4 +1,4 @@
--- The values of numerals, digit by digit.
+-- Cited by crates above. The values of numerals, digit by digit.
 use Rattle.std.proofs.Common.{ℕ, zero, suc, ◌+◌, ◌-◌, ◌*◌, ◌<◌, ◌≤◌, arith, List, [], ◌∷◌, length, take, fold, get_or, Some, None, Option}
 use Rattle.std.specs.Option.{IfNone}
 use Rattle.std.proofs.lemmas.List.Sums.{fold_more}

@@ -2,7 +2,8 @@
 use Rattle.std.proofs.Common.{arith, refl, ap, length}
 use Rattle.std.proofs.lemmas.Result.{err_from_is_err_and}
 use Rattle.text_items.proofs.ItemsAtLemmas.{no_items_are}
-use Rattle.term_reader.proofs.Staying.{adds_none, adds_then, keeps_none, keeps_then}
+use Rattle.term_pool.proofs.Keeping.{terms-refl, terms-trans}
+use Rattle.term_reader.proofs.Staying.{adds_none, adds_then}
 use Rattle.alethe_text.specs.Commands.{arguments_in}
 use Rattle.alethe_reader.proofs.ArgumentLoop.{begins, others_fit, first_split, ends, fails, goes_on}
 use Rattle.alethe_reader.proofs.anchor_arguments.read_arguments.Goals as goal
@@ -12,7 +13,7 @@ arguments-init c = record {
   there = c.requires.arguments;
   left = λ settings p. begins _ _ _ c.args.bound.now (record c.args.bound.now { opened = c.clear.new.self }) refl refl c.clear.ensures.items settings p _;
   symbols = adds_none c.args.symbols.now;
-  keeps = keeps_none c.args.terms.now;
+  keeps = terms-refl c.args.terms.now;
   few = omega arith;
 }
 
@@ -37,7 +38,7 @@ arguments-preserved c = record {
       goes_on l c.read_argument.ensures.grow.symbols c.read_argument.ensures.grow.terms (first_split c.args.items.now c.arguments.k c.arguments.invariant.there (rw c.count.ensures at c.arguments-test.true) _ c.node-k.ensures.next)
       (c.in_ok-read_argument.ensures.read settings l.earlier l.read l.now l.opening);
   symbols = adds_then _ _ _ c.arguments.invariant.symbols c.read_argument.ensures.grow.symbols;
-  keeps = keeps_then _ _ _ c.arguments.invariant.keeps c.read_argument.ensures.grow.terms;
+  keeps = terms-trans _ _ _ c.arguments.invariant.keeps c.read_argument.ensures.grow.terms;
   few = omega (arith, c.count.ensures, c.arguments-test.true, c.node-k.ensures.next, c.node-k.ensures.behind, c.node-k.ensures.inside, c.in_ok-read_argument.ensures.spent, c.arguments.invariant.few);
 }
 

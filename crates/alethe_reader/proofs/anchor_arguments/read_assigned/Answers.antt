@@ -2,7 +2,8 @@
 use Rattle.std.proofs.Common.{refl, ap}
 use Rattle.std.proofs.lemmas.Result.{err_from_is_err_and}
 use Rattle.text_items.specs.ItemShapes.{Name}
-use Rattle.term_reader.proofs.Staying.{adds_then, adds_variable, keeps_then}
+use Rattle.term_pool.proofs.Keeping.{terms-trans}
+use Rattle.term_reader.proofs.Staying.{adds_then, adds_variable}
 use Rattle.alethe_text.specs.ProofTerms.{place_in}
 use Rattle.term_reader.proofs.Coming.{refuses}
 use Rattle.alethe_reader.proofs.TermAnswers.{value_answers}
@@ -58,15 +59,15 @@ returns-in_err-push-clause-read c settings earlier bs p opening =
     (image_answers opening c.args.assigned.place _ _ c.named_at-variable.result c.named_at-variable.ensures c.in_ok-judge_variable.ensures c.in_ok-sort_wanted.ensures c.in_ok-value.ensures.read c.value_at.ensures.grow.symbols c.value_at.ensures.grow.terms c.image_at.ensures.keeps c.in_ok-image.ensures.read))
 
 pub returns-in_err-push-clause-grow : goal.returns-in_err-push-clause-grow
-returns-in_err-push-clause-grow c = record { symbols = adds_then _ _ _ c.value_at.ensures.grow.symbols (adds_variable _ _ c.in_ok-leaf.leaf (record { name = c.named_at-variable.result.name.now; sort = c.in_ok-value.value.sort }) c.in_ok-leaf.ensures.found_or_new c.variable.ensures.keeps); terms = keeps_then _ _ _ c.value_at.ensures.grow.terms c.image_at.ensures.keeps }
+returns-in_err-push-clause-grow c = record { symbols = adds_then _ _ _ c.value_at.ensures.grow.symbols (adds_variable _ _ c.in_ok-leaf.leaf (record { name = c.named_at-variable.result.name.now; sort = c.in_ok-value.value.sort }) c.in_ok-leaf.ensures.found_or_new c.variable.ensures.keeps); terms = terms-trans _ _ _ c.value_at.ensures.grow.terms c.image_at.ensures.keeps }
 
 pub returns-clause-read : goal.returns-clause-read
 returns-clause-read c settings earlier bs p opening =
     let added = adds_variable _ _ c.in_ok-leaf.leaf (record { name = c.named_at-variable.result.name.now; sort = c.in_ok-value.value.sort }) c.in_ok-leaf.ensures.found_or_new c.variable.ensures.keeps in
-    argument_done _ _ _ _ _ settings earlier bs p c.args.bound.now c.push.new.self c.args.reader.now c.value_at.new.self opening c.value_at.ensures.grow.symbols added (keeps_then _ _ _ c.value_at.ensures.grow.terms c.image_at.ensures.keeps)
+    argument_done _ _ _ _ _ settings earlier bs p c.args.bound.now c.push.new.self c.args.reader.now c.value_at.new.self opening c.value_at.ensures.grow.symbols added (terms-trans _ _ _ c.value_at.ensures.grow.terms c.image_at.ensures.keeps)
     c.named_at-variable.result.name.now _ c.in_ok-value.value c.in_ok-leaf.leaf c.in_ok-image.image (ap (λ (n : Name). n.name) c.named_at-variable.ensures) (name_free _ _ _ _ c.in_ok-judge_variable.ensures).1 c.in_ok-leaf.ensures.leaf
     c.in_ok-push.ensures.names c.in_ok-push.ensures.images c.in_ok-push.ensures.opened
     (image_answers opening c.args.assigned.place _ _ c.named_at-variable.result c.named_at-variable.ensures c.in_ok-judge_variable.ensures c.in_ok-sort_wanted.ensures c.in_ok-value.ensures.read c.value_at.ensures.grow.symbols c.value_at.ensures.grow.terms c.image_at.ensures.keeps c.in_ok-image.ensures.read)
 
 pub returns-clause-grow : goal.returns-clause-grow
-returns-clause-grow c = record { symbols = adds_then _ _ _ c.value_at.ensures.grow.symbols (adds_variable _ _ c.in_ok-leaf.leaf (record { name = c.named_at-variable.result.name.now; sort = c.in_ok-value.value.sort }) c.in_ok-leaf.ensures.found_or_new c.variable.ensures.keeps); terms = keeps_then _ _ _ c.value_at.ensures.grow.terms c.image_at.ensures.keeps }
+returns-clause-grow c = record { symbols = adds_then _ _ _ c.value_at.ensures.grow.symbols (adds_variable _ _ c.in_ok-leaf.leaf (record { name = c.named_at-variable.result.name.now; sort = c.in_ok-value.value.sort }) c.in_ok-leaf.ensures.found_or_new c.variable.ensures.keeps); terms = terms-trans _ _ _ c.value_at.ensures.grow.terms c.image_at.ensures.keeps }

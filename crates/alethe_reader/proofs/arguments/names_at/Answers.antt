@@ -1,6 +1,7 @@
 -- One node after another.
 use Rattle.std.proofs.Common.{arith, sym, ◌∙◌}
-use Rattle.term_reader.proofs.Staying.{adds_none, adds_then, keeps_none, keeps_then}
+use Rattle.term_pool.proofs.Keeping.{terms-refl, terms-trans}
+use Rattle.term_reader.proofs.Staying.{adds_none, adds_then}
 use Rattle.alethe_text.specs.ProofTerms.{place_in}
 use Rattle.alethe_reader.proofs.LeftToRead.{hands_on, none_gone, more_gone, within_end}
 use Rattle.alethe_reader.proofs.NamedArguments.{left_first, all_read, left_inside, no_term, left_behind}
@@ -27,7 +28,7 @@ returns-in_err-value_at-clause-read c settings nesting p h =
     (value_answers _ _ _ settings nesting _ _ left.state _ (c.in_err-value_at.ensures.read left.state.script (place_in settings nesting) left.holds.behind.reader)))
 
 pub returns-in_err-value_at-clause-grow : goal.returns-in_err-value_at-clause-grow
-returns-in_err-value_at-clause-grow c = record { symbols = adds_then _ _ _ c.arguments.invariant.gone.adds c.value_at.ensures.grow.symbols; terms = keeps_then _ _ _ c.arguments.invariant.gone.keeps c.value_at.ensures.grow.terms }
+returns-in_err-value_at-clause-grow c = record { symbols = adds_then _ _ _ c.arguments.invariant.gone.adds c.value_at.ensures.grow.symbols; terms = terms-trans _ _ _ c.arguments.invariant.gone.keeps c.value_at.ensures.grow.terms }
 
 pub arguments-preserved-then-is_naming : goal.arguments-preserved-then-is_naming
 arguments-preserved-then-is_naming c = record {
@@ -41,7 +42,7 @@ arguments-preserved-then-is_naming c = record {
 
 pub arguments-preserved : goal.arguments-preserved
 arguments-preserved c = record {
-  gone = more_gone c.arguments.invariant.gone (adds_none _) (keeps_none _) (omega arith) (omega (arith, c.arguments-test.true)) (omega arith);
+  gone = more_gone c.arguments.invariant.gone (adds_none _) (terms-refl _) (omega arith) (omega (arith, c.arguments-test.true)) (omega arith);
   left = λ settings nesting p h. left_inside (c.arguments.invariant.left settings nesting p h) c.node-behind.ensures c.arguments-test.true c.requires.items.inside (sym c.is_naming.ensures ∙ c.if-is_naming.false)
       (within_end c.node-behind.ensures c.requires.items.nested c.arguments.invariant.gone c.arguments-test.true);
 }

@@ -1,11 +1,12 @@
 -- The name has its number, or it gets the next one.
 use Rattle.std.proofs.Common.{◌∙◌, ◌++◌, [], ◌∷◌, inl, inr, refl, sym, ap, slice_get}
-use Rattle.term_names.proofs.HeldVariables.{at_place, slice_get-last}
+use Rattle.sym_table.proofs.Places.{position-there}
+use Rattle.term_names.proofs.HeldVariables.{slice_get-last}
 use Rattle.alethe_reader.proofs.ids.number_of.Goals as goal
 
 pub returns-in-Some-clause-number : goal.returns-in-Some-clause-number
 returns-in-Some-clause-number c = record {
-  number = at_place c.args.names.now c.in-Some.number c.args.name.now (sym c.requires.number ∙ c.in-Some.is);
+  number = position-there c.args.names.now c.args.name.now c.in-Some.number (sym c.requires.number ∙ c.in-Some.is);
   others = inl (refl, refl);
 }
 

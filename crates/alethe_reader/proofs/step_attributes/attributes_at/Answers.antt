@@ -2,9 +2,10 @@
 use Rattle.std.proofs.Common.{arith, refl, sym, ap, ◌∙◌, [], Some, None, if◌then◌else◌}
 use Rattle.std.proofs.lemmas.Result.{err_from_is_err_and}
 use Rattle.term_model.specs.Terms.{Term}
+use Rattle.term_pool.proofs.Keeping.{terms-refl, terms-trans}
 use Rattle.rule_model.specs.Proofs.{Step}
 use Rattle.rule_model.specs.declared.rules.Rule.{Rule}
-use Rattle.term_reader.proofs.Staying.{adds_none, adds_then, keeps_none, keeps_then}
+use Rattle.term_reader.proofs.Staying.{adds_none, adds_then}
 use Rattle.alethe_text.specs.Arguments.{takes_coefficients}
 use Rattle.alethe_reader.proofs.AttributeReading.{stands_still, so_far_first, all_read, fails, so_far_next, own_fit, others_kept}
 use Rattle.alethe_reader.proofs.step_attributes.attributes_at.Goals as goal
@@ -20,7 +21,7 @@ attributes-init c =
       there = c.requires.attributes;
       spent = omega arith;
       adds = adds_none c.args.symbols.now;
-      keeps = keeps_none c.args.terms.now;
+      keeps = terms-refl c.args.terms.now;
       others = record { builder = refl; ids = refl; anchors = refl; bound = refl; clause = c.clear.ensures.clause };
       so_far = λ at p before stands same is_bare.
           so_far_first _ at c.args.step.standing p before c.args.symbols.now c.args.terms.now session _
@@ -46,7 +47,7 @@ returns-in_err-attribute_at-clause-read c at p before stands same is_bare =
 pub returns-in_err-attribute_at-clause-grow : goal.returns-in_err-attribute_at-clause-grow
 returns-in_err-attribute_at-clause-grow c = record {
   symbols = adds_then _ _ _ c.attributes.invariant.adds c.attribute_at.ensures.grow.symbols;
-  terms = keeps_then _ _ _ c.attributes.invariant.keeps c.attribute_at.ensures.grow.terms;
+  terms = terms-trans _ _ _ c.attributes.invariant.keeps c.attribute_at.ensures.grow.terms;
 }
 
 pub attributes-preserved : goal.attributes-preserved
@@ -54,7 +55,7 @@ attributes-preserved c = record {
   there = rw c.count.ensures at c.in-Some.ensures.others;
   spent = omega (arith, own_fit c.attributes.at c.next_attribute.new.at c.in-Some.attribute c.in-Some.ensures.within, c.count.ensures, c.in-Some.ensures.later, c.in-Some.ensures.inside, c.in_ok-attribute_at.ensures.spent, c.attributes.invariant.spent);
   adds = adds_then _ _ _ c.attributes.invariant.adds c.attribute_at.ensures.grow.symbols;
-  keeps = keeps_then _ _ _ c.attributes.invariant.keeps c.attribute_at.ensures.grow.terms;
+  keeps = terms-trans _ _ _ c.attributes.invariant.keeps c.attribute_at.ensures.grow.terms;
   others = others_kept _ _ _ c.attributes.invariant.others c.attribute_at.ensures.others;
   so_far = λ at p before stands same is_bare.
       let h = c.attributes.invariant.so_far at p before stands same is_bare in

@@ -1,9 +1,9 @@
 use Rattle.std.proofs.Common.{rules, ◌^◌, ◌∙◌, Err, ap, inl, inr}
 use Rattle.term_model.specs.Terms.{Term}
-use Rattle.term_names.specs.Making.{PlacesCellsOf, LacksCellOf}
+use Rattle.term_pool.specs.Placing.{PlacesCellsOf, LacksCellOf}
+use Rattle.term_pool.proofs.PlacedCells.{lacks_more}
 use Rattle.alethe_reader.specs.Reading.{IsCountedOfProof, IsProofOf}
 use Rattle.term_reader.specs.ProblemViews.{IsProblemOf}
-use Rattle.term_reader.proofs.Staying.{lacks_more}
 use Rattle.carcara_cli.specs.Cells.{HasMoreCells}
 use Rattle.carcara_cli.specs.Pools.{HoldsOnly}
 use Rattle.carcara_cli.specs.Reading.{settings_of, IsReadOf, NeedsRoom}

@@ -1,15 +1,15 @@
 use Rattle.std.proofs.Common.{◌≡◌, ◌^◌, ◌∙◌, sym, subst, inl, inr, arith}
+use Rattle.sym_table.proofs.Tables.{keeps_table}
 use Rattle.term_model.specs.Terms.{Term}
-use Rattle.term_names.specs.Making.{PlacesCellsOf, LacksCellOf}
-use Rattle.term_reader.proofs.Staying.{lacks_more}
-use Rattle.proof_contexts.proofs.Growing.{keeps_table}
+use Rattle.term_pool.specs.Placing.{PlacesCellsOf, LacksCellOf}
+use Rattle.term_pool.proofs.PlacedCells.{lacks_more}
 use Rattle.step_check.specs.Statuses.{IsPlacedOf}
 use Rattle.carcara_cli.specs.Cells.{HasMoreCells}
 use Rattle.carcara_cli.specs.Pools.{HoldsOnly}
 use Rattle.rule_model.specs.Conditions.{IsClauseOfTruths}
 use Rattle.rule_model.specs.Reading.{clause_at}
 use Rattle.carcara_cli.specs.Reading.{settings_of, IsReadOf, NeedsRoom}
-use Rattle.carcara_cli.proofs.CellLemmas.{has_more_cells, holds_kind, holds_more, lacking_cell, placed_cells}
+use Rattle.carcara_cli.proofs.CellLemmas.{has_more_cells, holds_kind, holds_more}
 use Rattle.carcara_cli.proofs.JudgementLemmas.{judged_proof}
 use Rattle.carcara_cli.proofs.TruthClauses.{clauses_of_truths}
 use Rattle.carcara_cli.proofs.VerdictLemmas.{short_stands}
@@ -64,8 +64,8 @@ returns-in-Err-PoolFull c = λ bits places.
     let P : Term → Type 0 = IsPlacedOf both.read.proof in
     let Q : Term → Type 0 = NeedsRoom t.problem.now t.options.replaces_lets t.proof.now in
     let more : (u : Term) → P u → Q u = λ u h. inr (record { script = both.script; commands = both.read.proof; after = both.read.after; problem_text = both.problem_text; proof_text = both.read.stands; placed = h }) in
-    let placed : PlacesCellsOf s old new P = placed_cells s old new P (c.judge_commands.ensures.placed both.read.proof both.read.refer) in
-    let lacks : LacksCellOf s new P = lacking_cell s new P (c.in-Err-PoolFull.ensures.full c.in-Err-PoolFull.field-0-is both.read.proof both.read.refer) in
+    let placed : PlacesCellsOf s old new P = c.judge_commands.ensures.placed both.read.proof both.read.refer in
+    let lacks : LacksCellOf s new P = c.in-Err-PoolFull.ensures.full c.in-Err-PoolFull.field-0-is both.read.proof both.read.refer in
     let held : HoldsOnly s old Q = holds_kind s old (IsReadOf t.problem.now t.options.replaces_lets t.proof.now) Q (λ u h. inl h) c.requires.holds in
     let holds : HoldsOnly s new Q = holds_more s s old new P Q more (keeps_table s) c.judge_commands.ensures.keeps.pass held placed in
     let cells : HasMoreCells Q (2 ^ bits) =

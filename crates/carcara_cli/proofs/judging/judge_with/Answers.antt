@@ -1,8 +1,8 @@
 use Rattle.std.proofs.Common.{◌^◌, ◌∙◌, Err, ap, inl}
 use Rattle.term_model.specs.Terms.{Term}
-use Rattle.term_names.specs.Making.{PlacesCellsOf, LacksCellOf}
+use Rattle.term_pool.specs.Placing.{PlacesCellsOf, LacksCellOf}
+use Rattle.term_pool.proofs.PlacedCells.{lacks_more}
 use Rattle.term_reader.specs.ProblemViews.{IsCounted}
-use Rattle.term_reader.proofs.Staying.{lacks_more}
 use Rattle.carcara_cli.specs.Cells.{HasMoreCells}
 use Rattle.carcara_cli.specs.Pools.{HoldsOnly}
 use Rattle.carcara_cli.specs.Reading.{IsReadOf, NeedsRoom}

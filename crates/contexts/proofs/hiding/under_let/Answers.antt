@@ -2,13 +2,14 @@ use Rattle.std.proofs.Common.{◌≡◌, length, arith}
 use Rattle.std.proofs.lemmas.Bool.Decides.{nat_tests}
 use Rattle.std.proofs.lemmas.Result.{IfOk-weaker}
 use Rattle.std.proofs.lemmas.List.Sorted.{Contains-permutation, IsPermutation-sym}
-use Rattle.contexts.proofs.HidingLeaves.{hides_same, hides_under, hides_at, no_items}
+use Rattle.std.proofs.lemmas.List.{nil_from_length}
+use Rattle.contexts.proofs.HidingLeaves.{hides_same, hides_under, hides_at}
 use Rattle.contexts.proofs.hiding.under_let.Goals as goal
 
 pub returns-then-is_empty-clause-hides : goal.returns-then-is_empty-clause-hides
 returns-then-is_empty-clause-hides c =
     let none : length c.in_ok-new.new.items ≡ 0 = grind (arith, nat_tests) in
-    hides_same _ _ _ _ _ _ _ (no_items _ none) (rw (c.list-hidden.ensures, c.deref.ensures.value) at c.in_ok-new.ensures) c.in_ok-bound.ensures.leaves
+    hides_same _ _ _ _ _ _ _ (nil_from_length _ none) (rw (c.list-hidden.ensures, c.deref.ensures.value) at c.in_ok-new.ensures) c.in_ok-bound.ensures.leaves
 
 pub returns-clause-hides : goal.returns-clause-hides
 returns-clause-hides c =

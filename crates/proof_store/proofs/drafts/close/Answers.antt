@@ -1,5 +1,5 @@
 -- The command that was added closes the scope, and the scope around it is written on.
-use Rattle.std.proofs.Common.{rules, arith, ◌≡◌, ◌<◌, ◌-◌, ◌^◌, suc, Some, sym, ◌∙◌, ap}
+use Rattle.std.proofs.Common.{rules, arith, ◌≡◌, ◌<◌, ◌-◌, ◌^◌, suc}
 use Rattle.rule_model.specs.Scopes.{next_index}
 use Rattle.proof_store.specs.Drafts.{proof_of}
 use Rattle.proof_store.proofs.ScopeWriting.{owner_of, owner_is, opened_here, close_writes}

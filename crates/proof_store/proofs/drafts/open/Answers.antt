@@ -1,5 +1,5 @@
 -- The scope that was added is written on.
-use Rattle.std.proofs.Common.{rules, arith, ◌<◌, ◌-◌, ◌^◌, suc}
+use Rattle.std.proofs.Common.{arith, ◌<◌, ◌-◌, ◌^◌, suc}
 use Rattle.rule_model.specs.Scopes.{next_scope}
 use Rattle.proof_store.specs.Drafts.{proof_of}
 use Rattle.proof_store.proofs.ScopeWriting.{open_writes}

@@ -1,5 +1,5 @@
 -- By the commands in step.
-use Rattle.std.proofs.Common.{◌≡◌, [], None, Some}
+use Rattle.std.proofs.Common.{[], None}
 use Rattle.rule_model.specs.declared.rules.Rule.{Rule}
 use Rattle.rule_model.specs.Reading.{id_of, rule_of, rule_name_of, premises_of, discharged_of, ratios_of}
 use Rattle.proof_store.proofs.MeaningLemmas.{IsEntryOf, commands_same, subproofs_same, zip_same, entries_stand, same_id, same_rule, same_rule_name, same_premises, same_discharged, same_ratios}

@@ -1,5 +1,5 @@
 -- By the commands and the scopes in step.
-use Rattle.std.proofs.Common.{◌≡◌, [], None}
+use Rattle.std.proofs.Common.{[], None}
 use Rattle.std.specs.List.{AllZip}
 use Rattle.term_pool.specs.Views.{RefersTo}
 use Rattle.rule_model.specs.Commands.{scopes}

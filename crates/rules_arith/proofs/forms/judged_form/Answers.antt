@@ -3,8 +3,9 @@ use Rattle.std.proofs.Common.{[], refl, sym, subst}
 use Rattle.std.proofs.lemmas.Bool.{false≢true}
 use Rattle.rule_model.specs.Arithmetic.{MeetsFormSimplification, IsWideFormSimplification}
 use Rattle.rules_arith.specs.Answers.{Tells}
-use Rattle.rules_arith.proofs.FormLemmas.{sorted_are_terms, sides_sorted, sorted_is_term, states_none, left_is_none, right_is_none, form_tells}
+use Rattle.rules_arith.proofs.FormLemmas.{sorted_are_terms, sides_sorted, states_none, left_is_none, right_is_none, form_tells}
 use Rattle.rules_arith.proofs.forms.judged_form.Goals as goal
+use Rattle.sort_check.proofs.Leaves.{sorted_is_term}
 
 pub equation-requires : goal.equation-requires
 equation-requires c = sorted_are_terms c.args.symbols.now c.args.terms.now c.args.clause.now c.requires

@@ -6,13 +6,14 @@ use Rattle.line_judging.specs.Weights.{IsLineOfTerms}
 use Rattle.proof_store.specs.Ratios.{fraction_of_ratio}
 use Rattle.term_pool.specs.Views.{RefersTo}
 use Rattle.rules_arith.specs.Lines.{AreLinesFound}
-use Rattle.rules_arith.proofs.LineLemmas.{same_lengths, there_are, term_at, ratio_at, lowest_at, no_line, one_more}
+use Rattle.rules_arith.proofs.LineLemmas.{same_lengths, term_at, ratio_at, lowest_at, no_line, one_more}
 use Rattle.rules_arith.proofs.lines.read_lines.Goals as goal
+use Rattle.schema_match.proofs.ReferLemmas.{refer_length}
 
 pub returns-then-clause-ratios-clause-lines : goal.returns-then-clause-ratios-clause-lines
 returns-then-clause-ratios-clause-lines c ts refer ls are =
     let lengths : length c.args.clause.now ≡ length c.args.ratios.now =
-    there_are c.args.symbols.now c.args.terms.now c.args.clause.now ts refer ∙ (same_lengths ts (map fraction_of_ratio c.args.ratios.now) ls are ∙ length-map c.args.ratios.now fraction_of_ratio) in
+    refer_length c.args.symbols.now c.args.terms.now c.args.clause.now ts refer ∙ (same_lengths ts (map fraction_of_ratio c.args.ratios.now) ls are ∙ length-map c.args.ratios.now fraction_of_ratio) in
     let other = c.if-clause-ratios.true in
     absurd (omega (arith, lengths, other))
 
@@ -64,7 +65,7 @@ returns-clause-lines c ts refer =
     let k = c.literals.k in
     let qs = map fraction_of_ratio c.args.ratios.now in
     let test = c.literals-test.false in
-    let count = there_are s v c.args.clause.now ts refer in
+    let count = refer_length s v c.args.clause.now ts refer in
     let lengths = c.if-clause-ratios.false in
     let all_ts = take_all k ts (omega (arith, test, count)) in
     let all_qs = take_all k qs (omega (arith, test, lengths, length-map c.args.ratios.now fraction_of_ratio)) in

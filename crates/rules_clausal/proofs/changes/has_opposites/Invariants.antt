@@ -1,8 +1,8 @@
 use Rattle.std.proofs.Common.{◌≡◌, List}
 use Rattle.term_model.specs.Terms.{Term}
 use Rattle.term_pool.specs.Views.{ReferToAll}
+use Rattle.term_pool.proofs.References.{AreOne}
 use Rattle.rules_clausal.specs.Sorting.{IsInOrder}
-use Rattle.schema_match.proofs.ReferLemmas.{AreOne}
 use Rattle.rules_clausal.proofs.OppositeLemmas.{NoneTo}
 use Rattle.rules_clausal.proofs.changes.has_opposites.Given as goal
 

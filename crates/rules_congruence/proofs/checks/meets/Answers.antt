@@ -1,7 +1,7 @@
 use Rattle.std.proofs.lemmas.Result.{IfOk-weaker}
-use Rattle.rules_congruence.proofs.PartLemmas.{false_is}
 use Rattle.rules_congruence.proofs.StepLemmas.{none_left, cong_by, eq_congruent_by, eq_congruent_pred_by}
 use Rattle.rules_congruence.proofs.checks.meets.Goals as goal
+use Rattle.term_parts.proofs.PartLemmas.{false_is}
 
 pub returns-in-Symm-clause-met : goal.returns-in-Symm-clause-met
 returns-in-Symm-clause-met c = rw c.in-Symm.is c.turns_round.ensures.met

@@ -4,8 +4,8 @@ use Rattle.term_model.specs.Terms.{Term}
 use Rattle.term_pool.specs.Views.{RefersTo}
 use Rattle.rules_congruence.specs.Links.{TellsSides}
 use Rattle.rules_congruence.proofs.Options.{if_ok}
-use Rattle.rules_congruence.proofs.PartLemmas.{false_is}
 use Rattle.rules_congruence.proofs.congruence.are_crosswise.Goals as goal
+use Rattle.term_parts.proofs.PartLemmas.{false_is}
 
 pub returns-then-not-branch-clause-linked : goal.returns-then-not-branch-clause-linked
 returns-then-not-branch-clause-linked c ps a b x d tells one two three four =

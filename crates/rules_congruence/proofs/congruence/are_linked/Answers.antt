@@ -2,8 +2,8 @@ use Rattle.std.proofs.Common.{◌∙◌, refl, subst, arith}
 use Rattle.term_pool.specs.Views.{IsTerm}
 use Rattle.rule_model.specs.Congruence.{IsLinked}
 use Rattle.rules_congruence.proofs.CongruenceLemmas.{not_as_long, not_linked_at, linked_more, linked_all}
-use Rattle.rules_congruence.proofs.PartLemmas.{false_is}
 use Rattle.rules_congruence.proofs.congruence.are_linked.Goals as goal
+use Rattle.term_parts.proofs.PartLemmas.{false_is}
 
 pub returns-then-lefts-rights-clause-linked : goal.returns-then-lefts-rights-clause-linked
 returns-then-lefts-rights-clause-linked c ps ts us tells left right =

@@ -6,8 +6,8 @@ use Rattle.rules_congruence.specs.Applications.{AreApplied}
 use Rattle.rules_congruence.specs.Links.{TellsSides}
 use Rattle.rules_congruence.proofs.CongruenceLemmas.{not_crossed, crossed_by, linked_or_crossed, not_linked}
 use Rattle.rules_congruence.proofs.Options.{if_ok}
-use Rattle.rules_congruence.proofs.PartLemmas.{false_is}
 use Rattle.rules_congruence.proofs.congruence.hang.Goals as goal
+use Rattle.term_parts.proofs.PartLemmas.{false_is}
 
 pub returns-in_default-clause-linked : goal.returns-in_default-clause-linked
 returns-in_default-clause-linked c ps t u tells a =

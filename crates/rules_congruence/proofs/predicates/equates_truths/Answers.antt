@@ -9,9 +9,10 @@ use Rattle.rules_congruence.specs.Sides.{IsGiven}
 use Rattle.rules_congruence.specs.Uses.{Together}
 use Rattle.rules_congruence.proofs.Literals.{equates_both, equates_none}
 use Rattle.rules_congruence.proofs.Options.{if_ok}
-use Rattle.rules_congruence.proofs.PartLemmas.{false_is, left_is_term, right_is_term}
+use Rattle.rules_congruence.proofs.PartLemmas.{left_is_term, right_is_term}
 use Rattle.rules_congruence.proofs.PredicateLemmas.{truth_is_term, left_sorted, truth_of, right_sort, truths_by, no_truths}
 use Rattle.rules_congruence.proofs.predicates.equates_truths.Goals as goal
+use Rattle.term_parts.proofs.PartLemmas.{false_is}
 
 pub sides_of-requires : goal.sides_of-requires
 sides_of-requires c = truth_is_term c.args.symbols.now c.args.terms.now c.args.literal c.requires

@@ -7,9 +7,9 @@ use Rattle.rules_congruence.specs.Predicates.{GivesOther}
 use Rattle.rules_congruence.specs.Sides.{IsGiven}
 use Rattle.rules_congruence.specs.Uses.{Together}
 use Rattle.rules_congruence.proofs.Options.{if_ok}
-use Rattle.rules_congruence.proofs.PartLemmas.{false_is}
 use Rattle.rules_congruence.proofs.PredicateLemmas.{gives_first, gives_second, gives_none}
 use Rattle.rules_congruence.proofs.predicates.gives_other.Goals as goal
+use Rattle.term_parts.proofs.PartLemmas.{false_is}
 
 pub returns-then-branch-clause-gives : goal.returns-then-branch-clause-gives
 returns-then-branch-clause-gives c ps t u given first second =

@@ -5,9 +5,9 @@ use Rattle.term_pool.specs.Views.{RefersTo}
 use Rattle.rules_congruence.specs.Sides.{IsGiven}
 use Rattle.rules_congruence.specs.Uses.{Together}
 use Rattle.rules_congruence.proofs.Options.{if_ok}
-use Rattle.rules_congruence.proofs.PartLemmas.{false_is}
 use Rattle.rules_congruence.proofs.PredicateLemmas.{implies_both, implies_none}
 use Rattle.rules_congruence.proofs.predicates.implies.Goals as goal
+use Rattle.term_parts.proofs.PartLemmas.{false_is}
 
 pub returns-in_default-clause-implies : goal.returns-in_default-clause-implies
 returns-in_default-clause-implies c ps t u given first second =

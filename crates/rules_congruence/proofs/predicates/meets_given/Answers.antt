@@ -7,10 +7,10 @@ use Rattle.rules_congruence.specs.Sides.{IsGiven}
 use Rattle.rules_congruence.specs.Steps.{ReferTo, ReferToClauses}
 use Rattle.rules_congruence.proofs.Literals.{front_terms}
 use Rattle.rules_congruence.proofs.Options.{if_ok}
-use Rattle.rules_congruence.proofs.PartLemmas.{false_is}
 use Rattle.rules_congruence.proofs.PredicateLemmas.{gives_two, split_two, denies_two, denies_two_none, not_denying_two}
 use Rattle.rules_congruence.proofs.TurningLemmas.{none_premised}
 use Rattle.rules_congruence.proofs.predicates.meets_given.Goals as goal
+use Rattle.term_parts.proofs.PartLemmas.{false_is}
 
 pub returns-in_default-clause-met : goal.returns-in_default-clause-met
 returns-in_default-clause-met c ps ts premises clause =

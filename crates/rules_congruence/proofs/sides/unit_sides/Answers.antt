@@ -4,10 +4,10 @@ use Rattle.term_model.specs.Terms.{Term}
 use Rattle.term_pool.specs.Views.{IsTerm, RefersTo}
 use Rattle.rule_model.specs.Clausal.{as_it_stands}
 use Rattle.term_parts.specs.Parts.{AreSidesOf}
+use Rattle.term_parts.proofs.Options.{if_some, if_none}
 use Rattle.rules_congruence.specs.Sides.{IsUnitOf}
 use Rattle.rules_congruence.specs.Steps.{ReferTo}
 use Rattle.rules_congruence.proofs.GivenLemmas.{unit_of, no_unit_of, not_one_literal}
-use Rattle.rules_congruence.proofs.Options.{if_some, if_none}
 use Rattle.rules_congruence.proofs.sides.unit_sides.Goals as goal
 
 pub returns-in_default-clause-other : goal.returns-in_default-clause-other

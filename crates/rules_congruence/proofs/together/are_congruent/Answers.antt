@@ -6,9 +6,9 @@ use Rattle.rules_congruence.specs.Applications.{AreApplied}
 use Rattle.rules_congruence.specs.Sides.{IsGiven}
 use Rattle.rules_congruence.specs.Uses.{Together}
 use Rattle.rules_congruence.proofs.Options.{if_ok}
-use Rattle.rules_congruence.proofs.PartLemmas.{false_is}
 use Rattle.rules_congruence.proofs.TogetherLemmas.{congruent_by, not_congruent, zip_are_terms}
 use Rattle.rules_congruence.proofs.together.are_congruent.Goals as goal
+use Rattle.term_parts.proofs.PartLemmas.{false_is}
 
 pub returns-then-not-branch-clause-congruent : goal.returns-then-not-branch-clause-congruent
 returns-then-not-branch-clause-congruent c ps t u given left right =

@@ -7,8 +7,9 @@ use Rattle.rules_congruence.specs.Sides.{IsGiven}
 use Rattle.rules_congruence.specs.Uses.{Together}
 use Rattle.rules_congruence.proofs.Literals.{equates_both, equates_none}
 use Rattle.rules_congruence.proofs.Options.{if_ok}
-use Rattle.rules_congruence.proofs.PartLemmas.{false_is, left_is_term, right_is_term}
+use Rattle.rules_congruence.proofs.PartLemmas.{left_is_term, right_is_term}
 use Rattle.rules_congruence.proofs.together.equates.Goals as goal
+use Rattle.term_parts.proofs.PartLemmas.{false_is}
 
 pub returns-in_default-clause-equates : goal.returns-in_default-clause-equates
 returns-in_default-clause-equates c ps t given refers =

@@ -7,9 +7,9 @@ use Rattle.rules_congruence.specs.Uses.{Together}
 use Rattle.rules_congruence.specs.Steps.{ReferTo, ReferToClauses}
 use Rattle.rules_congruence.proofs.Literals.{equates_one, front_terms, split_refers, denies_both, denies_none, not_denying}
 use Rattle.rules_congruence.proofs.Options.{if_ok}
-use Rattle.rules_congruence.proofs.PartLemmas.{false_is}
 use Rattle.rules_congruence.proofs.TurningLemmas.{none_premised}
 use Rattle.rules_congruence.proofs.together.meets_eq_congruent.Goals as goal
+use Rattle.term_parts.proofs.PartLemmas.{false_is}
 
 pub returns-in_default-clause-met : goal.returns-in_default-clause-met
 returns-in_default-clause-met c ps ts premises clause =

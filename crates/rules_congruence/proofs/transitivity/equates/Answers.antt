@@ -7,9 +7,9 @@ use Rattle.rules_congruence.specs.Ways.{IsWayBy}
 use Rattle.rules_congruence.proofs.Carrying.{way_terms}
 use Rattle.rules_congruence.proofs.Literals.{equates_both, equates_none}
 use Rattle.rules_congruence.proofs.Options.{if_ok}
-use Rattle.rules_congruence.proofs.PartLemmas.{false_is}
 use Rattle.rules_congruence.proofs.TurningLemmas.{iff_trans}
 use Rattle.rules_congruence.proofs.transitivity.equates.Goals as goal
+use Rattle.term_parts.proofs.PartLemmas.{false_is}
 
 pub returns-in_default-clause-equates : goal.returns-in_default-clause-equates
 returns-in_default-clause-equates c ps t given refers =

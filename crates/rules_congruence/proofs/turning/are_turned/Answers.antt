@@ -1,6 +1,6 @@
-use Rattle.rules_congruence.proofs.PartLemmas.{false_is}
 use Rattle.rules_congruence.proofs.TurningLemmas.{no_turned_left, no_turned_right, are_turned_by, iff_trans}
 use Rattle.rules_congruence.proofs.turning.are_turned.Goals as goal
+use Rattle.term_parts.proofs.PartLemmas.{false_is}
 
 pub returns-in_default-clause-turned : goal.returns-in_default-clause-turned
 returns-in_default-clause-turned c t u old new =

@@ -1,6 +1,6 @@
-use Rattle.rules_congruence.proofs.PartLemmas.{false_is}
 use Rattle.rules_congruence.proofs.TurningLemmas.{equal_sides_by, iff_trans}
 use Rattle.rules_congruence.proofs.turning.has_equal_sides.Goals as goal
+use Rattle.term_parts.proofs.PartLemmas.{false_is}
 
 pub returns-in_default-clause-equal : goal.returns-in_default-clause-equal
 returns-in_default-clause-equal c t refers =

@@ -1,7 +1,8 @@
 use Rattle.rule_model.specs.Clausal.{as_it_stands}
-use Rattle.rules_congruence.proofs.PartLemmas.{false_is, left_is_term, right_is_term}
+use Rattle.rules_congruence.proofs.PartLemmas.{left_is_term, right_is_term}
 use Rattle.rules_congruence.proofs.TurningLemmas.{turned_sides_by}
 use Rattle.rules_congruence.proofs.turning.has_turned_sides.Goals as goal
+use Rattle.term_parts.proofs.PartLemmas.{false_is}
 
 pub returns-in_default-clause-turned : goal.returns-in_default-clause-turned
 returns-in_default-clause-turned c t refers =

@@ -1,6 +1,6 @@
-use Rattle.rules_congruence.proofs.PartLemmas.{false_is}
 use Rattle.rules_congruence.proofs.TurningLemmas.{reflexive_by, not_lone, literal_is_term}
 use Rattle.rules_congruence.proofs.turning.is_reflexive.Goals as goal
+use Rattle.term_parts.proofs.PartLemmas.{false_is}
 
 pub returns-in_default-clause-met : goal.returns-in_default-clause-met
 returns-in_default-clause-met c ps ts premises clause =

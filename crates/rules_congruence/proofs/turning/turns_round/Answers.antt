@@ -1,10 +1,11 @@
-use Rattle.rules_congruence.proofs.PartLemmas.{false_is}
-use Rattle.rules_congruence.proofs.TurningLemmas.{turns_by, no_unit_term, no_literal_term, unit_is_term, literal_is_term}
+use Rattle.rules_congruence.proofs.TurningLemmas.{turns_by, no_literal_term, unit_is_term, literal_is_term}
 use Rattle.rules_congruence.proofs.turning.turns_round.Goals as goal
+use Rattle.term_parts.proofs.PartLemmas.{false_is}
+use Rattle.schema_match.proofs.PremiseLemmas.{no_unit}
 
 pub returns-in_default-clause-met : goal.returns-in_default-clause-met
 returns-in_default-clause-met c ps ts premises clause =
-    false_is (λ h. no_unit_term c.args.symbols.now c.args.terms.now c.args.premises.now ps _ c.in_default.ensures.other premises h.premise)
+    false_is (λ h. no_unit c.args.symbols.now c.args.terms.now c.args.premises.now ps _ c.in_default.ensures.other premises h.premise)
 
 pub returns-in_default-literal-clause-met : goal.returns-in_default-literal-clause-met
 returns-in_default-literal-clause-met c ps ts premises clause =

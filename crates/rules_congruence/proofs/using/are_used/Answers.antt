@@ -1,9 +1,9 @@
 use Rattle.std.proofs.Common.{length, eq-eqb, arith}
 use Rattle.std.proofs.lemmas.Bool.{eqb-true}
-use Rattle.rules_congruence.proofs.PartLemmas.{false_is}
 use Rattle.rules_congruence.proofs.TurningLemmas.{iff_trans}
 use Rattle.rules_congruence.proofs.UseLemmas.{used_length, used_next, used_none, used_end}
 use Rattle.rules_congruence.proofs.using.are_used.Goals as goal
+use Rattle.term_parts.proofs.PartLemmas.{false_is}
 
 pub returns-then-lefts-rights : goal.returns-then-lefts-rights
 returns-then-lefts-rights c = false_is (λ h. c.if-lefts-rights.true (used_length c.args.all c.args.pairs.now c.args.lefts.now c.args.rights.now h))

@@ -3,9 +3,10 @@ use Rattle.std.proofs.lemmas.List.{nil_from_length}
 use Rattle.std.proofs.lemmas.List.Elements.{All-cons}
 use Rattle.std.proofs.lemmas.Result.{IfOk-weaker}
 use Rattle.term_pool.specs.Views.{IsTerm}
+use Rattle.term_pool.proofs.References.{refer_are_terms}
 use Rattle.rule_model.specs.Reading.{clause_at, rule_at}
 use Rattle.schema_match.proofs.StepAnswers.{meets_given, many_meet_none}
-use Rattle.schema_match.proofs.StepLemmas.{first_premise, only, zip_refers, zip_terms}
+use Rattle.schema_match.proofs.StepLemmas.{first_premise, only, zip_refers}
 use Rattle.rules_ite.specs.Steps.{MeetsDefinition}
 use Rattle.rules_ite.proofs.CheckLemmas.{many_premises, are_truths}
 use Rattle.rules_ite.proofs.checks.meets_at.Goals as goal
@@ -27,7 +28,7 @@ meets-requires-in-len1-clause-premises c =
     let stand = c.requires.stand in
     All-cons (λ (p : Bor (List _)). All (IsTerm c.args.symbols.now c.args.terms.now) p.now) c.clause.result []
     (rw c.clause.ensures
-    (zip_terms c.args.symbols.now c.args.terms.now _ _ (c.terms_correspond.ensures.clause c.args.symbols.now c.args.terms.now c.args.proof.now stand.proof (get_or c.premises.result.now 0 0) stand.stand)))
+    (refer_are_terms c.args.symbols.now c.args.terms.now _ _ (c.terms_correspond.ensures.clause c.args.symbols.now c.args.terms.now c.args.proof.now stand.proof (get_or c.premises.result.now 0 0) stand.stand)))
     (λ k d below. absurd (omega (arith, below)))
 
 pub meets-requires-in-len1-clause-clause : goal.meets-requires-in-len1-clause-clause

@@ -3,8 +3,9 @@ use Rattle.std.proofs.lemmas.Result.{IfOk-weaker}
 use Rattle.rules_ite.specs.Steps.{MeetsDefinition}
 use Rattle.rules_ite.proofs.CheckLemmas.{truths_are_terms}
 use Rattle.rules_ite.proofs.EquationLemmas.{introduction_is, elimination_is}
-use Rattle.rules_ite.proofs.RuleLemmas.{no_equality_meets, other_rule_meets, sides_of_truths, sorted_is_term}
+use Rattle.rules_ite.proofs.RuleLemmas.{no_equality_meets, other_rule_meets, sides_of_truths}
 use Rattle.rules_ite.proofs.checks.meets_equation.Goals as goal
+use Rattle.sort_check.proofs.Leaves.{sorted_is_term}
 
 pub equation-requires : goal.equation-requires
 equation-requires c = truths_are_terms c.args.symbols.now c.args.terms.now c.args.clause.now c.requires.clause

@@ -1,6 +1,6 @@
 use Rattle.std.proofs.Common.{◌∷◌}
 use Rattle.std.proofs.lemmas.Bool.{OnTrue_at, OnFalse_at}
-use Rattle.rules_ite.proofs.IntroductionLemmas.{refer_are_terms}
+use Rattle.term_pool.proofs.References.{refer_are_terms}
 use Rattle.rules_ite.proofs.StandingLemmas.{no_conjunction, conjunction_is, many_terms}
 use Rattle.rules_ite.proofs.distinct.is_conjunction.Goals as goal
 

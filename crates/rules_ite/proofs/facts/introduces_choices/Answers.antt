@@ -3,7 +3,8 @@ use Rattle.std.proofs.lemmas.Bool.{OnTrue_at, OnFalse_at}
 use Rattle.std.proofs.lemmas.List.{nil_from_length}
 use Rattle.std.proofs.lemmas.Option.{MatchOption-at_none}
 use Rattle.std.proofs.lemmas.Result.{IfOk-weaker}
-use Rattle.rules_ite.proofs.IntroductionLemmas.{nothing_introduced, other_first, introduced_is, refer_first, refer_none, refer_are_terms, refers_is_known}
+use Rattle.term_pool.proofs.References.{refer_are_terms}
+use Rattle.rules_ite.proofs.IntroductionLemmas.{nothing_introduced, other_first, introduced_is, refer_first, refer_none, refers_is_known}
 use Rattle.rules_ite.proofs.facts.introduces_choices.Goals as goal
 
 pub returns-then-not-branch-clause-introduces : goal.returns-then-not-branch-clause-introduces

@@ -3,7 +3,7 @@ use Rattle.std.specs.Option.{is_some}
 use Rattle.contexts.proofs.Results.{handed_on}
 use Rattle.rule_model.specs.Judged.{judged_at, anchors_at}
 use Rattle.rule_model.specs.Reading.{closes_at}
-use Rattle.proof_contexts.proofs.Placing.{places_then, places_no_more}
+use Rattle.term_pool.proofs.PlacedCells.{places_more_then, places_none}
 use Rattle.rules_refl.specs.Sides.{IsSideOf, substituted}
 use Rattle.rules_refl.proofs.Meeting.{told, truly_met, none_of, open_there}
 use Rattle.rules_refl.proofs.Substituting.{places_sides, lacks_sides}
@@ -83,10 +83,10 @@ returns-in_err-are_same-clause-placed c of stand =
     (c.requires.here (none_of c.closes.result (closes_at refs c.args.i) none c.closes.ensures) ∙ c.commands_correspond.ensures.scope s v refs of c.args.i stand)
     (none_of c.closes.result (closes_at of c.args.i) none (c.closes.ensures ∙ c.commands_correspond.ensures.closes s v refs of c.args.i stand))
     (c.anchors_are_those_of_scopes.ensures of c.args.i) in
-    places_then s v.pass c.substituted.new.terms.pass c.are_same.new.terms.pass (IsSideOf of c.args.i) c.are_same.ensures.keeps.pass
+    places_more_then s v.pass c.substituted.new.terms.pass c.are_same.new.terms.pass (IsSideOf of c.args.i) c.are_same.ensures.keeps.pass
     (places_sides s of c.args.i h.left h.right h.states v.pass c.substituted.new.terms.pass
     ((rw c.sides_at.ensures.same at c.substituted.ensures.placed) of (anchors_at of c.args.i) h.left h.right stand here h.left_refers h.right_refers))
-    (places_no_more s c.substituted.new.terms.pass c.are_same.new.terms.pass (IsSideOf of c.args.i) c.are_same.ensures.unchanged.placed)
+    (places_none s c.substituted.new.terms.pass c.are_same.new.terms.pass (IsSideOf of c.args.i) c.are_same.ensures.unchanged.placed)
 
 pub returns-then-branch-clause-met : goal.returns-then-branch-clause-met
 returns-then-branch-clause-met c of stand =
@@ -137,10 +137,10 @@ returns-then-branch-clause-placed c of stand =
     (c.requires.here (none_of c.closes.result (closes_at refs c.args.i) none c.closes.ensures) ∙ c.commands_correspond.ensures.scope s v refs of c.args.i stand)
     (none_of c.closes.result (closes_at of c.args.i) none (c.closes.ensures ∙ c.commands_correspond.ensures.closes s v refs of c.args.i stand))
     (c.anchors_are_those_of_scopes.ensures of c.args.i) in
-    places_then s v.pass c.substituted.new.terms.pass c.are_same.new.terms.pass (IsSideOf of c.args.i) c.are_same.ensures.keeps.pass
+    places_more_then s v.pass c.substituted.new.terms.pass c.are_same.new.terms.pass (IsSideOf of c.args.i) c.are_same.ensures.keeps.pass
     (places_sides s of c.args.i h.left h.right h.states v.pass c.substituted.new.terms.pass
     ((rw c.sides_at.ensures.same at c.substituted.ensures.placed) of (anchors_at of c.args.i) h.left h.right stand here h.left_refers h.right_refers))
-    (places_no_more s c.substituted.new.terms.pass c.are_same.new.terms.pass (IsSideOf of c.args.i) c.are_same.ensures.unchanged.placed)
+    (places_none s c.substituted.new.terms.pass c.are_same.new.terms.pass (IsSideOf of c.args.i) c.are_same.ensures.unchanged.placed)
 
 pub returns-else-branch-clause-placed : goal.returns-else-branch-clause-placed
 returns-else-branch-clause-placed c of stand =
@@ -154,7 +154,7 @@ returns-else-branch-clause-placed c of stand =
     (c.requires.here (none_of c.closes.result (closes_at refs c.args.i) none c.closes.ensures) ∙ c.commands_correspond.ensures.scope s v refs of c.args.i stand)
     (none_of c.closes.result (closes_at of c.args.i) none (c.closes.ensures ∙ c.commands_correspond.ensures.closes s v refs of c.args.i stand))
     (c.anchors_are_those_of_scopes.ensures of c.args.i) in
-    places_then s v.pass c.substituted.new.terms.pass c.are_same.new.terms.pass (IsSideOf of c.args.i) c.are_same.ensures.keeps.pass
+    places_more_then s v.pass c.substituted.new.terms.pass c.are_same.new.terms.pass (IsSideOf of c.args.i) c.are_same.ensures.keeps.pass
     (places_sides s of c.args.i h.left h.right h.states v.pass c.substituted.new.terms.pass
     ((rw c.sides_at.ensures.same at c.substituted.ensures.placed) of (anchors_at of c.args.i) h.left h.right stand here h.left_refers h.right_refers))
-    (places_no_more s c.substituted.new.terms.pass c.are_same.new.terms.pass (IsSideOf of c.args.i) c.are_same.ensures.unchanged.placed)
+    (places_none s c.substituted.new.terms.pass c.are_same.new.terms.pass (IsSideOf of c.args.i) c.are_same.ensures.unchanged.placed)

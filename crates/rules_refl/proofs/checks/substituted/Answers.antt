@@ -1,9 +1,9 @@
-use Rattle.std.proofs.Common.{refl}
+use Rattle.sym_table.proofs.Tables.{keeps_table}
 use Rattle.rule_model.specs.Contexts.{images}
 use Rattle.rule_model.specs.Substitution.{put_in}
-use Rattle.proof_contexts.proofs.Placing.{places_then}
+use Rattle.term_pool.proofs.PlacedCells.{places_more_then}
 use Rattle.rules_refl.specs.Sides.{IsEither}
-use Rattle.rules_refl.proofs.Substituting.{keeps_same, refers_later, left_placed, right_placed, left_lacks, right_lacks}
+use Rattle.rules_refl.proofs.Substituting.{refers_later, left_placed, right_placed, left_lacks, right_lacks}
 use Rattle.rules_refl.proofs.checks.substituted.Goals as goal
 
 pub returns-in-Err-clause-placed : goal.returns-in-Err-clause-placed
@@ -20,8 +20,8 @@ returns-in-Err-substitute-clause-placed c of anchors t u stand here left right =
     let v = c.args.terms.now in
     let w = c.substitute.new.terms in
     let z = c.substitute-2.new.terms in
-    let later = c.proofs_stay.ensures s s v w c.args.proof.now of (keeps_same s) c.substitute.ensures.keeps stand in
-    places_then s v.pass w.pass z.pass (IsEither (put_in (images anchors) t) (put_in (images anchors) u)) c.substitute-2.ensures.keeps.pass
+    let later = c.proofs_stay.ensures s s v w c.args.proof.now of (keeps_table s) c.substitute.ensures.keeps stand in
+    places_more_then s v.pass w.pass z.pass (IsEither (put_in (images anchors) t) (put_in (images anchors) u)) c.substitute-2.ensures.keeps.pass
     (left_placed s v.pass w.pass (put_in (images anchors) t) (put_in (images anchors) u) (c.substitute.ensures.placed of anchors t stand here left))
     (right_placed s w.pass z.pass (put_in (images anchors) t) (put_in (images anchors) u)
     (c.substitute-2.ensures.placed of anchors u later (rw c.substitute.ensures.scope here) (refers_later s v w c.args.sides.1 u c.substitute.ensures.keeps right)))
@@ -31,7 +31,7 @@ returns-in-Err-substitute-clause-full c is of anchors t u stand here left right 
     let s = c.args.symbols.now in
     let v = c.args.terms.now in
     let w = c.substitute.new.terms in
-    let later = c.proofs_stay.ensures s s v w c.args.proof.now of (keeps_same s) c.substitute.ensures.keeps stand in
+    let later = c.proofs_stay.ensures s s v w c.args.proof.now of (keeps_table s) c.substitute.ensures.keeps stand in
     right_lacks s v.pass c.substitute-2.new.terms.pass (put_in (images anchors) t) (put_in (images anchors) u)
     (c.in-Err-substitute.ensures.full (c.refused-in-Err-substitute.ensures.full is) of anchors u later (rw c.substitute.ensures.scope here) (refers_later s v w c.args.sides.1 u c.substitute.ensures.keeps right))
 
@@ -44,7 +44,7 @@ returns-clause-right c of anchors u stand here right =
     let s = c.args.symbols.now in
     let v = c.args.terms.now in
     let w = c.substitute.new.terms in
-    c.in-Ok-substitute.ensures.term of anchors u (c.proofs_stay.ensures s s v w c.args.proof.now of (keeps_same s) c.substitute.ensures.keeps stand) (rw c.substitute.ensures.scope here)
+    c.in-Ok-substitute.ensures.term of anchors u (c.proofs_stay.ensures s s v w c.args.proof.now of (keeps_table s) c.substitute.ensures.keeps stand) (rw c.substitute.ensures.scope here)
     (refers_later s v w c.args.sides.1 u c.substitute.ensures.keeps right)
 
 pub returns-clause-placed : goal.returns-clause-placed
@@ -53,8 +53,8 @@ returns-clause-placed c of anchors t u stand here left right =
     let v = c.args.terms.now in
     let w = c.substitute.new.terms in
     let z = c.substitute-2.new.terms in
-    let later = c.proofs_stay.ensures s s v w c.args.proof.now of (keeps_same s) c.substitute.ensures.keeps stand in
-    places_then s v.pass w.pass z.pass (IsEither (put_in (images anchors) t) (put_in (images anchors) u)) c.substitute-2.ensures.keeps.pass
+    let later = c.proofs_stay.ensures s s v w c.args.proof.now of (keeps_table s) c.substitute.ensures.keeps stand in
+    places_more_then s v.pass w.pass z.pass (IsEither (put_in (images anchors) t) (put_in (images anchors) u)) c.substitute-2.ensures.keeps.pass
     (left_placed s v.pass w.pass (put_in (images anchors) t) (put_in (images anchors) u) (c.substitute.ensures.placed of anchors t stand here left))
     (right_placed s w.pass z.pass (put_in (images anchors) t) (put_in (images anchors) u)
     (c.substitute-2.ensures.placed of anchors u later (rw c.substitute.ensures.scope here) (refers_later s v w c.args.sides.1 u c.substitute.ensures.keeps right)))

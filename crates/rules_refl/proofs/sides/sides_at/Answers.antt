@@ -2,8 +2,9 @@ use Rattle.std.proofs.Common.{◌∙◌, length, sym}
 use Rattle.std.proofs.lemmas.Bool.{eqb-true}
 use Rattle.rule_model.specs.Reading.{clause_at, premises_at}
 use Rattle.term_model.specs.Flips.{equality}
-use Rattle.rules_refl.proofs.Stating.{no_premises, some_sides, no_sides, literal_of, not_alone, sides_are, states_nothing}
+use Rattle.rules_refl.proofs.Stating.{no_premises, literal_of, not_alone, sides_are, states_nothing}
 use Rattle.rules_refl.proofs.sides.sides_at.Goals as goal
+use Rattle.term_parts.proofs.Options.{if_some, if_none}
 
 pub returns-then-clause-ne1-clause-none : goal.returns-then-clause-ne1-clause-none
 returns-then-clause-ne1-clause-none c of t u stand states =
@@ -25,7 +26,7 @@ pub returns-clause-sides : goal.returns-clause-sides
 returns-clause-sides c =
     let s = c.args.symbols.now in
     let v = c.args.terms.now in
-    some_sides c.sides_of.result _ _
+    if_some _ _ c.sides_of.result
     (λ p h of stand.
     sides_are s v of c.args.i c.index-clause-0.result
     (no_premises c.premises.result.now (premises_at of c.args.i) (c.premises.ensures ∙ c.commands_correspond.ensures.premises s v c.args.proof.now of c.args.i stand) (eqb-true (length c.premises.result.now) 0 (sym c.if-not-is_empty.ensures)))
@@ -38,7 +39,7 @@ pub returns-clause-none : goal.returns-clause-none
 returns-clause-none c =
     let s = c.args.symbols.now in
     let v = c.args.terms.now in
-    no_sides c.sides_of.result _ _
+    if_none c.sides_of.result
     (λ h of t u stand states.
     states_nothing s v of c.args.i c.index-clause-0.result
     (no_premises c.premises.result.now (premises_at of c.args.i) (c.premises.ensures ∙ c.commands_correspond.ensures.premises s v c.args.proof.now of c.args.i stand) (eqb-true (length c.premises.result.now) 0 (sym c.if-not-is_empty.ensures)))

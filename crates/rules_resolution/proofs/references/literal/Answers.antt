@@ -1,5 +1,6 @@
-use Rattle.rules_resolution.proofs.TermLiterals.{literal_from_bare, same_view}
+use Rattle.rules_resolution.proofs.TermLiterals.{literal_from_bare}
 use Rattle.rules_resolution.proofs.references.literal.Goals as goal
+use Rattle.term_pool.proofs.Keeping.{same_terms}
 
 pub returns-clause-literal : goal.returns-clause-literal
 returns-clause-literal c =
@@ -7,4 +8,4 @@ returns-clause-literal c =
     c.strip_not-bare.ensures.keeps c.strip_not-bare.ensures.unchanged c.strip_not-bare.ensures.stripped c.bare_literal.ensures
 
 pub returns-clause-same : goal.returns-clause-same
-returns-clause-same c = same_view _ _ c.strip_not-bare.ensures.keeps c.strip_not-bare.ensures.unchanged
+returns-clause-same c = same_terms _ _ c.strip_not-bare.ensures.keeps c.strip_not-bare.ensures.unchanged

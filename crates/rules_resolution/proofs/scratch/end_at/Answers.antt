@@ -1,15 +1,16 @@
 use Rattle.std.proofs.Common.{◌≡◌, ◌∙◌}
 use Rattle.term_pool.specs.Views.{RefersTo}
+use Rattle.term_pool.proofs.References.{refer_are_terms}
 use Rattle.rule_model.specs.Reading.{clause_at, premises_at}
 use Rattle.rule_model.specs.Renaming.{KeepsAtomsApart}
 use Rattle.rules_resolution.proofs.TermAnswers.{ends_of_terms}
-use Rattle.rules_resolution.proofs.TermLiterals.{are_terms, short_clauses}
+use Rattle.rules_resolution.proofs.TermLiterals.{short_clauses}
 use Rattle.rules_resolution.proofs.scratch.end_at.Goals as goal
 
 pub load_clause-requires : goal.load_clause-requires
 load_clause-requires c =
     rw (c.in_ok-count.ensures.same, c.clause.ensures)
-    (are_terms c.args.symbols.now c.args.terms.now _ _ (c.terms_correspond.ensures.clause c.args.symbols.now c.args.terms.now c.args.proof.now c.requires.terms.0 c.args.i c.requires.terms.1))
+    (refer_are_terms c.args.symbols.now c.args.terms.now _ _ (c.terms_correspond.ensures.clause c.args.symbols.now c.args.terms.now c.args.proof.now c.requires.terms.0 c.args.i c.requires.terms.1))
 
 pub decide-requires-clause-literals : goal.decide-requires-clause-literals
 decide-requires-clause-literals c =

@@ -1,9 +1,10 @@
-use Rattle.std.proofs.Common.{ℕ, arith, ap, length, ◌∙◌}
+use Rattle.std.proofs.Common.{arith, ◌∙◌}
 use Rattle.std.specs.Global.{Vec}
+use Rattle.term_pool.proofs.References.{refer_are_terms}
 use Rattle.rule_model.specs.Reading.{clause_at}
+use Rattle.rule_model.proofs.Standing.{premise_within}
 use Rattle.rules_resolution.specs.Literal.{Lit}
-use Rattle.rules_resolution.proofs.Loading.{premise_within, clauses_more}
-use Rattle.rules_resolution.proofs.TermLiterals.{are_terms}
+use Rattle.rules_resolution.proofs.Loading.{clauses_more}
 use Rattle.rules_resolution.proofs.scratch.load_premises.Goals as goal
 
 pub clause-requires : goal.clause-requires
@@ -14,7 +15,7 @@ clause-requires c =
 pub load_at-requires-clause-clause : goal.load_at-requires-clause-clause
 load_at-requires-clause-clause c =
     rw (c.loop-place.invariant.0, c.clause.ensures)
-    (are_terms c.args.symbols.now c.args.terms.now _ _ (c.terms_correspond.ensures.clause c.args.symbols.now c.args.terms.now c.args.proof.now c.requires.terms.0 _ c.requires.terms.1))
+    (refer_are_terms c.args.symbols.now c.args.terms.now _ _ (c.terms_correspond.ensures.clause c.args.symbols.now c.args.terms.now c.args.proof.now c.requires.terms.0 _ c.requires.terms.1))
 
 pub loop-place-preserved : goal.loop-place-preserved
 loop-place-preserved c =

@@ -1,7 +1,3 @@
-use Rattle.std.proofs.Common.{map}
-use Rattle.rule_model.specs.Reading.{clause_at}
-use Rattle.rule_model.specs.Resolution.{as_clause}
-use Rattle.rules_resolution.specs.Steps.{premise_clauses}
 use Rattle.rules_resolution.proofs.TermAnswers.{shown_of_terms, none_of_terms}
 use Rattle.rules_resolution.proofs.step.propagate.Goals as goal
 

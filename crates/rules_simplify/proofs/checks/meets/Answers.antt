@@ -1,7 +1,7 @@
 use Rattle.std.proofs.Common.{◌↔◌, [], IsTrue, sym, subst}
 use Rattle.std.proofs.lemmas.Result.{IfOk-weaker}
+use Rattle.term_pool.proofs.References.{refer_are_terms}
 use Rattle.rules_simplify.specs.Steps.{MeetsSimplify}
-use Rattle.rules_simplify.proofs.ItemLemmas.{refer_are_terms}
 use Rattle.rules_simplify.proofs.CheckLemmas.{other_rule}
 use Rattle.rules_simplify.proofs.checks.meets.Goals as goal
 

@@ -1,8 +1,8 @@
 use Rattle.std.proofs.Common.{[], refl}
 use Rattle.std.proofs.lemmas.Result.{IfOk-weaker}
 use Rattle.rules_simplify.proofs.CheckLemmas.{joining_is, no_joining}
-use Rattle.rules_simplify.proofs.ItemLemmas.{terms_of_references}
 use Rattle.rules_simplify.proofs.checks.meets_joining.Goals as goal
+use Rattle.schema_match.proofs.InstanceLemmas.{terms_of_references}
 
 pub returns-in_default-clause-meets : goal.returns-in_default-clause-meets
 returns-in_default-clause-meets c ts clause = no_joining c.args.junction ts (λ u w e. c.in_default.ensures.other [] ts u w tt clause refl e)

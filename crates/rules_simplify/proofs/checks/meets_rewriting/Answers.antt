@@ -1,7 +1,7 @@
 use Rattle.std.proofs.Common.{[], refl}
 use Rattle.std.proofs.lemmas.Result.{IfOk-weaker}
+use Rattle.term_pool.proofs.References.{refer_are_terms}
 use Rattle.rules_simplify.proofs.CheckLemmas.{left_sorted, rewriting_is, no_rewriting}
-use Rattle.rules_simplify.proofs.ItemLemmas.{refer_are_terms}
 use Rattle.rules_simplify.proofs.checks.meets_rewriting.Goals as goal
 
 pub equation-requires : goal.equation-requires

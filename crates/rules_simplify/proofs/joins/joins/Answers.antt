@@ -1,7 +1,7 @@
 use Rattle.std.proofs.Common.{[], ◌∷◌}
 use Rattle.std.proofs.lemmas.Bool.{OnTrue_at, OnFalse_at}
 use Rattle.std.proofs.lemmas.Result.{IfOk-weaker}
-use Rattle.rules_simplify.proofs.ItemLemmas.{refer_are_terms}
+use Rattle.term_pool.proofs.References.{refer_are_terms}
 use Rattle.rules_simplify.proofs.JoinLemmas.{joined_none, joined_some, joined_other}
 use Rattle.rules_simplify.proofs.joins.joins.Goals as goal
 

@@ -1,6 +1,6 @@
 use Rattle.std.proofs.Common.{Bool, refl, sym, ◌∙◌, subst}
+use Rattle.term_model.proofs.Lists.{has_number}
 use Rattle.rules_simplify.specs.Joins.{IsMetOtherwise}
-use Rattle.rules_simplify.proofs.SetLemmas.{has_number}
 use Rattle.rules_simplify.proofs.opposed.is_met_otherwise.Goals as goal
 
 pub returns-then-negated : goal.returns-then-negated

@@ -1,5 +1,5 @@
 use Rattle.std.proofs.Common.{◌∙◌, refl}
-use Rattle.rule_model.proofs.Lists.{contains_none}
+use Rattle.term_model.proofs.Lists.{contains_none}
 use Rattle.rules_simplify.specs.Joins.{constant}
 use Rattle.rules_simplify.proofs.ShorterLemmas.{constant_found, constant_later, constant_nowhere}
 use Rattle.rules_simplify.proofs.shorter.has_constant.Goals as goal

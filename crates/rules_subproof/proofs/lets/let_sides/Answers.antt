@@ -1,9 +1,9 @@
 use Rattle.std.proofs.Common.{◌≡◌, ◌∙◌, IsTrue, true, false, sym, subst, arith, rules}
 use Rattle.std.specs.Option.{is_some}
+use Rattle.term_pool.proofs.References.{refer_are_terms}
 use Rattle.rule_model.specs.Reading.{clause_at}
 use Rattle.rules_subproof.proofs.LetSides.{is_let_term, no_application, none_holds, inner_clause, let_refers, right_same, body_same, let_found}
 use Rattle.rules_subproof.proofs.ScopePlaces.{scope_within, last_before}
-use Rattle.rules_subproof.proofs.Zips.{zip_terms}
 use Rattle.rules_subproof.proofs.lets.let_sides.Goals as goal
 
 not_true : IsTrue false → ⊥
@@ -19,7 +19,7 @@ clause-requires c =
 
 pub unit_sides-requires : goal.unit_sides-requires
 unit_sides-requires c =
-    rw c.clause.ensures (zip_terms c.args.symbols.now c.args.terms.now _ _ (c.terms_correspond.ensures.clause c.args.symbols.now c.args.terms.now c.args.proof.now _ c.in-Some.last c.requires.stand.stand))
+    rw c.clause.ensures (refer_are_terms c.args.symbols.now c.args.terms.now _ _ (c.terms_correspond.ensures.clause c.args.symbols.now c.args.terms.now c.args.proof.now _ c.in-Some.last c.requires.stand.stand))
 
 pub returns-in_default-unit_sides-clause-none : goal.returns-in_default-unit_sides-clause-none
 returns-in_default-unit_sides-clause-none c of bs t u stands h =
@@ -28,7 +28,7 @@ returns-in_default-unit_sides-clause-none c of bs t u stands h =
 
 pub unit_sides-requires-2 : goal.unit_sides-requires-2
 unit_sides-requires-2 c =
-    rw (c.unit_sides.ensures.same, c.clause-2.ensures) (zip_terms c.args.symbols.now c.args.terms.now _ _ (c.terms_correspond.ensures.clause c.args.symbols.now c.args.terms.now c.args.proof.now _ c.args.i c.requires.stand.stand))
+    rw (c.unit_sides.ensures.same, c.clause-2.ensures) (refer_are_terms c.args.symbols.now c.args.terms.now _ _ (c.terms_correspond.ensures.clause c.args.symbols.now c.args.terms.now c.args.proof.now _ c.args.i c.requires.stand.stand))
 
 pub returns-in_default-unit_sides-2-clause-none : goal.returns-in_default-unit_sides-2-clause-none
 returns-in_default-unit_sides-2-clause-none c of bs t u stands h =

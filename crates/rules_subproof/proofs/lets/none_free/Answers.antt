@@ -1,6 +1,5 @@
 use Rattle.std.proofs.Common.{◌∙◌, IsTrue, false, refl, subst, arith}
-use Rattle.std.proofs.lemmas.List.{drop_more}
-use Rattle.rules_subproof.proofs.Rests.{drop_past}
+use Rattle.std.proofs.lemmas.List.{drop_more, drop_all}
 use Rattle.rules_subproof.proofs.Variables.{AreLeft, free_start, free_next, free_found, free_end}
 use Rattle.rules_subproof.proofs.lets.none_free.Goals as goal
 
@@ -30,5 +29,5 @@ vars-preserved c = (
 pub returns-clause-free : goal.returns-clause-free
 returns-clause-free c xs t leaves refers =
     let past = c.vars-test.false in
-    let none = drop_past c.vars.var-index c.args.vars.now (omega arith) in
+    let none = drop_all c.vars.var-index c.args.vars.now (omega arith) in
     (λ e. free_end c.args.symbols.now t xs (subst (λ ks. AreLeft c.args.symbols.now t ks xs) none (c.vars.invariant.1 xs t leaves refers)), λ g. refl)

@@ -1,10 +1,10 @@
 use Rattle.std.proofs.Common.{◌∙◌, ◌+◌, drop, get_or, IsTrue, false, refl, sym, ap, subst, arith}
 use Rattle.std.proofs.lemmas.Bool.{eqb-true, eq-eqb}
-use Rattle.std.proofs.lemmas.List.{drop_more}
+use Rattle.std.proofs.lemmas.List.{drop_more, drop_all}
 use Rattle.rule_model.specs.Congruence.{AreDifferences}
 use Rattle.rule_model.specs.Reading.{clause_at}
 use Rattle.rules_subproof.specs.Lets.{clauses_at}
-use Rattle.rules_subproof.proofs.Rests.{drop_past, drop_here}
+use Rattle.rules_subproof.proofs.Rests.{drop_here}
 use Rattle.rules_subproof.proofs.Linking.{left_start, left_here, left_by, left_end, same_next, used_next, none_left, other_used, no_clause_left, differences_end}
 use Rattle.rules_subproof.proofs.links.are_differences.Goals as goal
 
@@ -54,7 +54,7 @@ returns-then-used-premises-clause-linked c of ts bound stands zip others =
       λ e. absurd (not_true e),
       λ g. absurd (none_left s v x _ a _ _
           (λ t u l r e. not_true (sym c.if-eq.false ∙ (c.eq.ensures ∙ eq-eqb _ _ ((c.equal_exactly_where_terms_are.ensures s c.count-leaves.ensures.table x a.1 t u l r).1 e))))
-          (left_by s v of (drop c.values.used c.args.premises.now) _ _ _ _ (drop_past c.values.used c.args.premises.now (omega arith)) here) g),
+          (left_by s v of (drop c.values.used c.args.premises.now) _ _ _ _ (drop_all c.values.used c.args.premises.now (omega arith)) here) g),
     )
 
 pub returns-then-not-equates-clause-linked : goal.returns-then-not-equates-clause-linked
@@ -113,6 +113,6 @@ returns-clause-linked c of ts bound stands zip others =
     let end =
     differences_end s v _ (clauses_at of (drop c.values.used c.args.premises.now))
     (left_end s v _ c.args.values.now c.args.anchor.now c.values.place _ (omega arith) (omega arith) (c.values.invariant.2 of ts bound stands zip others)) in (
-      λ e. end.0 (ap (clauses_at of) (drop_past c.values.used c.args.premises.now (let all = eqb-true _ _ e in omega arith))),
+      λ e. end.0 (ap (clauses_at of) (drop_all c.values.used c.args.premises.now (let all = eqb-true _ _ e in omega arith))),
       λ g. eq-eqb _ _ (no_clause_left of c.args.premises.now c.values.used c.values.invariant.1 (end.1 g)),
     )

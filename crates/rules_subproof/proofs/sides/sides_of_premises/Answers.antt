@@ -1,16 +1,16 @@
 use Rattle.std.proofs.Common.{◌∙◌, get_or, sym, subst, arith}
 use Rattle.std.proofs.lemmas.List.{take_all}
+use Rattle.term_pool.proofs.References.{refer_are_terms}
 use Rattle.rule_model.specs.Reading.{clause_at}
 use Rattle.rules_subproof.specs.Lets.{clauses_at}
 use Rattle.rules_subproof.specs.SideTables.{TellsSides}
 use Rattle.rules_subproof.proofs.SideTables.{clauses_next}
-use Rattle.rules_subproof.proofs.Zips.{zip_terms}
 use Rattle.rules_subproof.proofs.sides.sides_of_premises.Goals as goal
 
 pub add_premise-requires : goal.add_premise-requires
 add_premise-requires c =
     rw (c.premises.invariant.0, c.clause.ensures)
-    (zip_terms c.args.symbols.now c.args.terms.now _ _ (c.terms_correspond.ensures.clause c.args.symbols.now c.args.terms.now c.args.proof.now _ _ c.requires.stand.stand))
+    (refer_are_terms c.args.symbols.now c.args.terms.now _ _ (c.terms_correspond.ensures.clause c.args.symbols.now c.args.terms.now c.args.proof.now _ _ c.requires.stand.stand))
 
 pub premises-preserved : goal.premises-preserved
 premises-preserved c = (

@@ -5,10 +5,10 @@ use Rattle.rule_model.specs.Closings.{negations}
 use Rattle.rule_model.specs.Reading.{premises_at, last_inside_at}
 use Rattle.term_pool.specs.Bindings.{IsBindingOf}
 use Rattle.term_pool.specs.Views.{RefersTo}
+use Rattle.term_pool.proofs.References.{refer_are_terms}
 use Rattle.rules_subproof.proofs.ScopePlaces.{scope_within, last_before}
 use Rattle.rules_subproof.proofs.SubproofLemmas.{empty_too, all_discharged_too, makes_subproof, ending_of_subproof}
 use Rattle.term_model.proofs.Zips.{zip_length}
-use Rattle.rules_subproof.proofs.Zips.{zip_terms}
 use Rattle.rules_subproof.proofs.subproofs.is_subproof.Goals as goal
 
 not_true : IsTrue false → ⊥
@@ -32,7 +32,7 @@ clause-requires-2 c =
 pub ends_with-requires-clause-literals : goal.ends_with-requires-clause-literals
 ends_with-requires-clause-literals c =
     rw (c.begins_with_negations.ensures.same, c.clause.ensures)
-    (zip_terms c.args.symbols.now c.args.terms.now _ _ (c.terms_correspond.ensures.clause c.args.symbols.now c.args.terms.now c.args.proof.now _ c.args.i c.requires.stand.stand))
+    (refer_are_terms c.args.symbols.now c.args.terms.now _ _ (c.terms_correspond.ensures.clause c.args.symbols.now c.args.terms.now c.args.proof.now _ c.args.i c.requires.stand.stand))
 
 pub ends_with-requires-clause-place : goal.ends_with-requires-clause-place
 ends_with-requires-clause-place c =

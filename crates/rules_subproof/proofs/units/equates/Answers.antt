@@ -1,7 +1,7 @@
 use Rattle.std.proofs.Common.{IsTrue, subst, false}
+use Rattle.term_pool.proofs.References.{refer_are_terms}
 use Rattle.rule_model.specs.Reading.{clause_at}
 use Rattle.rules_subproof.proofs.UnitClauses.{first_same, second_same, both_same}
-use Rattle.rules_subproof.proofs.Zips.{zip_terms}
 use Rattle.rules_subproof.proofs.units.equates.Goals as goal
 
 not_true : IsTrue false → ⊥
@@ -10,7 +10,7 @@ not_true e = cc
 pub unit_sides-requires : goal.unit_sides-requires
 unit_sides-requires c =
     rw c.clause.ensures
-    (zip_terms c.args.symbols.now c.args.terms.now _ _ (c.terms_correspond.ensures.clause c.args.symbols.now c.args.terms.now c.args.proof.now _ c.args.j c.requires.stand.stand))
+    (refer_are_terms c.args.symbols.now c.args.terms.now _ _ (c.terms_correspond.ensures.clause c.args.symbols.now c.args.terms.now c.args.proof.now _ c.args.j c.requires.stand.stand))
 
 pub returns-in_default-clause-equates : goal.returns-in_default-clause-equates
 returns-in_default-clause-equates c of t u stands l r = (

@@ -1,6 +1,7 @@
 use Rattle.std.proofs.lemmas.Option.{IfSome_then}
-use Rattle.rules_subproof.proofs.UnitClauses.{many_are_no_unit, unit_of, no_unit, none_then}
+use Rattle.rules_subproof.proofs.UnitClauses.{many_are_no_unit, unit_of, no_unit}
 use Rattle.rules_subproof.proofs.units.unit_sides.Goals as goal
+use Rattle.term_parts.proofs.Options.{none_then}
 
 pub returns-clause-sides : goal.returns-clause-sides
 returns-clause-sides c =

@@ -1,6 +1,6 @@
 use Rattle.std.proofs.Common.{◌≡◌, rules}
-use Rattle.schema_match.proofs.OverLemmas.{over_is, other_head, let_is_not_over}
 use Rattle.schema_match.proofs.applications.over.Goals as goal
+use Rattle.term_parts.proofs.PartLemmas.{over_is, other_head, let_is_not_over}
 
 pub returns-in_default-clause-other : goal.returns-in_default-clause-other
 returns-in_default-clause-other c t refers n h =

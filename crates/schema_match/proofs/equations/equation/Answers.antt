@@ -3,8 +3,9 @@ use Rattle.std.proofs.lemmas.Bool.{eqb-true, eq-eqb}
 use Rattle.std.proofs.lemmas.List.Elements.{All-head}
 use Rattle.std.proofs.lemmas.Option.{IfSome_then}
 use Rattle.term_pool.specs.Views.{IsTerm}
-use Rattle.schema_match.proofs.EquationLemmas.{with_premises, with_literals, no_equation, equation_is, IfNone_then}
+use Rattle.schema_match.proofs.EquationLemmas.{with_premises, with_literals, no_equation, equation_is}
 use Rattle.schema_match.proofs.equations.equation.Goals as goal
+use Rattle.term_parts.proofs.Options.{none_then}
 
 pub returns-then-not-is_empty-clause-other : goal.returns-then-not-is_empty-clause-other
 returns-then-not-is_empty-clause-other c ps ts u w premises clause none e =
@@ -28,6 +29,6 @@ returns-clause-equation c =
 
 pub returns-clause-other : goal.returns-clause-other
 returns-clause-other c =
-    IfNone_then c.sides_of.result c.sides_of.ensures.other (λ other ps ts u w premises clause none e.
+    none_then c.sides_of.result c.sides_of.ensures.other (λ other ps ts u w premises clause none e.
     no_equation c.args.symbols.now c.args.terms.now c.args.premises.now c.args.clause.now ps ts premises clause c.in-Some.literal
     c.in-Some.ensures.only other u w none e)

@@ -1,6 +1,7 @@
 use Rattle.sym_table.specs.Table.{functions_before}
-use Rattle.sort_check.proofs.Steps.{same_terms, ite_argument, ite_step}
+use Rattle.sort_check.proofs.Steps.{ite_argument, ite_step}
 use Rattle.sort_check.proofs.descent.application_step.Goals as goal
+use Rattle.term_pool.proofs.Keeping.{same_terms}
 
 pub nth_arg-requires : goal.nth_arg-requires
 nth_arg-requires c =

@@ -1,6 +1,7 @@
 use Rattle.std.proofs.Common.{refl, ◌∙◌}
 use Rattle.term_pool.specs.declared.shape.Shape.TheVariants as Shape
-use Rattle.sort_check.proofs.Steps.{same_terms, number_step, is_variable, variable_step, is_application, application_look, is_let, let_step}
+use Rattle.term_pool.proofs.Keeping.{same_terms}
+use Rattle.sort_check.proofs.Steps.{number_step, is_variable, variable_step, is_application, application_look, is_let, let_step}
 use Rattle.sort_check.proofs.descent.look_down.Goals as goal
 
 pub variable_sort-requires : goal.variable_sort-requires

@@ -1,7 +1,8 @@
 use Rattle.std.proofs.Common.{◌∙◌, refl}
 use Rattle.flip_keys.specs.Assertions.{references_of}
-use Rattle.step_check.proofs.AssumeLemmas.{asserted_next, asserted_all, not_all_asserted, false_is, item_is_term, known}
+use Rattle.step_check.proofs.AssumeLemmas.{asserted_next, asserted_all, not_all_asserted, item_is_term, known}
 use Rattle.step_check.proofs.assumes.are_asserted.Goals as goal
+use Rattle.term_parts.proofs.PartLemmas.{false_is}
 
 pub is_asserted-requires-clause-known : goal.is_asserted-requires-clause-known
 is_asserted-requires-clause-known c =

@@ -1,7 +1,9 @@
 use Rattle.std.proofs.Common.{get_or, refl}
 use Rattle.term_pool.proofs.Keeping.{terms-trans}
-use Rattle.step_check.proofs.AssumeLemmas.{refer_terms, known}
-use Rattle.step_check.proofs.Growing.{keeps_same_terms, kept_same_terms}
+use Rattle.term_pool.proofs.ReadingLemmas.{keeps-same}
+use Rattle.term_pool.proofs.References.{refer_are_terms}
+use Rattle.step_check.proofs.AssumeLemmas.{known}
+use Rattle.step_check.proofs.Growing.{kept_same_terms}
 use Rattle.step_check.proofs.checking.statuses.Goals as goal
 
 pub new-requires-2 : goal.new-requires-2
@@ -11,7 +13,7 @@ new-requires-2 c =
     let asserted = c.args.problem.now.assertions in
     let a = c.requires.asserted in
     rw c.assertions_of.ensures
-    (λ k d below. known s v v (get_or asserted k d) refl (refer_terms s v asserted a.assertions a.refer k d below))
+    (λ k d below. known s v v (get_or asserted k d) refl (refer_are_terms s v asserted a.assertions a.refer k d below))
 
 pub add_all-requires-clause-kept : goal.add_all-requires-clause-kept
 add_all-requires-clause-kept c = kept_same_terms _ _ _ _ _ c.new-2.ensures.same c.in_ok-scopes.ensures.kept
@@ -27,4 +29,4 @@ pub returns-in-Ok-clause-placed : goal.returns-in-Ok-clause-placed
 returns-in-Ok-clause-placed c = rw c.new-2.ensures.same at c.add_all.ensures.placed
 
 pub returns-in-Ok-clause-keeps : goal.returns-in-Ok-clause-keeps
-returns-in-Ok-clause-keeps c = terms-trans _ _ _ (keeps_same_terms _ _ c.new-2.ensures.same) c.add_all.ensures.keeps
+returns-in-Ok-clause-keeps c = terms-trans _ _ _ (keeps-same _ _ c.new-2.ensures.same) c.add_all.ensures.keeps

@@ -1,8 +1,8 @@
 use Rattle.std.proofs.Common.{◌≤◌, ◌∙◌, sym, subst}
 use Rattle.std.proofs.lemmas.Result.{IfOk-weaker, IfErr-weaker}
+use Rattle.sym_table.proofs.Tables.{keeps_table}
 use Rattle.rule_model.specs.Scopes.{subproofs_in}
 use Rattle.term_pool.proofs.Keeping.{terms-trans}
-use Rattle.proof_contexts.proofs.Growing.{keeps_table}
 use Rattle.step_check.proofs.Growing.{lacks_side, lacks_image, places_image, places_side}
 use Rattle.step_check.proofs.KindLemmas.{tells_of_refl}
 use Rattle.step_check.proofs.steps.answer_of_refl.Goals as goal

@@ -1,7 +1,7 @@
 use Rattle.std.proofs.Common.{◌≡◌, ◌∙◌, sym, refl}
 use Rattle.std.proofs.lemmas.Result.{IfOk-weaker}
+use Rattle.term_pool.proofs.References.{refer_are_terms}
 use Rattle.rule_model.specs.Reading.{clause_at, scope_at}
-use Rattle.step_check.proofs.AssumeLemmas.{zip_terms}
 use Rattle.step_check.proofs.StatusLemmas.{inner_assume, outer_assume}
 use Rattle.step_check.proofs.steps.may_assume.Goals as goal
 
@@ -14,7 +14,7 @@ pub are_asserted-requires-clause-clause : goal.are_asserted-requires-clause-clau
 are_asserted-requires-clause-clause c =
     let stand = c.requires.stand in
     rw c.clause.ensures
-    (zip_terms c.args.subject.now.symbols.now c.args.terms.now _ _ (c.terms_correspond.ensures.clause c.args.subject.now.symbols.now c.args.terms.now c.args.subject.now.proof.now stand.proof c.args.i stand.stand))
+    (refer_are_terms c.args.subject.now.symbols.now c.args.terms.now _ _ (c.terms_correspond.ensures.clause c.args.subject.now.symbols.now c.args.terms.now c.args.subject.now.proof.now stand.proof c.args.i stand.stand))
 
 pub returns-clause-may : goal.returns-clause-may
 returns-clause-may c =

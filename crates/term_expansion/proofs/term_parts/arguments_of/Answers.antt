@@ -1,7 +1,7 @@
 use Rattle.std.proofs.Common.{subst, drop, length, List, ℕ}
 use Rattle.term_pool.specs.Reading.{arguments_of}
 use Rattle.term_pool.specs.Views.{TermsView, ReferToAll}
-use Rattle.term_expansion.proofs.SameTerms.{same_terms}
+use Rattle.term_pool.proofs.Keeping.{same_terms}
 use Rattle.term_expansion.proofs.term_parts.arguments_of.Goals as goal
 
 pub returns-clause-arguments : goal.returns-clause-arguments

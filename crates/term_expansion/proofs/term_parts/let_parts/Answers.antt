@@ -2,8 +2,9 @@ use Rattle.std.proofs.Common.{◌≡◌, subst, sym, drop, length, List, ℕ}
 use Rattle.term_model.specs.Terms.{Bindings, Term, let_in}
 use Rattle.term_pool.specs.Building.{AreBindings}
 use Rattle.term_pool.specs.Views.{TermsView, RefersTo}
+use Rattle.term_pool.proofs.Keeping.{same_terms}
 use Rattle.sym_table.specs.Table.{Table}
-use Rattle.term_expansion.proofs.SameTerms.{same_terms, bindings-length}
+use Rattle.term_expansion.proofs.BindingLengths.{bindings-length}
 use Rattle.term_expansion.proofs.term_parts.let_parts.Goals as goal
 
 bindings_are : (c : goal.In_ok-bindings) (s : Table) (bs : Bindings) (u : Term) → RefersTo s c.args.terms.now c.args.r (let_in bs u) → AreBindings s c.args.terms.now c.bindings.new.vars.items c.bindings.new.values.items bs

@@ -5,6 +5,7 @@ use Rattle.term_model.specs.FreeVariables.{IsFree}
 use Rattle.term_model.specs.Terms.{Term}
 use Rattle.term_pool.specs.Reading.{arguments_of}
 use Rattle.term_pool.specs.Views.{RefersTo}
+use Rattle.term_pool.proofs.Keeping.{same_terms}
 use Rattle.term_names.specs.Standing.{IsScript}
 use Rattle.term_expansion.specs.Free.{AddsLeaves, AddsOne, AddsUnbound}
 use Rattle.term_expansion.specs.Heights.{IsAtMost}
@@ -48,7 +49,7 @@ gather-gather_let-requires t c =
     let s = c.args.tables.now.symbols.now in
     let v = c.args.terms.now in
     let w = c.head.new.self in
-    let first : w ≡ v = leaf.stays v w c.head.ensures.keeps c.head.ensures.unchanged in
+    let first : w ≡ v = same_terms v w c.head.ensures.keeps c.head.ensures.unchanged in
     (omega arith, (c.requires.table, (subst (λ z. IsAtMost (both s z) c.args.most c.args.r) (sym first) c.requires.low, (λ u refers. c.in_default-head.ensures.let_term s u c.requires.table (subst (λ z. RefersTo s z c.args.r u) first refers), (subst (λ z. AreBodies (both s z) c.args.bodies.now) (sym first) c.requires.bodies, (subst (λ z. CoversFree (both s z) c.args.region.now.seen.keys c.args.region.now.found.keys) (sym first) c.requires.covers, (c.requires.script.0, subst (λ z. IsScript (both s z) (known_in c.args.tables.now.settings.now c.args.tables.now.names.now) c.requires.script.0) (sym first) c.requires.script.1)))))))
 
 pub gather-returns-in_default-head-clause-covers : goal.gather-returns-in_default-head-clause-covers
@@ -56,7 +57,7 @@ gather-returns-in_default-head-clause-covers t c =
     let s = c.args.tables.now.symbols.now in
     let v = c.args.terms.now in
     let w = c.head.new.self in
-    let first : w ≡ v = leaf.stays v w c.head.ensures.keeps c.head.ensures.unchanged in
+    let first : w ≡ v = same_terms v w c.head.ensures.keeps c.head.ensures.unchanged in
     let old = c.gather_let.new.region.seen.keys in
     let found = c.gather_let.new.region.found.keys in
     on_ok_weaker c.add-in_default-head.result
@@ -94,7 +95,7 @@ gather-gather_all-requires t c =
     let v = c.args.terms.now in
     let w = c.head.new.self in
     let some : 1 ≤ c.args.most = c.parts_are_lower.ensures.some s v c.args.most c.args.r c.requires.low in
-    let first : w ≡ v = leaf.stays v w c.head.ensures.keeps c.head.ensures.unchanged in
+    let first : w ≡ v = same_terms v w c.head.ensures.keeps c.head.ensures.unchanged in
     let same = c.arguments_of.ensures.same in
     let no_let = λ (u : Term) (refers : RefersTo s w c.args.r u). leaf.application-no_let s c.in-Some-head.head (arguments_of u) u (c.in-Some-head.ensures.application s u c.requires.table (subst (λ z. RefersTo s z c.args.r u) first refers)) in
     let low = c.parts_are_lower.ensures.arguments s w c.args.most c.args.r c.in_ok-list.list.items (subst (λ z. IsAtMost (both s z) c.args.most c.args.r) (sym first) c.requires.low) (λ u refers. c.in_ok-list.ensures.arguments s u refers (no_let u refers)) in
@@ -106,7 +107,7 @@ adds t c =
     let s = c.args.tables.now.symbols.now in
     let v = c.args.terms.now in
     let w = c.head.new.self in
-    let first : w ≡ v = leaf.stays v w c.head.ensures.keeps c.head.ensures.unchanged in
+    let first : w ≡ v = same_terms v w c.head.ensures.keeps c.head.ensures.unchanged in
     λ u refers.
     let app = c.in-Some-head.ensures.application s u c.requires.table refers in
     lemma.application-adds s c.in-Some-head.head (arguments_of u) u c.args.region.now.found.keys c.gather_all.new.region.found.keys (c.is_variable.ensures.no c.if-is_variable.false) app
@@ -121,7 +122,7 @@ gather-returns-clause-covers t c =
     let s = c.args.tables.now.symbols.now in
     let v = c.args.terms.now in
     let w = c.head.new.self in
-    let first : c.arguments_of.new.terms ≡ v = c.arguments_of.ensures.same ∙ leaf.stays v w c.head.ensures.keeps c.head.ensures.unchanged in
+    let first : c.arguments_of.new.terms ≡ v = c.arguments_of.ensures.same ∙ same_terms v w c.head.ensures.keeps c.head.ensures.unchanged in
     let old = c.gather_all.new.region.seen.keys in
     let found = c.gather_all.new.region.found.keys in
     on_ok_weaker c.add-2.result

@@ -1,6 +1,6 @@
 use Rattle.std.proofs.lemmas.Result.{IfOk-weaker, on_err_weaker}
+use Rattle.sym_table.proofs.Adds.{on_err}
 use Rattle.term_pool.proofs.BuildingLemmas.{two_built, first_refused, second_refused, cell_known}
-use Rattle.term_pool.proofs.Results.{on_err}
 use Rattle.term_pool.proofs.build.binding.Goals as goal
 
 pub returns-in_err-first-clause-full : goal.returns-in_err-first-clause-full

@@ -1,6 +1,6 @@
 use Rattle.std.proofs.Common.{rules, ◌-◌, ◌≤◌, length, arith}
+use Rattle.sym_table.proofs.Adds.{on_err}
 use Rattle.term_pool.proofs.BuildingLemmas.{bindings_step, bindings_lack, bindings_lack_all, drop-at, drop-at_number}
-use Rattle.term_pool.proofs.Results.{on_err}
 use Rattle.term_pool.proofs.build.bindings.Goals as goal
 
 pub returns-in_err-list-clause-full : goal.returns-in_err-list-clause-full

@@ -1,6 +1,6 @@
 use Rattle.std.proofs.Common.{rules, ◌-◌, arith}
+use Rattle.sym_table.proofs.Adds.{on_err}
 use Rattle.term_pool.proofs.BuildingLemmas.{list_step, list_lacks, lacks_all, drop-at}
-use Rattle.term_pool.proofs.Results.{on_err}
 use Rattle.term_pool.proofs.lists.list_of.Goals as goal
 
 pub returns-in_err-list-clause-full : goal.returns-in_err-list-clause-full

@@ -1,11 +1,12 @@
 use Rattle.std.proofs.Common.{ap, sym, subst, List, ℕ}
 use Rattle.text_items.specs.ItemShapes.{Name}
+use Rattle.sym_table.proofs.Tables.{keeps_table}
 use Rattle.term_expansion.specs.Free.{AreFreeLeaves}
 use Rattle.rule_model.specs.Replacement.{free_variables}
 use Rattle.problem_text.specs.Terms.{with_names}
 use Rattle.term_names.specs.Scope.{known_in}
 use Rattle.term_reader.proofs.NamesLeft.{where_none}
-use Rattle.term_reader.proofs.Staying.{table_keeps_none, adds_none, value_stays, script_stays}
+use Rattle.term_reader.proofs.Staying.{adds_none, value_stays, script_stays}
 use Rattle.term_reader.proofs.naming.give_names.Goals as goal
 
 pub returns-then-is_none-clause-given : goal.returns-then-is_none-clause-given
@@ -23,7 +24,7 @@ returns-clause-given c =
     let keeps = c.free_leaves.ensures.keeps in
     c.give_each.ensures.given s new t sc
     (record {
-      value = value_stays s s old new (table_keeps_none s) keeps c.args.value t value;
+      value = value_stays s s old new (keeps_table s) keeps c.args.value t value;
       low = c.requires.low;
       free = subst (λ (leaves : List ℕ). AreFreeLeaves s leaves (free_variables t.tree)) (sym c.deref.ensures.value) (c.in_ok-free.ensures.free t value);
     })

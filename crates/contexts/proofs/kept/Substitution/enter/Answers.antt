@@ -1,11 +1,12 @@
 use Rattle.std.proofs.Common.{◌≡◌, ◌∙◌, ◌++◌, ◌∷◌, [], true, is_ok, refl, ap, sym, subst, arith}
+use Rattle.term_model.proofs.Basics.{taken_where}
 use Rattle.contexts.specs.declared.frames.Frame.{Frame}
 use Rattle.contexts.specs.Becoming.{look_of}
 use Rattle.contexts.specs.Firsts.{first_for}
 use Rattle.contexts.specs.Kept.{IsRight, all_bindings}
 use Rattle.contexts.proofs.FirstLemmas.{trees_of}
 use Rattle.contexts.proofs.FrameLemmas.{back_none}
-use Rattle.contexts.proofs.KeptFrames.{ok_where_room, first_where, right_again, frames_in, right_in}
+use Rattle.contexts.proofs.KeptFrames.{ok_where_room, right_again, frames_in, right_in}
 use Rattle.contexts.proofs.kept.Substitution.enter.Goals as goal
 
 pub put_all_back-requires : goal.put_all_back-requires
@@ -23,7 +24,7 @@ returns-in-Err-clause-right c =
 pub returns-clause-frames : goal.returns-clause-frames
 returns-clause-frames c =
     let went : is_ok c.push-room.result ≡ true = ok_where_room c.push-room.result _ c.push-room.ensures.full (λ full. let room = c.in_ok-reserve.ensures.ok in omega arith) in
-    let items = first_where (is_ok c.push-room.result) c.push-room.new.self.items _ _ went c.push-room.ensures.items in
+    let items = taken_where (is_ok c.push-room.result) c.push-room.new.self.items _ _ went c.push-room.ensures.items in
     frames_in c.args.self.now (record { images = c.put_all.new.images; around = c.push-room.new.self; here = c.replace-outer.new.dest }) c.args.bindings.items
     (items ∙ ap (λ fs. fs ++ c.replace-outer.result ∷ []) c.reserve.ensures.items ∙ ap (λ (f : Frame). c.args.self.now.around.items ++ f ∷ []) c.replace-outer.ensures.value)
     (ap (λ (f : Frame). f.bindings.items) c.replace-outer.ensures.after)
@@ -31,7 +32,7 @@ returns-clause-frames c =
 pub returns-clause-right : goal.returns-clause-right
 returns-clause-right c =
     let went : is_ok c.push-room.result ≡ true = ok_where_room c.push-room.result _ c.push-room.ensures.full (λ full. let room = c.in_ok-reserve.ensures.ok in omega arith) in
-    let items = first_where (is_ok c.push-room.result) c.push-room.new.self.items _ _ went c.push-room.ensures.items in
+    let items = taken_where (is_ok c.push-room.result) c.push-room.new.self.items _ _ went c.push-room.ensures.items in
     let trees = trees_of c.args.symbols.now c.count-leaves.ensures.table c.args.terms.now (c.args.bindings.items ++ all_bindings c.args.self.now) c.requires.bindings.means c.requires.bindings.are in
     subst (λ (f : Frame). IsRight c.args.terms.now (record { images = c.put_all.new.images; around = c.push-room.new.self; here = f })) (sym c.replace-outer.ensures.after)
     (right_in c.args.terms.now c.args.self.now

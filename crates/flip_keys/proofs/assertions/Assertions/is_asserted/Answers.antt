@@ -1,6 +1,7 @@
 use Rattle.std.proofs.Common.{refl}
+use Rattle.term_model.proofs.Lists.{has_number}
 use Rattle.flip_keys.specs.Assertions.{references_of}
-use Rattle.flip_keys.proofs.Finding.{found_later, asserted_is, has_number, stands_there}
+use Rattle.flip_keys.proofs.Finding.{found_later, asserted_is, stands_there}
 use Rattle.flip_keys.proofs.Walking.{same_grows}
 use Rattle.flip_keys.proofs.assertions.Assertions.is_asserted.Goals as goal
 
@@ -24,7 +25,7 @@ returns-clause-asserted c ts t refer right =
     let keys = rw now at c.in_ok-number.ensures.keys in
     let number = rw now at c.in_ok-number.ensures.number in
     asserted_is c.args.symbols.now c.args.terms.now c.count-leaves.ensures.table c.one_to_one.ensures c.number.new.self keys references numbered.numbers.keys found c.args.r c.in_ok-number.number number c.contains.result
-    (rw c.contains.ensures (has_number c.in_ok-number.number numbered.numbers.keys)) ts t refer right
+    (rw c.contains.ensures (has_number numbered.numbers.keys c.in_ok-number.number)) ts t refer right
 
 pub returns-clause-ready : goal.returns-clause-ready
 returns-clause-ready c =

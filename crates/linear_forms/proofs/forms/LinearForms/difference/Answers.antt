@@ -1,4 +1,4 @@
-use Rattle.linear_forms.proofs.Forming.{drop_front}
+use Rattle.std.proofs.Math.Seq.{drop-append_seam}
 use Rattle.linear_forms.proofs.forms.LinearForms.difference.Goals as goal
 
 pub returns-in_default-clause-difference : goal.returns-in_default-clause-difference
@@ -10,4 +10,4 @@ returns-clause-difference c =
     λ t u refers other.
     let told = c.in_ok-numbers.ensures.difference t u refers other in
     let form = rw c.in-Some.is at told in
-    rw (c.in_ok-extend_from_slice.ensures.items, drop_front c.args.into.now.items c.deref.result.now, c.deref.ensures.value) form
+    rw (c.in_ok-extend_from_slice.ensures.items, drop-append_seam c.args.into.now.items c.deref.result.now, c.deref.ensures.value) form

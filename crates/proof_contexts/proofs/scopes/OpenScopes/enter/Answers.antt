@@ -1,10 +1,10 @@
 use Rattle.std.proofs.Common.{sym, subst}
+use Rattle.sym_table.proofs.Tables.{keeps_table}
 use Rattle.contexts.proofs.Results.{handed_on}
 use Rattle.proof_contexts.specs.OpenAnchors.{IsAnchorImage}
 use Rattle.proof_contexts.specs.Ways.{IsWayDown}
 use Rattle.term_pool.proofs.Keeping.{terms-trans}
-use Rattle.proof_contexts.proofs.Growing.{keeps_table}
-use Rattle.proof_contexts.proofs.Placing.{places_then}
+use Rattle.term_pool.proofs.PlacedCells.{places_more_then}
 use Rattle.proof_contexts.proofs.WayLemmas.{way_down}
 use Rattle.proof_contexts.proofs.scopes.OpenScopes.enter.Goals as goal
 
@@ -25,14 +25,14 @@ down-preserved c =
       keeps = terms-trans _ _ _ c.down.invariant.keeps c.open.ensures.keeps;
       way = subst (λ k. IsWayDown c.args.proof.now k c.args.scope c.pop.new.self.items) (sym c.in_ok-open.ensures.scope) down.0;
       placed = λ of stand.
-          places_then s c.args.terms.now.pass c.down.terms.pass c.open.new.terms.pass (IsAnchorImage of) c.open.ensures.keeps.pass (c.down.invariant.placed of stand)
+          places_more_then s c.args.terms.now.pass c.down.terms.pass c.open.new.terms.pass (IsAnchorImage of) c.open.ensures.keeps.pass (c.down.invariant.placed of stand)
           (c.open.ensures.placed of (c.proofs_stay.ensures s s c.args.terms.now c.down.terms c.args.proof.now of (keeps_table s) c.down.invariant.keeps stand));
     }
 
 pub returns-in_err-open-clause-placed : goal.returns-in_err-open-clause-placed
 returns-in_err-open-clause-placed c of stand =
     let s = c.args.symbols.now in
-    places_then s c.args.terms.now.pass c.down.terms.pass c.open.new.terms.pass (IsAnchorImage of) c.open.ensures.keeps.pass (c.down.invariant.placed of stand)
+    places_more_then s c.args.terms.now.pass c.down.terms.pass c.open.new.terms.pass (IsAnchorImage of) c.open.ensures.keeps.pass (c.down.invariant.placed of stand)
     (c.open.ensures.placed of (c.proofs_stay.ensures s s c.args.terms.now c.down.terms c.args.proof.now of (keeps_table s) c.down.invariant.keeps stand))
 
 pub returns-in_err-open-clause-full : goal.returns-in_err-open-clause-full

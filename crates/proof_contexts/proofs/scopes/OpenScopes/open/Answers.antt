@@ -1,13 +1,14 @@
 use Rattle.std.proofs.Common.{◌≡◌, ◌∙◌, ◌∷◌, is_ok, true, false, reverse, refl, sym, ap, subst}
 use Rattle.std.specs.List.{AllZip}
+use Rattle.sym_table.proofs.Tables.{keeps_table}
+use Rattle.term_model.proofs.Basics.{taken_where}
 use Rattle.contexts.proofs.Results.{handed_on}
 use Rattle.term_pool.specs.Bindings.{IsBindingOf}
 use Rattle.rule_model.specs.Contexts.{images}
 use Rattle.rule_model.specs.Reading.{bindings_at}
-use Rattle.proof_contexts.proofs.Growing.{keeps_table}
 use Rattle.proof_contexts.proofs.Levels.{level_here, kept_later}
 use Rattle.proof_contexts.proofs.Opening.{inner_replacement, kept_in, places_images, lacks_images}
-use Rattle.proof_contexts.proofs.Popping.{err_is_not_ok, no_err_is_ok, taken_where, left_where}
+use Rattle.proof_contexts.proofs.Popping.{err_is_not_ok, no_err_is_ok, left_where}
 use Rattle.proof_contexts.proofs.scopes.OpenScopes.open.Goals as goal
 
 pub images_of-requires-clause-anchor : goal.images_of-requires-clause-anchor

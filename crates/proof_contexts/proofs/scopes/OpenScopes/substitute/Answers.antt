@@ -1,7 +1,7 @@
 use Rattle.std.proofs.Common.{refl}
 use Rattle.std.proofs.lemmas.Result.{IfOk-weaker, IfErr-weaker}
+use Rattle.sym_table.proofs.Tables.{keeps_table}
 use Rattle.rule_model.specs.Contexts.{images}
-use Rattle.proof_contexts.proofs.Growing.{keeps_table}
 use Rattle.proof_contexts.proofs.Levels.{stand_for_images, kept_later}
 use Rattle.proof_contexts.proofs.scopes.OpenScopes.substitute.Goals as goal
 

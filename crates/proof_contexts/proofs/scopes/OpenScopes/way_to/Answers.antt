@@ -1,13 +1,13 @@
 use Rattle.std.proofs.Common.{◌<◌, ◌∙◌, sym, arith}
 use Rattle.proof_contexts.proofs.Anchors.{some_parent, parent_less}
-use Rattle.proof_contexts.proofs.Popping.{none_of}
 use Rattle.proof_contexts.proofs.WayLemmas.{way_up}
 use Rattle.proof_contexts.proofs.scopes.OpenScopes.way_to.Goals as goal
+use Rattle.contexts.proofs.Keeping.{no_some}
 
 pub returns-in_default-clause-way : goal.returns-in_default-clause-way
 returns-in_default-clause-way c =
     let above : 0 < c.up.at = let below = c.leave.ensures.below in let other = c.if-self-at.false in omega arith in
-    absurd (some_parent c.args.proof.now c.up.at above c.up.invariant.within (sym c.parent.ensures ∙ none_of c.parent.result c.in_default.not-Some))
+    absurd (some_parent c.args.proof.now c.up.at above c.up.invariant.within (sym c.parent.ensures ∙ no_some c.parent.result c.in_default.not-Some))
 
 pub up-smaller : goal.up-smaller
 up-smaller c = parent_less c.args.proof.now c.up.at c.in-Some.around c.up.invariant.within (sym c.parent.ensures ∙ c.in-Some.is)

@@ -1,6 +1,6 @@
 -- The rows, the lists and the names stay in step.
-use Rattle.std.proofs.Common.{rules, arith, ◌≡◌, ◌++◌, ◌∷◌, [], ◌<◌, ◌-◌, ◌^◌, length, subst, sym, ◌∙◌}
-use Rattle.proof_store.specs.Stored.{AreInStep, HasAt}
+use Rattle.std.proofs.Common.{rules, ◌≡◌, ◌++◌, ◌∷◌, [], ◌<◌, ◌-◌, ◌^◌, length, subst}
+use Rattle.proof_store.specs.Stored.{HasAt}
 use Rattle.proof_store.proofs.StoredLemmas.{row_of, in_step_push, stored_count}
 use Rattle.proof_store.proofs.commands.Commands.push.Goals as goal
 

@@ -1,5 +1,6 @@
-use Rattle.rule_model.proofs.HeightLaws.{least_height, operation_higher, call_higher, bound_higher, body_higher}
+use Rattle.rule_model.proofs.HeightLaws.{least_height, operation_higher, call_higher, bound_higher}
 use Rattle.rule_model.proofs.laws.replacement.parts_are_less_high.Goals as goal
+use Rattle.term_model.proofs.HeightLaws.{body_lower}
 
 pub returns-clause-least : goal.returns-clause-least
 returns-clause-least c = least_height
@@ -14,4 +15,4 @@ pub returns-clause-bound : goal.returns-clause-bound
 returns-clause-bound c = bound_higher
 
 pub returns-clause-body : goal.returns-clause-body
-returns-clause-body c = body_higher
+returns-clause-body c = body_lower

@@ -1,9 +1,10 @@
 -- The name is new, so the sorts stay apart.
 use Rattle.std.proofs.Common.{◌≡◌, ◌⊎◌, ◌↔◌, inl, inr, Bool, true, false, ℕ, List, ◌∙◌, ap, sym, subst, arith, length, slice_get}
+use Rattle.std.proofs.lemmas.Bool.{true≢false}
 use Rattle.sym_table.specs.Names.{Lacks, AreApart}
 use Rattle.sym_table.specs.Words.{IsBuiltIn}
 use Rattle.sym_table.specs.Table.{Table, IsSortName, Keeps}
-use Rattle.sym_table.proofs.Lists.{true-false, AreApart-push}
+use Rattle.sym_table.proofs.Lists.{AreApart-push}
 use Rattle.sym_table.proofs.Links.{length-push}
 use Rattle.sym_table.proofs.Laws.{table_of}
 use Rattle.sym_table.proofs.Adds.{Keeps-with_sort, if_none}
@@ -11,7 +12,7 @@ use Rattle.sym_table.proofs.symbols.Symbols.declare_sort.Goals as goal
 
 -- a name that is no built-in word and no declared sort's
 not_taken : (t : Table) (names : List (List ℕ)) (name : List ℕ) (built_in : Bool) → names ≡ t.sorts → built_in ≡ false → (built_in ≡ true) ↔ IsBuiltIn name → Lacks names name → IsBuiltIn name ⊎ IsSortName t name → ⊥
-not_taken t names name built_in v failed is lacks (inl d) = true-false (sym (is.1 d) ∙ failed)
+not_taken t names name built_in v failed is lacks (inl d) = true≢false (sym (is.1 d) ∙ failed)
 not_taken t names name built_in v failed is lacks (inr d) = lacks d.0 (ap (λ ns. slice_get ns d.0) v ∙ d.1)
 
 pub returns-in_err-add-clause-repeated : goal.returns-in_err-add-clause-repeated

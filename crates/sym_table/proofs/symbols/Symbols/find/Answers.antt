@@ -1,7 +1,7 @@
 -- The number of a name leads to the function's leaf.
 use Rattle.std.proofs.Common.{◌≡◌, ◌<◌, ap, arith, rules, length, slice_get, is_some, Some, refl}
 use Rattle.std.proofs.lemmas.Option.{slice_get_read}
-use Rattle.sym_table.proofs.Lists.{true-false}
+use Rattle.std.proofs.lemmas.Bool.{true≢false}
 use Rattle.sym_table.proofs.Functions.{number_in_range, IsFunctionNamed-number, IsFunctionName-number, lacks-IsFunctionName, place_fits-number}
 use Rattle.sym_table.proofs.symbols.Symbols.find.Goals as goal
 
@@ -29,4 +29,4 @@ returns-clause-found c = IsFunctionNamed-number _ _ _ _ _ _ _ _ _ c.self.view_is
 
 pub returns-clause-none : goal.returns-clause-none
 returns-clause-none c =
-    (λ e. absurd (true-false e), λ h. absurd (h (IsFunctionName-number _ _ _ _ _ _ _ _ c.self.view_is c.self.invariant.0 c.in_ok-number.ensures.found)))
+    (λ e. absurd (true≢false e), λ h. absurd (h (IsFunctionName-number _ _ _ _ _ _ _ _ c.self.view_is c.self.invariant.0 c.in_ok-number.ensures.found)))

@@ -3,15 +3,16 @@ use Rattle.std.proofs.Common.{◌≡◌, ◌∙◌, ◌<◌, ◌+◌, ◌++◌, 
 use Rattle.std.specs.Str.{bytes_eq}
 use Rattle.std.proofs.lemmas.List.{length_push}
 use Rattle.name_set.proofs.NewNames.{StandOnce-new_name}
+use Rattle.sym_table.proofs.Places.{position-there}
 use Rattle.term_names.specs.NameTable.{NameTableView, with_name, entries_of, mark_of, AreMarked}
-use Rattle.term_names.proofs.HeldVariables.{at_place, slice_get-last}
+use Rattle.term_names.proofs.HeldVariables.{slice_get-last}
 use Rattle.term_names.proofs.Marks.{AreMarked-new}
 use Rattle.term_names.proofs.NameEntries.{same_entries}
 use Rattle.term_names.proofs.name_table.NameTable.number_of.Goals as goal
 
 pub returns-in-Some-clause-numbered : goal.returns-in-Some-clause-numbered
 returns-in-Some-clause-numbered c = record {
-  number = at_place _ _ _ (sym c.in-Some.ensures.number);
+  number = position-there _ _ _ (sym c.in-Some.ensures.number);
   others = inl refl;
 }
 
