@@ -43,6 +43,11 @@ alone_in place head (item x (item t rest)) other e = go (is_spelled (codes ":=")
     go false true o e = cc
     go false false o e = cc
 
+assigned_within : (place : ℕ) (head : Item) (rest : Items) → is_spelled (codes ":=") head ≡ true → argument_inside place (item head rest) ≡ None
+    → assigned_fault place rest ≡ None
+assigned_within place head no_items is e = e
+assigned_within place head (item x rest) is e = rw is at e
+
 plain_variable : (x : Item) → is_list_item x ≡ false → variable_fault x ≡ None → symbol_fault x ≡ None
 plain_variable (word p s) plain e = e
 plain_variable (quoted p s) plain e = e
@@ -89,7 +94,9 @@ module _ (items : ItemsView) (k : ℕ) (node : Node) (read : IsItemNode items k 
     split = first_and_others items (k + 1) node.next head head_read head_less read.inside
 
     rest_fits : assigned_fault node.token.start (items_at items head.next node.next) ≡ None
-    rest_fits = rw spelled at (sym (ap (argument_inside node.token.start) split) ∙ inside_fits)
+    rest_fits =
+        assigned_within node.token.start (item_at items (k + 1)) (items_at items head.next node.next) spelled
+        (sym (ap (argument_inside node.token.start) split) ∙ inside_fits)
 
     pair_less : head.next < node.next
     pair_less = some_there items head.next node.next (assigned_fault node.token.start) (λ e. cc) rest_fits

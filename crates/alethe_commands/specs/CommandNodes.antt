@@ -6,7 +6,8 @@ use Rattle.text_items.specs.ItemsAt.{ItemsView, item_at, items_at}
 use Rattle.text_items.specs.Stepping.{EndBy, IsSymbolAt, name_in}
 use Rattle.text_items.specs.Keywords.{misplaced, at_end, is_value, symbols_fault}
 use Rattle.sexpr.specs.Items.{Item}
-use Rattle.alethe_text.specs.Commands.{Attribute, rule, premises, arguments, discharge, Argument, variable_alone, assigned, Command as Shape, assume, step, anchor, step_keywords, names_in, attributes_of, each_argument_fault, argument_of, arguments_in}
+use Rattle.alethe_text.specs.Commands.{Attribute, rule, premises, arguments, discharge, Argument, variable_alone, assigned, Command as Shape, assume, step}
+use Rattle.alethe_text.specs.Commands.{anchor, step_keywords, names_in, attributes_of, each_argument_fault, argument_of, arguments_in}
 use Rattle.alethe_commands.specs.declared.commands.Command.{Command}
 use Rattle.alethe_commands.specs.declared.attributes.StepAttribute.{StepAttribute}
 use Rattle.alethe_commands.specs.declared.arguments.AnchorArgument.{AnchorArgument}

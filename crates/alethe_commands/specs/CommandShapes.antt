@@ -1,4 +1,4 @@
--- Private. What the parts of the reading of a command answer.
+-- Private. What the parts of the reading of a command return.
 use Rattle.std.specs.Prelude.{◌≡◌, ℕ, ◌+◌, ◌≤◌, ⊤, length, Option, Some, None, if◌then◌else◌, List, codes, bytes_eq, Result, Ok, Err}
 use Rattle.sexpr.specs.declared.causes.Cause.TheVariants.{BadCommand, LeftOut, UnknownCommand}
 use Rattle.sexpr.specs.declared.causes.Refusal.{Refusal}

@@ -1,4 +1,4 @@
-//! The attributes of steps and of anchors (Alethe specification, "The Syntax"), told by their nodes.
+//! The attributes of steps (Alethe specification, "The Syntax"), told by their nodes.
 ghost use Rattle.std.specs.Prelude.{◌≡◌, ◌<◌, ◌≤◌, length, Some};
 ghost use Rattle.text_items.specs.ItemsAt.{item_at, items_at};
 ghost use Rattle.text_items.specs.Keywords as keywords;
@@ -59,16 +59,7 @@ const DISCHARGE: Keyword<'static> = Keyword {
     needed: false,
 };
 
-const STEP: Keyword<'static> = Keyword {
-    spelling: b":step",
-    wants: Wanted::Name,
-    once: true,
-    needed: false,
-};
-
 static STEP_KEYWORDS: [Keyword<'static>; 4] = [RULE, PREMISES, ARGUMENTS, DISCHARGE];
-
-static ANCHOR_KEYWORDS: [Keyword<'static>; 2] = [STEP, ARGUMENTS];
 
 /// The first fault of a step's attributes, which stand from `first` to before `end`. The step begins at `place`.
 pub(crate) fn step_attributes_fault(
@@ -84,20 +75,6 @@ pub(crate) fn step_attributes_fault(
         return None;
     }
     attributes_fault(items, &STEP_KEYWORDS, place, first, end)
-}
-
-/// The first fault of an anchor's attributes, which stand from `first` to before `end`, as a list of attributes. The anchor
-/// begins at `place`.
-pub(crate) fn anchor_attributes_fault(
-    items: &ItemText<'_, '_>,
-    place: u64,
-    first: usize,
-    end: usize,
-) -> Option<u64>
-    requires { end ≤ length items.now.nodes }
-    ensures { result ≡ keywords.attributes_fault shape.anchor_keywords place (items_at items.now first end) }
-{
-    attributes_fault(items, &ANCHOR_KEYWORDS, place, first, end)
 }
 
 /// The next of a step's attributes that stand from `at` to before `end` and have no fault of shape, where there is one. It

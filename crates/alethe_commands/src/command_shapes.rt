@@ -99,34 +99,22 @@ fn assigned_fault(items: &ItemText<'_, '_>, place: u64, first: usize, end: usize
     variable_fault(items, first).or(excess(items, behind, end))
 }
 
-/// The sort of a variable alone has to stand from `first` to before `end`, in an argument that begins at `place`.
-fn alone_fault(items: &ItemText<'_, '_>, place: u64, first: usize, end: usize) -> Option<u64>
-    requires { end ≤ length items.now.nodes }
-    ensures { result ≡ shape.alone_fault place (items_at items.now first end) }
-{
-    if first >= end {
-        return Some(place);
-    }
-    excess(items, items.node(first).next, end)
-}
-
 /// Where an argument of an anchor has to stand.
 fn argument_fault(items: &ItemText<'_, '_>, k: usize) -> Option<u64>
     requires { k < length items.now.nodes }
     ensures { result ≡ shape.argument_fault (item_at items.now k) }
 {
     let argument = items.node(k);
-    if k + 1 == argument.next {
+    let Some(next) = second(items, k + 1, argument.next) else {
         return Some(argument.token.start);
-    }
-    let head = items.node(k + 1);
+    };
     if is_spelled(items, b":=", k + 1) {
-        return assigned_fault(items, argument.token.start, head.next, argument.next);
+        return assigned_fault(items, argument.token.start, next, argument.next);
     }
     if name_at(items, k + 1).is_some() {
-        return alone_fault(items, argument.token.start, head.next, argument.next);
+        return excess(items, items.node(next).next, argument.next);
     }
-    Some(head.token.start)
+    Some(items.node(k + 1).token.start)
 }
 
 /// Where arguments of an anchor have to stand, from `first` to before `end`.
@@ -143,6 +131,29 @@ fn each_argument_fault(items: &ItemText<'_, '_>, first: usize, end: usize) -> Op
         k = items.node(k).next;
     }
     None
+}
+
+/// The word `:args` stands alone from `first` to before `end`, in an anchor that begins at `place`: it lacks its list.
+pub(crate) fn list_lacking(
+    items: &ItemText<'_, '_>,
+    place: u64,
+    first: usize,
+    end: usize,
+) -> Option<u64>
+    requires { end ≤ length items.now.nodes }
+    ensures { result ≡ shape.list_lacking place (items_at items.now first end) }
+{
+    if first >= end {
+        return None;
+    }
+    if items.node(first).next < end {
+        return None;
+    }
+    if is_spelled(items, b":args", first) {
+        Some(place)
+    } else {
+        None
+    }
 }
 
 /// What may stand behind the id of an anchor, from `first` to before `end`.

@@ -5,8 +5,8 @@ ghost use Rattle.alethe_text.specs.Commands as shape;
 ghost use Rattle.alethe_commands.specs.CommandNodes.{IsCommand};
 ghost use Rattle.alethe_commands.specs.CommandShapes as spec;
 
-use crate::attributes::{anchor_attributes_fault, step_attributes_fault};
-use crate::command_shapes::{arguments_fault, clause_fault, earlier, word_fault};
+use crate::attributes::step_attributes_fault;
+use crate::command_shapes::{arguments_fault, clause_fault, earlier, list_lacking, word_fault};
 use sexpr::{Cause, Refusal};
 use text_items::children::{bad_command, take};
 use text_items::nodes::ItemText;
@@ -149,9 +149,8 @@ fn anchor(items: &ItemText<'_, '_>, start: u64, at: usize) -> Result<Command, Re
     let keyword = take(items, &mut rest, items.count(), start)?;
     let id = take(items, &mut rest, items.count(), start)?;
     let behind = symbol_fault(items, id).or(arguments_fault(items, rest, items.count()));
-    let own = word_fault(items, b":step", keyword).or(behind);
-    let all = anchor_attributes_fault(items, start, at, items.count());
-    without_fault(earlier(all, own))?;
+    let inside = word_fault(items, b":step", keyword).or(behind);
+    without_fault(list_lacking(items, start, rest, items.count()).or(inside))?;
     let first = first_argument(items, rest);
     Ok(Command::Anchor {
         place: start,

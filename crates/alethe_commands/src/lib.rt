@@ -1,7 +1,7 @@
 //! The commands of an Alethe proof, each told by the nodes of one top item.
 //!
 //! What a command is, or which fault of its shape is its first, is defined in `alethe_text`, on nested items. Here the same is
-//! told from the flat nodes of `text_items`: [`command_of`] answers where the parts of a command stand, down to its terms and
+//! told from the flat nodes of `text_items`: [`command_of`] returns where the parts of a command stand, down to its terms and
 //! sorts, or the refusal; [`next_attribute`] and [`next_argument`] step over what stands in it. Nothing is copied, and no
 //! nesting of a text takes stack.
 //!

@@ -60,7 +60,8 @@ fn is_answer(text: &Lexer<'_>, token: Token) -> bool
 /// Goes behind the answer of the solver, where the text begins with it.
 pub fn skip_answer(lexer: &mut Lexer<'_>)
     requires { (items : Items) × HasCommandItems (at.source lexer.old) false (at.position lexer.old) items no_items }
-    ensures items { (items : Items) → HasCommandItems (at.source lexer.old) false (at.position lexer.old) items no_items → HasCommandItems (at.source lexer.new) false (at.position lexer.new) (behind_answer items) no_items }
+    ensures items { (items : Items) → HasCommandItems (at.source lexer.old) false (at.position lexer.old) items no_items →
+        HasCommandItems (at.source lexer.new) false (at.position lexer.new) (behind_answer items) no_items }
     ensures source { at.source lexer.new ≡ at.source lexer.old }
     ensures behind { at.position lexer.old ≤ at.position lexer.new }
     ensures inside { at.position lexer.old ≤ length (at.source lexer.old) → at.position lexer.new ≤ length (at.source lexer.old) }
@@ -76,10 +77,11 @@ pub fn skip_answer(lexer: &mut Lexer<'_>)
     }
 }
 
-/// Goes into the list of the commands, where they stand in one, and answers whether they do.
+/// Goes into the list of the commands, where they stand in one, and returns whether they do.
 pub fn enter_list(lexer: &mut Lexer<'_>) -> bool
     requires { (items : Items) × HasCommandItems (at.source lexer.old) false (at.position lexer.old) items no_items }
-    ensures items { (items : Items) → HasCommandItems (at.source lexer.old) false (at.position lexer.old) items no_items → HasCommandItems (at.source lexer.new) result (at.position lexer.new) (unwrapped_commands items) (behind_list items) }
+    ensures items { (items : Items) → HasCommandItems (at.source lexer.old) false (at.position lexer.old) items no_items →
+        HasCommandItems (at.source lexer.new) result (at.position lexer.new) (unwrapped_commands items) (behind_list items) }
     ensures source { at.source lexer.new ≡ at.source lexer.old }
     ensures behind { at.position lexer.old ≤ at.position lexer.new }
     ensures inside { at.position lexer.old ≤ length (at.source lexer.old) → at.position lexer.new ≤ length (at.source lexer.old) }
@@ -98,14 +100,15 @@ pub fn enter_list(lexer: &mut Lexer<'_>) -> bool
     true
 }
 
-/// Reads the next command of a text into the nodes, and answers whether there was one. Refuses want of memory alone.
+/// Reads the next command of a text into the nodes, and returns whether there was one. Refuses only when out of memory.
 pub fn next_item(
     lexer: &mut Lexer<'_>,
     in_list: bool,
     nodes: &mut Vec<Node>,
 ) -> Result<bool, AllocError>
     requires { (items : Items) × (behind : Items) × HasCommandItems (at.source lexer.old) in_list (at.position lexer.old) items behind }
-    ensures item { (items behind : Items) → HasCommandItems (at.source lexer.old) in_list (at.position lexer.old) items behind → IfOk result (IsItemRead (at.source lexer.new) in_list nodes.new.items (at.position lexer.new) items behind) }
+    ensures item { (items behind : Items) → HasCommandItems (at.source lexer.old) in_list (at.position lexer.old) items behind →
+        IfOk result (IsItemRead (at.source lexer.new) in_list nodes.new.items (at.position lexer.new) items behind) }
     ensures source { at.source lexer.new ≡ at.source lexer.old }
     ensures behind { at.position lexer.old ≤ at.position lexer.new }
     ensures inside { IfOk result (λ found. IsTrue found → at.position lexer.new ≤ length (at.source lexer.old)) }

@@ -94,7 +94,7 @@ module _ (s : Table) (v : TermsView) where
       (All-from_recursion (λ x. b.0 ≢ x) (map (λ b. b.0) bs) (other_leaves names b c zip.0 bs cs zip.1 (fresh_apart (names ++ c.0.name ∷ []) cs fresh.1)))
       (distinct_leaves (names ++ c.0.name ∷ []) bs cs zip.1 fresh.1)
 
--- what is answered of the anchor's id, and of its arguments
+-- what is returned of the anchor's id, and of its arguments
 abbrev pub JudgesId : Named → Option Found → Result ⊤ Refusal → Type 0
 JudgesId named found result = (p : ProofState) → IsIdFound (ids_in p.scope) named.name.now found → id_judged Repeated (is_named named) p ≡ given result p
 

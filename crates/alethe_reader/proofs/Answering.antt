@@ -36,7 +36,7 @@ module _ {A B T U : Type 0} {s : Table} {old mid : TermsView} {M : T → A → P
   pub stops : {fault : ReadFault} → AnswersAs old (both s mid) M o (Err fault) → AnswersAs old (both s mid) N (and_then o next) (Err fault)
   stops h = coming.stops next (λ a. (keeps a).keeps) h
 
-  -- The first part has none, and this is what the others answer.
+  -- The first part has none, and this is what the others return.
   pub goes : {t : T} {z : Table} {new : TermsView} {r : Result U ReadFault} → AnswersAs old (both s mid) M o (Ok t) → Keeps s z → KeepsTerms mid new
       → ((a : A) (p : ProofState) → M t a p → AnswersAs mid (both z new) N (next a p) r) → AnswersAs old (both z new) N (and_then o next) r
   goes {t} {z} {new} {r} h table terms k =

@@ -53,7 +53,7 @@ use Rattle.alethe_reader.proofs.ScopeReading.{reader_named, reader_more}
 use Rattle.alethe_reader.proofs.TermAnswers.{value_answers}
 use Rattle.alethe_reader.proofs.WrittenStays.{bindings_stay}
 
--- a fault, or want of memory, whatever would have come after
+-- a fault, or out of memory, whatever would have come next
 pub fails : {A T U : Type 0} {s : Table} {v w : TermsView} {M : T → A → ProofState → Type 0} (N : U → A → ProofState → Type 0) {o : Outcome ProofState A} (fault : ReadFault) → AnswersAs v (both s w) M o (Err fault) → AnswersAs v (both s w) N o (Err fault)
 fails N fault h = record { answer = h.answer; placed = h.placed }
 
@@ -228,7 +228,7 @@ module _ (s : Table) (v : TermsView) (settings : ProofSettings) (r : ReaderView)
   reader_here : (name : List ℕ) → IsReaderOf s v r (with_let_name name p.script) (place_in settings p.scope.nesting)
   reader_here name = reader_named s v r p.script (place_in settings p.scope.nesting) h.reader name
 
--- what the reader answers for an item
+-- what the reader returns for an item
 abbrev pub ReadsItem : Table → TermsView → ReaderView → Item → Table → TermsView → ReaderView → Result Value ReadFault → Type 0
 ReadsItem s v r i z w t result = (sc : Script) (at : Place) → IsReaderOf s v r sc at → ReadsValue z v w t at (read_term i at sc) result
 

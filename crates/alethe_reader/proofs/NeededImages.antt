@@ -242,7 +242,7 @@ used_at us k n e = go (slice_get us k) refl (sym (slice_get-map (λ u. u.id) us 
     go None f g = absurd (cc)
     go (Some u) f g = (u, f, same_some g)
 
--- what the look for the image of a leaf answers
+-- what the look-up of the image of a leaf returns
 module _ (s : Table) (us : List Used) (images : List (ℕ × ℕ)) (outer k : ℕ) where
   pub no_leaf : length s.leaves ≤ k → HasNoImage s (map (λ u. u.id) us) (take outer images) k
   no_leaf past x is n image named here = absurd (omega (arith, slice_get_within s.leaves k (variable_leaf x) is, past))

@@ -13,33 +13,17 @@ use Rattle.rule_model.specs.Visibility.{open_bindings}
 use Rattle.problem_text.specs.Names.{Bound, Place, itself}
 use Rattle.problem_text.specs.Scripts.{Script, with_term, with_let_name}
 use Rattle.term_reader.specs.ProblemViews.{ReaderView, IsReaderOf}
-use Rattle.term_reader.proofs.MoreRead.{same_script}
+use Rattle.term_reader.proofs.ViewsStay.{reader_behind}
 use Rattle.alethe_text.specs.ProofTerms.{variables_in, place_in}
 use Rattle.alethe_text.specs.States.{ProofSettings}
 use Rattle.alethe_reader.specs.Opening.{entered}
 
 module _ (s : Table) (v : TermsView) (r : ReaderView) (sc : Script) (p : Place) (h : IsReaderOf s v r sc p) where
-  reader_read : (ts : List Term) (names : List (List ℕ)) → IsReaderOf s v r (record sc { terms = ts; let_names = names }) p
-  reader_read ts names = record {
-    variables = h.variables;
-    around = h.around;
-    scope = h.scope;
-    pushed = h.pushed;
-    idle = record {
-      script = same_script s v r.reader.names.known ts names sc h.idle.script;
-      scope = h.idle.scope;
-      settings = h.idle.settings;
-      no_values = h.idle.no_values;
-      no_leaves = h.idle.no_leaves;
-      no_frames = h.idle.no_frames;
-    };
-  }
-
   pub reader_named : (name : List ℕ) → IsReaderOf s v r (with_let_name name sc) p
-  reader_named name = reader_read sc.terms (sc.let_names ++ name ∷ [])
+  reader_named name = reader_behind s v r sc (with_let_name name sc) p refl h
 
   pub reader_more : (t : Term) → IsReaderOf s v r (with_term t sc) p
-  reader_more t = reader_read (sc.terms ++ t ∷ []) sc.let_names
+  reader_more t = reader_behind s v r sc (with_term t sc) p refl h
 
 -- The variables of an anchor in scope, one after another.
 pub none_entered : (bs : List (Var × Term)) (around : List Bound) → entered 0 bs around ≡ around

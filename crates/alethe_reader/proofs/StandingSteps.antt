@@ -60,7 +60,7 @@ one_end (a ∷ []) [] x y e = absurd (cc)
 one_end (a ∷ c ∷ xs) [] x y e = absurd (cc)
 one_end (a ∷ xs) (b ∷ ys) x y e = one_end xs ys x y (let t : xs ++ x ∷ [] ≡ ys ++ y ∷ [] = cc in t)
 
--- what stands in the front of a list
+-- what stands in a prefix of a list
 taken : {X : Type 0} (xs : List X) (n k : ℕ) (x : X) → slice_get (take n xs) k ≡ Some x → (slice_get xs k ≡ Some x) × (k < n)
 taken [] zero k x e = absurd (cc)
 taken [] (suc n) k x e = absurd (cc)

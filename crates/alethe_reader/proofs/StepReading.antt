@@ -120,7 +120,7 @@ module _ (s : Table) (v : TermsView) (settings : ProofSettings) (used : List Use
       go outermost k h = absurd k
       go (inside around before anchor) k h = left around before anchor k.1 h
 
--- what is answered of how a step stands by its id, of where the reader goes then, of the step's literals and of its attributes
+-- what is returned of how a step stands by its id, of where the reader goes then, of the step's literals and of its attributes
 abbrev pub JudgesStep : Session → Named → Result ReaderStanding Refusal → Type 0
 JudgesStep d named result = (s : Table) (v : TermsView) (p : ProofState) → IsSymbolName named.name.now → IsWritten (both s v) d p → IsStanding d.ids.used p (is_named named) result
 

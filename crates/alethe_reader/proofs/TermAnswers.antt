@@ -1,4 +1,4 @@
--- What the reader of terms answers is what a term in a scope comes to.
+-- What the reader of terms returns is what a term in a scope comes to.
 use Rattle.std.proofs.Common.{◌≡◌, true, false, Result, Ok, Err, refl, sym, ap, ◌∙◌}
 use Rattle.sexpr.specs.declared.causes.Cause.TheVariants.{SortMismatch}
 use Rattle.sexpr.specs.declared.causes.Refusal.{Refusal}

@@ -1,4 +1,4 @@
--- Public. What a part of the reader answers, and the outcome of its definition.
+-- Public. What a part of the reader returns, and the outcome of its definition.
 use Rattle.std.specs.Prelude.{List, Result}
 use Rattle.term_model.specs.Terms.{Term}
 use Rattle.term_pool.specs.Views.{TermsView}

@@ -8,5 +8,6 @@ use Rattle.alethe_reader.specs.Behind.{IsBehind}
 use Rattle.term_expansion.specs.SymbolsAndTerms.{SymbolsAndTerms}
 
 -- the terms that get a name were read
-pub record AreNamed (w : SymbolsAndTerms) (settings : ProofSettings) (nesting : Nesting Var Term) (r : ReaderView) (old : ProofState) (read answer : ⊤) (new : ProofState) : Type 0 where
+pub record AreNamed (w : SymbolsAndTerms) (settings : ProofSettings) (nesting : Nesting Var Term) (r : ReaderView) (old : ProofState) (read answer : ⊤)
+    (new : ProofState) : Type 0 where
   pub behind : IsBehind w settings nesting r old new

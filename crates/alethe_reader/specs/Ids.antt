@@ -24,7 +24,7 @@ pub record IsUsedAt (used : List Used) (id : List ℕ) (f : Found) : Type 0 wher
   pub here : slice_get used f.place ≡ Some (record { id = id; role = f.role; number = f.number })
   pub alone : (k : ℕ) (u : Used) → slice_get used k ≡ Some u → u.id ≡ id → k ≡ f.place
 
--- what a look for an id answers
+-- what a look-up of an id returns
 abbrev pub IsIdFound : List Used → List ℕ → Option Found → Type 0
 IsIdFound used id (Some f) = IsUsedAt used id f
 IsIdFound used id None = IsUnused used id

@@ -29,7 +29,8 @@ IsImageFound s names images k None = HasNoImage s names images k
 -- These are the images of the leaves that have one.
 pub record AreImagesOf (s : Table) (names : List (List ℕ)) (images : List (ℕ × ℕ)) (leaves : List ℕ) (needed : List (ℕ × ℕ)) : Type 0 where
   pub each : (b : ℕ × ℕ) → Contains needed b → IsImageAmong s names images b
-  pub all : (k : ℕ) → Contains leaves k → (x : Var) → IsLeaf s k (variable_leaf x) → (n image : ℕ) → slice_get names n ≡ Some x.name → slice_get images n ≡ Some (k, image) → Contains needed (k, image)
+  pub all : (k : ℕ) → Contains leaves k → (x : Var) → IsLeaf s k (variable_leaf x) → (n image : ℕ) → slice_get names n ≡ Some x.name →
+      slice_get images n ≡ Some (k, image) → Contains needed (k, image)
 
 -- The images among these of what the term of a reference needs.
 pub record AreNeeded (s : Table) (pass : PassView) (names : List (List ℕ)) (images : List (ℕ × ℕ)) (r : ℕ) (needed : List (ℕ × ℕ)) : Type 0 where

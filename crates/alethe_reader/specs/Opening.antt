@@ -31,7 +31,8 @@ AreFresh names [] = ⊤
 AreFresh names (b ∷ bs) = (is_among names b.0.name ≡ false) × AreFresh (names ++ b.0.name ∷ []) bs
 
 -- The variables bs of the anchor were read, with these names, the last one first.
-pub record IsOpening (w : SymbolsAndTerms) (settings : ProofSettings) (r : ReaderView) (d : BoundVariables) (earlier : List (List ℕ)) (bs : List (Var × Term)) (p : ProofState) : Type 0 where
+pub record IsOpening (w : SymbolsAndTerms) (settings : ProofSettings) (r : ReaderView) (d : BoundVariables) (earlier : List (List ℕ))
+    (bs : List (Var × Term)) (p : ProofState) : Type 0 where
   pub reader : IsReaderOf w.symbols w.terms r p.script (place_in settings p.scope.nesting)
   pub names : map (λ u. u.id) d.names.used ≡ bound_names p.scope.nesting ++ map (λ b. b.0.name) bs
   pub judged : (name : List ℕ) → (is_among earlier name || is_among (bound_names p.scope.nesting) name) ≡ is_among (map (λ u. u.id) d.names.used) name
@@ -46,12 +47,14 @@ pub record IsSameScope (old new : ProofState) : Type 0 where
   pub anchors : new.anchors ≡ old.anchors
 
 -- an argument was read
-pub record IsArgumentRead (w : SymbolsAndTerms) (settings : ProofSettings) (r : ReaderView) (d : BoundVariables) (earlier : List (List ℕ)) (bs : List (Var × Term)) (old : ProofState) (_ : ⊤) (b : Var × Term) (new : ProofState) : Type 0 where
+pub record IsArgumentRead (w : SymbolsAndTerms) (settings : ProofSettings) (r : ReaderView) (d : BoundVariables) (earlier : List (List ℕ))
+    (bs : List (Var × Term)) (old : ProofState) (_ : ⊤) (b : Var × Term) (new : ProofState) : Type 0 where
   pub opening : IsOpening w settings r d (b.0.name ∷ earlier) (bs ++ b ∷ []) new
   pub same : IsSameScope old new
 
 -- all of them were read
-pub record AreArgumentsRead (w : SymbolsAndTerms) (settings : ProofSettings) (r : ReaderView) (d : BoundVariables) (old : ProofState) (_ : ⊤) (bs : List (Var × Term)) (new : ProofState) : Type 0 where
+pub record AreArgumentsRead (w : SymbolsAndTerms) (settings : ProofSettings) (r : ReaderView) (d : BoundVariables) (old : ProofState) (_ : ⊤)
+    (bs : List (Var × Term)) (new : ProofState) : Type 0 where
   pub earlier : List (List ℕ)
   pub opening : IsOpening w settings r d earlier bs new
   pub same : IsSameScope old new
@@ -78,7 +81,8 @@ image_read place name wanted nesting t = do
   give (record { name = name; sort = t.sort }, t.tree)
 
 -- The image was made, and counts as read.
-pub record IsImageRead (w : SymbolsAndTerms) (name : List ℕ) (nesting : Nesting Var Term) (t : Typed) (old : ProofState) (c : ℕ) (b : Var × Term) (new : ProofState) : Type 0 where
+pub record IsImageRead (w : SymbolsAndTerms) (name : List ℕ) (nesting : Nesting Var Term) (t : Typed) (old : ProofState) (c : ℕ) (b : Var × Term)
+    (new : ProofState) : Type 0 where
   pub refers : RefersTo w.symbols w.terms c (image_of nesting t.tree)
   pub same : b ≡ (record { name = name; sort = t.sort }, t.tree)
   pub state : new ≡ record old { script = with_term (image_of nesting t.tree) old.script }

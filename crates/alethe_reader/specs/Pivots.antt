@@ -62,11 +62,13 @@ BothOrNeither R None (Some b) = ⊥
 BothOrNeither R None None = ⊤
 
 -- a term was read with what stands behind it, and their pivot stands for the one that they are
-pub record IsReadPivot (w : SymbolsAndTerms) (settings : ProofSettings) (nesting : Nesting Var Term) (r : ReaderView) (old : ProofState) (pivot : Option (ℕ × Bool)) (of : Option (Term × Bool)) (new : ProofState) : Type 0 where
+pub record IsReadPivot (w : SymbolsAndTerms) (settings : ProofSettings) (nesting : Nesting Var Term) (r : ReaderView) (old : ProofState)
+    (pivot : Option (ℕ × Bool)) (of : Option (Term × Bool)) (new : ProofState) : Type 0 where
   pub stands : BothOrNeither (IsPivotOf w.symbols w.terms) pivot of
   pub behind : IsBehind w settings nesting r old new
 
 -- arguments were read, and these pivots stand for those that they are
-pub record AreReadPivots (w : SymbolsAndTerms) (settings : ProofSettings) (nesting : Nesting Var Term) (r : ReaderView) (old : ProofState) (pivots : List (ℕ × Bool)) (_ : ⊤) (of : Option (List (Term × Bool))) (new : ProofState) : Type 0 where
+pub record AreReadPivots (w : SymbolsAndTerms) (settings : ProofSettings) (nesting : Nesting Var Term) (r : ReaderView) (old : ProofState)
+    (pivots : List (ℕ × Bool)) (_ : ⊤) (of : Option (List (Term × Bool))) (new : ProofState) : Type 0 where
   pub stand : AllZip (IsPivotOf w.symbols w.terms) pivots (unwrap_or of [])
   pub behind : IsBehind w settings nesting r old new

@@ -25,7 +25,8 @@ abbrev pub IsClosing : List Used → ProofState → List ℕ → text.Standing �
 IsClosing used p id here None =
     (is_open_id p.scope.nesting id ≡ false) × (here ≡ text.stands_in p.scope) × IsUnused used id × IsNewId p.scope.nesting p.scope.items id
 IsClosing used p id here (Some a) =
-    (is_open_id p.scope.nesting id ≡ true) × (here ≡ text.closes_scope p.scope.nesting p.scope.items) × IsAnchorOf p.scope.nesting a × IsUnused (take a.ids used) id
+    (is_open_id p.scope.nesting id ≡ true) × (here ≡ text.closes_scope p.scope.nesting p.scope.items) × IsAnchorOf p.scope.nesting a ×
+    IsUnused (take a.ids used) id
 
 pub record IsStandingOf (used : List Used) (p : ProofState) (n : Name) (t : Standing) : Type 0 where
   pub here : text.Standing

@@ -45,7 +45,8 @@ pub record StandsAt (w : SymbolsAndTerms) (settings : ProofSettings) (at : text.
   pub reader : IsReaderOf w.symbols w.terms d.reader p.script (place_in settings at.nesting)
 
 -- Attributes were read, and the step before them became this one, of which the session has the parts.
-pub record AreReadAttributes (w : SymbolsAndTerms) (settings : ProofSettings) (nesting : Nesting Var Term) (d : Session) (old : ProofState) (before : Step Term) (_ : ⊤) (step : Step Term) (new : ProofState) : Type 0 where
+pub record AreReadAttributes (w : SymbolsAndTerms) (settings : ProofSettings) (nesting : Nesting Var Term) (d : Session) (old : ProofState)
+    (before : Step Term) (_ : ⊤) (step : Step Term) (new : ProofState) : Type 0 where
   pub parts : AreStepParts w d.parts step
   pub id : step.id ≡ before.id
   pub rule : step.rule ≡ before.rule
@@ -77,7 +78,7 @@ IsRuleJudged o p (Err (ReadFault.Text refusal)) = o.result ≡ Err refusal
 IsRuleJudged o p (Err ReadFault.PoolFull) = ⊥
 IsRuleJudged o p (Err ReadFault.Memory) = ⊥
 
--- the parts have these coefficients, or the first number is refused that is too wide, or memory was wanting
+-- the parts have these coefficients, or the first number is refused that is too wide, or memory ran out
 abbrev pub AreRatios : StepParts → Result ⊤ ReadFault → Result (Option (List Fraction)) Refusal → Type 0
 AreRatios d (Ok _) expected = expected ≡ Ok (if d.has_ratios then Some (map fraction_of_ratio d.ratios.items) else None)
 AreRatios d (Err (ReadFault.Text refusal)) expected = expected ≡ Err refusal

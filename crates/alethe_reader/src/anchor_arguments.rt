@@ -72,9 +72,14 @@ pub(crate) fn read_arguments(
     bound: &mut BoundVariables,
 ) -> Result<(), ReadFault>
     requires arguments { AreArgumentsAt items.now first (length items.now.nodes) }
-    requires scope { (settings : ProofSettings) × (p : ProofState) × IsReaderOf symbols.old terms.old reader.old p.script (place_in settings p.scope.nesting) × AreBound (both symbols.old terms.old) bound.old p.scope.nesting }
+    requires scope { (settings : ProofSettings) × (p : ProofState) ×
+        IsReaderOf symbols.old terms.old reader.old p.script (place_in settings p.scope.nesting) ×
+        AreBound (both symbols.old terms.old) bound.old p.scope.nesting }
     requires room { length symbols.old.leaves + (length items.now.nodes - first) ≤ 2 ^ 30 }
-    ensures read { (settings : ProofSettings) (p : ProofState) → IsReaderOf symbols.old terms.old reader.old p.script (place_in settings p.scope.nesting) → AreBound (both symbols.old terms.old) bound.old p.scope.nesting → AnswersAs terms.old (both symbols.new terms.new) (AreArgumentsRead (both symbols.new terms.new) settings reader.new bound.new p) (arguments_read settings [] (shape.arguments_in (items_at items.now first (length items.now.nodes))) p) result }
+    ensures read { (settings : ProofSettings) (p : ProofState) → IsReaderOf symbols.old terms.old reader.old p.script (place_in settings p.scope.nesting) →
+        AreBound (both symbols.old terms.old) bound.old p.scope.nesting →
+        AnswersAs terms.old (both symbols.new terms.new) (AreArgumentsRead (both symbols.new terms.new) settings reader.new bound.new p)
+        (arguments_read settings [] (shape.arguments_in (items_at items.now first (length items.now.nodes))) p) result }
     ensures few { length symbols.new.leaves ≤ length symbols.old.leaves + (length items.now.nodes - first) }
     ensures grow { GrowByTerms (both symbols.old terms.old) (both symbols.new terms.new) }
 {
@@ -99,9 +104,13 @@ fn read_argument(
 ) -> Result<(), ReadFault>
     requires item { k < length items.now.nodes }
     requires argument { shape.argument_fault (item_at items.now k) ≡ None }
-    requires opening { (settings : ProofSettings) × (earlier : List (List ℕ)) × (bs : List (Var × Term)) × (p : ProofState) × IsOpening (both symbols.old terms.old) settings reader.old bound.old earlier bs p }
+    requires opening { (settings : ProofSettings) × (earlier : List (List ℕ)) × (bs : List (Var × Term)) × (p : ProofState) ×
+        IsOpening (both symbols.old terms.old) settings reader.old bound.old earlier bs p }
     requires room { length symbols.old.leaves + (length items.now.nodes - k) ≤ 2 ^ 30 }
-    ensures read { (settings : ProofSettings) (earlier : List (List ℕ)) (bs : List (Var × Term)) (p : ProofState) → IsOpening (both symbols.old terms.old) settings reader.old bound.old earlier bs p → AnswersAs terms.old (both symbols.new terms.new) (IsArgumentRead (both symbols.new terms.new) settings reader.new bound.new earlier bs p) (argument_read settings earlier (shape.argument_of (item_at items.now k)) p) result }
+    ensures read { (settings : ProofSettings) (earlier : List (List ℕ)) (bs : List (Var × Term)) (p : ProofState) →
+        IsOpening (both symbols.old terms.old) settings reader.old bound.old earlier bs p →
+        AnswersAs terms.old (both symbols.new terms.new) (IsArgumentRead (both symbols.new terms.new) settings reader.new bound.new earlier bs p)
+        (argument_read settings earlier (shape.argument_of (item_at items.now k)) p) result }
     // Each leaf that is added has a node of the item.
     ensures spent { OnOk result (length symbols.new.leaves ≤ length symbols.old.leaves + (end_at items.now k - k)) }
     ensures few { length symbols.new.leaves ≤ length symbols.old.leaves + (length items.now.nodes - k) }
@@ -146,9 +155,14 @@ fn read_assigned(
     requires name { IsSymbolAt items.now assigned.variable }
     requires sort { IsSortThere items.now assigned.sort }
     requires term { assigned.term < length items.now.nodes }
-    requires opening { (settings : ProofSettings) × (earlier : List (List ℕ)) × (bs : List (Var × Term)) × (p : ProofState) × IsOpening (both symbols.old terms.old) settings reader.old bound.old earlier bs p }
+    requires opening { (settings : ProofSettings) × (earlier : List (List ℕ)) × (bs : List (Var × Term)) × (p : ProofState) ×
+        IsOpening (both symbols.old terms.old) settings reader.old bound.old earlier bs p }
     requires room { length symbols.old.leaves + (length items.now.nodes - assigned.term) < 2 ^ 30 }
-    ensures read { (settings : ProofSettings) (earlier : List (List ℕ)) (bs : List (Var × Term)) (p : ProofState) → IsOpening (both symbols.old terms.old) settings reader.old bound.old earlier bs p → AnswersAs terms.old (both symbols.new terms.new) (IsArgumentRead (both symbols.new terms.new) settings reader.new bound.new earlier bs p) (argument_read settings earlier (shape.assigned assigned.place (name_in items.now assigned.variable) (sort_said items.now assigned.sort) (item_at items.now assigned.term)) p) result }
+    ensures read { (settings : ProofSettings) (earlier : List (List ℕ)) (bs : List (Var × Term)) (p : ProofState) →
+        IsOpening (both symbols.old terms.old) settings reader.old bound.old earlier bs p →
+        AnswersAs terms.old (both symbols.new terms.new) (IsArgumentRead (both symbols.new terms.new) settings reader.new bound.new earlier bs p)
+        (argument_read settings earlier (shape.assigned assigned.place (name_in items.now assigned.variable) (sort_said items.now assigned.sort)
+        (item_at items.now assigned.term)) p) result }
     ensures spent { OnOk result (length symbols.new.leaves ≤ length symbols.old.leaves + (end_at items.now assigned.term - assigned.term) + 1) }
     ensures few { length symbols.new.leaves ≤ length symbols.old.leaves + (length items.now.nodes - assigned.term) + 1 }
     ensures grow { GrowByTerms (both symbols.old terms.old) (both symbols.new terms.new) }
@@ -170,7 +184,8 @@ fn read_assigned(
 /// Judges the name of a variable: refused as repeated where it is built in, and as a bad anchor where an open anchor binds it,
 /// or this one.
 fn judge_variable(bound: &BoundVariables, variable: Named<'_>) -> Result<(), Refusal>
-    ensures { IsNameJudged (words.is_built_in variable.entry.name.now) (words.is_among (map (λ u. u.id) bound.now.names.used) variable.entry.name.now) variable.entry.place result }
+    ensures { IsNameJudged (words.is_built_in variable.entry.name.now) (words.is_among (map (λ u. u.id) bound.now.names.used) variable.entry.name.now)
+        variable.entry.place result }
 {
     if is_built_in(variable.name) {
         return Err(refused(Cause::Repeated, variable.place));
@@ -203,7 +218,7 @@ fn sort_wanted(
 /// variables that stand in the term are handed on, so it costs the distinct cells of the term and of the image, however many
 /// variables the open anchors bind.
 ///
-/// Refused where the term has not the sort that the text gives, where the image is too high, for want of memory, and where the
+/// Refused where the term has not the sort that the text gives, where the image is too high, when out of memory, and where the
 /// pool had no room for a cell of the image.
 fn image_at(
     bound: &BoundVariables,
@@ -214,8 +229,15 @@ fn image_at(
 ) -> Result<Ref, ReadFault>
     requires value { (t : Typed) × IsValue (both symbols.now terms.old) value t }
     requires outer { length bound.now.opened.items ≤ length bound.now.images.items }
-    requires images { (nesting : Nesting Var Term) × (more : List (List ℕ)) × AllZip (IsBindingOf symbols.now terms.old) (take (length bound.now.images.items - length bound.now.opened.items) bound.now.images.items) (images_in nesting) × (map (λ u. u.id) bound.now.names.used ≡ bound_names nesting ++ more) }
-    ensures read { (name : List ℕ) (t : Typed) (nesting : Nesting Var Term) (more : List (List ℕ)) (q : ProofState) → IsValue (both symbols.now terms.old) value t → BindApart nesting → AllZip (IsBindingOf symbols.now terms.old) (take (length bound.now.images.items - length bound.now.opened.items) bound.now.images.items) (images_in nesting) → map (λ u. u.id) bound.now.names.used ≡ bound_names nesting ++ more → AnswersAs terms.old (both symbols.now terms.new) (IsImageRead (both symbols.now terms.new) name nesting t q) (image_read wanted.place name wanted.sort nesting t q) result }
+    requires images { (nesting : Nesting Var Term) × (more : List (List ℕ)) ×
+        AllZip (IsBindingOf symbols.now terms.old) (take (length bound.now.images.items - length bound.now.opened.items) bound.now.images.items)
+        (images_in nesting) × (map (λ u. u.id) bound.now.names.used ≡ bound_names nesting ++ more) }
+    ensures read { (name : List ℕ) (t : Typed) (nesting : Nesting Var Term) (more : List (List ℕ)) (q : ProofState) →
+        IsValue (both symbols.now terms.old) value t → BindApart nesting →
+        AllZip (IsBindingOf symbols.now terms.old) (take (length bound.now.images.items - length bound.now.opened.items) bound.now.images.items)
+        (images_in nesting) → map (λ u. u.id) bound.now.names.used ≡ bound_names nesting ++ more →
+        AnswersAs terms.old (both symbols.now terms.new) (IsImageRead (both symbols.now terms.new) name nesting t q)
+        (image_read wanted.place name wanted.sort nesting t q) result }
     ensures keeps { KeepsTerms terms.old terms.new }
 {
     if !is_wanted(wanted.sort, value.sort) {

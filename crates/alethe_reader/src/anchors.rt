@@ -37,7 +37,7 @@ pub struct AnchorNodes {
 /// Opens the scope of an anchor: its id is put in use, and its variables in scope, with the images of their terms.
 ///
 /// Refused where the id is that of an open anchor or of a visible command, at the first fault of its arguments in their order,
-/// and besides for want of memory, and where the pool had no room for a cell of a term that was read. After a refusal the
+/// and besides when out of memory, and where the pool had no room for a cell of a term that was read. After a refusal the
 /// session is given up.
 pub fn read_anchor(
     items: &ItemText<'_, '_>,
@@ -51,7 +51,10 @@ pub fn read_anchor(
     requires session { (settings : ProofSettings) × (p : ProofState) × IsProofSession (both symbols.old terms.old) settings session.old p }
     requires room { length symbols.old.leaves + (length items.now.nodes - anchor.first) ≤ 2 ^ 30 }
     requires few { next_scope session.old.builder + 1 < 2 ^ 32 - 1 }
-    ensures read { (settings : ProofSettings) (p : ProofState) → IsProofSession (both symbols.old terms.old) settings session.old p → AnswersAs terms.old (both symbols.new terms.new) (StandsAfter (both symbols.new terms.new) settings session.new) (anchor_read settings anchor.place (name_in items.now anchor.id) (shape.arguments_in (items_at items.now anchor.first (length items.now.nodes))) p) result }
+    ensures read { (settings : ProofSettings) (p : ProofState) → IsProofSession (both symbols.old terms.old) settings session.old p →
+        AnswersAs terms.old (both symbols.new terms.new) (StandsAfter (both symbols.new terms.new) settings session.new)
+        (anchor_read settings anchor.place (name_in items.now anchor.id) (shape.arguments_in (items_at items.now anchor.first (length items.now.nodes))) p)
+        result }
     ensures few { length symbols.new.leaves ≤ length symbols.old.leaves + (length items.now.nodes - anchor.first) }
     ensures grow { GrowByTerms (both symbols.old terms.old) (both symbols.new terms.new) }
     ensures commands { OnOk result (next_index session.new.builder ≡ next_index session.old.builder) }

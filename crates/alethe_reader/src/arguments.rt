@@ -68,7 +68,7 @@ fn is_naming(items: &ItemText<'_, '_>, k: usize) -> bool
 /// Reads the terms `(! t :named n)` that stand in some arguments at any depth, by which they get their names, and passes over
 /// everything else. What stands in such a term is read with it and looked at no further.
 ///
-/// Refused at the first fault of the first that has one; and besides for want of memory, and where the pool had no room for a
+/// Refused at the first fault of the first that has one; and besides when out of memory, and where the pool had no room for a
 /// cell of a term that was read. After a refusal the reader is given up. Goes over the nodes once.
 pub(crate) fn names_at(
     items: &ItemText<'_, '_>,
@@ -78,9 +78,13 @@ pub(crate) fn names_at(
     reader: &mut TermReader<'_>,
 ) -> Result<(), ReadFault>
     requires items { AreItemsAt items.now arguments.first arguments.end }
-    requires reader { (settings : ProofSettings) × (nesting : Nesting Var Term) × (p : ProofState) × IsReaderOf symbols.old terms.old reader.old p.script (place_in settings nesting) }
+    requires reader { (settings : ProofSettings) × (nesting : Nesting Var Term) × (p : ProofState) ×
+        IsReaderOf symbols.old terms.old reader.old p.script (place_in settings nesting) }
     requires room { length symbols.old.leaves + (length items.now.nodes - arguments.first) ≤ 2 ^ 30 }
-    ensures read { (settings : ProofSettings) (nesting : Nesting Var Term) (p : ProofState) → IsReaderOf symbols.old terms.old reader.old p.script (place_in settings nesting) → AnswersAs terms.old (both symbols.new terms.new) (AreNamed (both symbols.new terms.new) settings nesting reader.new p) (named_among settings nesting (items_at items.now arguments.first arguments.end) p) result }
+    ensures read { (settings : ProofSettings) (nesting : Nesting Var Term) (p : ProofState) →
+        IsReaderOf symbols.old terms.old reader.old p.script (place_in settings nesting) →
+        AnswersAs terms.old (both symbols.new terms.new) (AreNamed (both symbols.new terms.new) settings nesting reader.new p)
+        (named_among settings nesting (items_at items.now arguments.first arguments.end) p) result }
     // Each leaf that is added has a node of its own.
     ensures spent { OnOk result (length symbols.new.leaves ≤ length symbols.old.leaves + (arguments.end - arguments.first)) }
     ensures few { length symbols.new.leaves ≤ length symbols.old.leaves + (length items.now.nodes - arguments.first) }

@@ -24,7 +24,7 @@ use text_items::nodes::ItemText;
 
 /// Adds the assume whose id stands at node `id` and whose formula at node `term`.
 ///
-/// Refused where the id is that of an open anchor or of a visible command, at the formula's first fault, and besides for want
+/// Refused where the id is that of an open anchor or of a visible command, at the formula's first fault, and besides when out
 /// of memory, and where the pool had no room for a cell of a term that was read. After a refusal the session is given up.
 pub fn read_assume(
     items: &ItemText<'_, '_>,
@@ -40,7 +40,9 @@ pub fn read_assume(
     requires session { (settings : ProofSettings) × (p : ProofState) × IsProofSession (both symbols.old terms.old) settings session.old p }
     requires room { length symbols.old.leaves + (length items.now.nodes - term) ≤ 2 ^ 30 }
     requires few { next_index session.old.builder + 1 < 2 ^ 32 - 1 }
-    ensures read { (settings : ProofSettings) (p : ProofState) → IsProofSession (both symbols.old terms.old) settings session.old p → AnswersAs terms.old (both symbols.new terms.new) (StandsAfter (both symbols.new terms.new) settings session.new) (assume_read settings (name_in items.now id) (item_at items.now term) p) result }
+    ensures read { (settings : ProofSettings) (p : ProofState) → IsProofSession (both symbols.old terms.old) settings session.old p →
+        AnswersAs terms.old (both symbols.new terms.new) (StandsAfter (both symbols.new terms.new) settings session.new)
+        (assume_read settings (name_in items.now id) (item_at items.now term) p) result }
     ensures few { length symbols.new.leaves ≤ length symbols.old.leaves + (length items.now.nodes - term) }
     ensures grow { GrowByTerms (both symbols.old terms.old) (both symbols.new terms.new) }
     ensures commands { OnOk result (next_index session.new.builder ≡ next_index session.old.builder + 1) }

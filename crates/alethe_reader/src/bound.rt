@@ -55,7 +55,7 @@ impl BoundVariables {
         self.names.find(name).is_some()
     }
 
-    /// Adds a variable of the anchor that is read, whose name is not bound. Refuses want of memory alone.
+    /// Adds a variable of the anchor that is read, whose name is not bound. Refuses only when out of memory.
     pub(crate) fn push(&mut self, name: &[u8], variable: OpenedVariable) -> Result<(), Memory>
         requires { is_among (map (λ u. u.id) self.old.names.used) name.now ≡ false }
         ensures names { OnOk result (map (λ u. u.id) self.new.names.used ≡ map (λ u. u.id) self.old.names.used ++ name.now ∷ []) }
@@ -71,8 +71,10 @@ impl BoundVariables {
 
     /// Leaves the scope of the innermost anchor, which binds so many variables.
     pub(crate) fn leave(&mut self, count: usize)
-        requires { (s : Table) × (v : TermsView) × (nesting : Nesting Var Term) × AreBound (both s v) self.old nesting × (count ≡ length (own_bindings nesting)) }
-        ensures { (s : Table) (v : TermsView) (around : Nesting Var Term) (before : ProofItems Var Term) (anchor : Anchor Var Term) → count ≡ length anchor.bindings → AreBound (both s v) self.old (inside around before anchor) → AreBound (both s v) self.new around }
+        requires { (s : Table) × (v : TermsView) × (nesting : Nesting Var Term) × AreBound (both s v) self.old nesting ×
+            (count ≡ length (own_bindings nesting)) }
+        ensures { (s : Table) (v : TermsView) (around : Nesting Var Term) (before : ProofItems Var Term) (anchor : Anchor Var Term) →
+            count ≡ length anchor.bindings → AreBound (both s v) self.old (inside around before anchor) → AreBound (both s v) self.new around }
     {
         let left = self.images.len() - count;
         self.images.truncate(left);

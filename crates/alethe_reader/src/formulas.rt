@@ -27,7 +27,7 @@ use text_items::refusals::refused;
 
 /// Reads the formula at node `k`: a term of the sort Bool (SMT-LIB 2.6, "Terms and Formulas").
 ///
-/// Refused at the term's first fault, or else at its first byte where it has another sort; and besides for want of memory, and
+/// Refused at the term's first fault, or else at its first byte where it has another sort; and besides when out of memory, and
 /// where the pool had no room for a cell of a term that was read. After a refusal the reader is given up.
 pub(crate) fn formula_at(
     items: &ItemText<'_, '_>,
@@ -37,9 +37,13 @@ pub(crate) fn formula_at(
     reader: &mut TermReader<'_>,
 ) -> Result<Ref, ReadFault>
     requires item { k < length items.now.nodes }
-    requires reader { (settings : ProofSettings) × (nesting : Nesting Var Term) × (p : ProofState) × IsReaderOf symbols.old terms.old reader.old p.script (place_in settings nesting) }
+    requires reader { (settings : ProofSettings) × (nesting : Nesting Var Term) × (p : ProofState) ×
+        IsReaderOf symbols.old terms.old reader.old p.script (place_in settings nesting) }
     requires room { length symbols.old.leaves + (length items.now.nodes - k) ≤ 2 ^ 30 }
-    ensures read { (settings : ProofSettings) (nesting : Nesting Var Term) (p : ProofState) → IsReaderOf symbols.old terms.old reader.old p.script (place_in settings nesting) → AnswersAs terms.old (both symbols.new terms.new) (IsReadFormula (both symbols.new terms.new) settings nesting reader.new p) (formula_in settings nesting (item_at items.now k) p) result }
+    ensures read { (settings : ProofSettings) (nesting : Nesting Var Term) (p : ProofState) →
+        IsReaderOf symbols.old terms.old reader.old p.script (place_in settings nesting) →
+        AnswersAs terms.old (both symbols.new terms.new) (IsReadFormula (both symbols.new terms.new) settings nesting reader.new p)
+        (formula_in settings nesting (item_at items.now k) p) result }
     // Each leaf that is added has a node of the item.
     ensures spent { OnOk result (length symbols.new.leaves ≤ length symbols.old.leaves + (end_at items.now k - k)) }
     ensures few { length symbols.new.leaves ≤ length symbols.old.leaves + (length items.now.nodes - k) }
@@ -73,9 +77,13 @@ pub(crate) fn formulas_at(
     formulas: &mut Vec<Ref>,
 ) -> Result<(), ReadFault>
     requires items { AreItemsAt items.now range.first range.end }
-    requires reader { (settings : ProofSettings) × (nesting : Nesting Var Term) × (p : ProofState) × IsReaderOf symbols.old terms.old reader.old p.script (place_in settings nesting) }
+    requires reader { (settings : ProofSettings) × (nesting : Nesting Var Term) × (p : ProofState) ×
+        IsReaderOf symbols.old terms.old reader.old p.script (place_in settings nesting) }
     requires room { length symbols.old.leaves + (length items.now.nodes - range.first) ≤ 2 ^ 30 }
-    ensures read { (settings : ProofSettings) (nesting : Nesting Var Term) (p : ProofState) → IsReaderOf symbols.old terms.old reader.old p.script (place_in settings nesting) → AnswersAs terms.old (both symbols.new terms.new) (AreReadFormulas (both symbols.new terms.new) settings nesting reader.new p formulas.new.items) (formulas_in settings nesting (items_at items.now range.first range.end) p) result }
+    ensures read { (settings : ProofSettings) (nesting : Nesting Var Term) (p : ProofState) →
+        IsReaderOf symbols.old terms.old reader.old p.script (place_in settings nesting) →
+        AnswersAs terms.old (both symbols.new terms.new) (AreReadFormulas (both symbols.new terms.new) settings nesting reader.new p formulas.new.items)
+        (formulas_in settings nesting (items_at items.now range.first range.end) p) result }
     // Each leaf that is added has a node of its own.
     ensures spent { OnOk result (length symbols.new.leaves ≤ length symbols.old.leaves + (range.end - range.first)) }
     ensures few { length symbols.new.leaves ≤ length symbols.old.leaves + (length items.now.nodes - range.first) }

@@ -27,7 +27,7 @@ pub struct Found {
     pub number: u32,
 }
 
-/// What a look for an id tells: the number of its name, where the name was in use before, by which the id is put in use with
+/// What a look-up of an id tells: the number of its name, where the name was in use before, by which the id is put in use with
 /// no second look; and the id, where it is in use.
 #[derive(Clone, Copy)]
 pub(crate) struct Looked {

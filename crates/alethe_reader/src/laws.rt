@@ -17,12 +17,15 @@ ghost use Rattle.alethe_reader.specs.IdsInUse.{in_use, ids_around, ids_in, sight
 /// How the ids in use follow the proof: an assume, a step and an anchor put one in use behind the others, and where a scope
 /// is closed those that were in use where its anchor stands are in use again, and behind them the step that closes it.
 pub fn ids_follow_the_proof()
-    ensures assume { (scope : Scope ℕ ℕ) (id : List ℕ) (t : ℕ) → ids_in (add_assume scope id t) ≡ ids_in scope ++ in_use id role.Assume (next_index scope) ∷ [] }
+    ensures assume { (scope : Scope ℕ ℕ) (id : List ℕ) (t : ℕ) →
+        ids_in (add_assume scope id t) ≡ ids_in scope ++ in_use id role.Assume (next_index scope) ∷ [] }
     ensures step { (scope : Scope ℕ ℕ) (s : Step ℕ) → ids_in (add_step scope s) ≡ ids_in scope ++ in_use s.id role.Step (next_index scope) ∷ [] }
-    ensures anchor { (scope : Scope ℕ ℕ) (anchor : Anchor ℕ ℕ) → ids_in (open_anchor scope anchor) ≡ ids_in scope ++ in_use anchor.id role.Anchor (next_scope scope) ∷ [] }
+    ensures anchor { (scope : Scope ℕ ℕ) (anchor : Anchor ℕ ℕ) →
+        ids_in (open_anchor scope anchor) ≡ ids_in scope ++ in_use anchor.id role.Anchor (next_scope scope) ∷ [] }
     ensures closing { (around : Nesting ℕ ℕ) (before : ProofItems ℕ ℕ) (anchor : Anchor ℕ ℕ) (items : ProofItems ℕ ℕ) (s : Step ℕ) →
         ids_in (close_scope (inside around before anchor) items s)
-        ≡ take (length (ids_in (at around before))) (ids_in (at (inside around before anchor) items)) ++ in_use s.id role.Step (next_index (at (inside around before anchor) items)) ∷ [] }
+        ≡ take (length (ids_in (at around before))) (ids_in (at (inside around before anchor) items)) ++ in_use s.id role.Step
+        (next_index (at (inside around before anchor) items)) ∷ [] }
 {}
 
 /// An id in use is that of the visible command with this index, or of an open anchor; any other is new.
@@ -40,5 +43,6 @@ pub fn assumes_are_discharged()
         find (λ c. bytes_eq c.id id) (assumes_seen scope.nesting scope.items) ≡ sight_at (hidden f.role) f.number id }
     ensures outer { (scope : Scope ℕ ℕ) (id : List ℕ) (f : Found) → IsUsedAt (ids_in scope) id f → f.place < length (ids_around scope.nesting) →
         find (λ c. bytes_eq c.id id) (assumes_seen scope.nesting scope.items) ≡ None }
-    ensures unused { (scope : Scope ℕ ℕ) (id : List ℕ) → IsUnused (ids_in scope) id → find (λ c. bytes_eq c.id id) (assumes_seen scope.nesting scope.items) ≡ None }
+    ensures unused { (scope : Scope ℕ ℕ) (id : List ℕ) → IsUnused (ids_in scope) id →
+        find (λ c. bytes_eq c.id id) (assumes_seen scope.nesting scope.items) ≡ None }
 {}

@@ -11,8 +11,8 @@
 //! - `session`: what was read of a proof. `settings`: what never changes meanwhile. [`Ids`] has the ids of the visible commands and of the open anchors, by name, with no
 //!   copy of a scope; `laws` ties them to the proof that is written, as `rule_model` has it.
 //!
-//! What a contract sees: `specs/Reading` (the proof that is answered, and which terms count as read), `specs/Sessions` (which
-//! state a session stands for) and `specs/Answers` (what a part of the reader answers, and the outcome of its definition).
+//! What a contract sees: `specs/Reading` (the proof that is returned, and which terms count as read), `specs/Sessions` (which
+//! state a session stands for) and `specs/Answers` (what a part of the reader returns, and the outcome of its definition).
 #![tactic(auto)]
 
 mod anchor_arguments;

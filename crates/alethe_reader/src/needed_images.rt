@@ -22,7 +22,7 @@ use term_pool::{TermStop, Terms};
 /// The images of those of the first `outer` variables that stand in a term, each by the variable's leaf.
 ///
 /// Where there is an outer variable, it loads each distinct cell of the term once, takes two hashes for each reference that it
-/// meets, and memory for each. Refuses want of memory alone.
+/// meets, and memory for each. Refuses only when out of memory.
 pub(crate) fn images_needed(
     bound: &BoundVariables,
     outer: usize,
@@ -32,7 +32,8 @@ pub(crate) fn images_needed(
 ) -> Result<Vec<(u32, Ref)>, Memory>
     requires known { IsKnown terms.old.pass r }
     requires outer { outer ≤ length bound.now.images.items }
-    ensures needed { IfOk result (λ needed. AreNeeded symbols.now terms.old.pass (map (λ u. u.id) bound.now.names.used) (take outer bound.now.images.items) r needed.items) }
+    ensures needed { IfOk result (λ needed. AreNeeded symbols.now terms.old.pass (map (λ u. u.id) bound.now.names.used)
+        (take outer bound.now.images.items) r needed.items) }
     ensures same { terms.new ≡ terms.old }
 {
     if outer == 0 {
@@ -60,9 +61,12 @@ pub(crate) fn with_images(
 ) -> Result<Ref, TermStop>
     requires term { IsTerm symbols.now terms.old r }
     requires images { AreReplacementBy symbols.now terms.old images.now }
-    ensures term { IfOk result (λ i. (t : Term) (q : Replacement) → RefersTo symbols.now terms.old r t → StandForReplacement symbols.now terms.old images.now q → RefersTo symbols.now terms.new i (put_in q t)) }
-    ensures placed { (t : Term) (q : Replacement) → RefersTo symbols.now terms.old r t → StandForReplacement symbols.now terms.old images.now q → PlacesTerm symbols.now terms.old.pass terms.new.pass (put_in q t) }
-    ensures full { IfErr result (λ e. e ≡ TermStop.PoolFull → (t : Term) (q : Replacement) → RefersTo symbols.now terms.old r t → StandForReplacement symbols.now terms.old images.now q → LacksRoomFor symbols.now terms.new.pass (put_in q t)) }
+    ensures term { IfOk result (λ i. (t : Term) (q : Replacement) → RefersTo symbols.now terms.old r t →
+        StandForReplacement symbols.now terms.old images.now q → RefersTo symbols.now terms.new i (put_in q t)) }
+    ensures placed { (t : Term) (q : Replacement) → RefersTo symbols.now terms.old r t → StandForReplacement symbols.now terms.old images.now q →
+        PlacesTerm symbols.now terms.old.pass terms.new.pass (put_in q t) }
+    ensures full { IfErr result (λ e. e ≡ TermStop.PoolFull → (t : Term) (q : Replacement) → RefersTo symbols.now terms.old r t →
+        StandForReplacement symbols.now terms.old images.now q → LacksRoomFor symbols.now terms.new.pass (put_in q t)) }
     ensures known { IfOk result (IsKnown terms.new.pass) }
     ensures keeps { KeepsTerms terms.old terms.new }
 {

@@ -39,7 +39,9 @@ pub(crate) fn perform(
     requires room { length symbols.old.leaves + length items.now.nodes ≤ 2 ^ 30 }
     requires few { next_index session.old.builder + 1 < 2 ^ 32 - 1 }
     requires few_scopes { next_scope session.old.builder + 1 < 2 ^ 32 - 1 }
-    ensures read { (p : ProofState) → IsProofSession (both symbols.old terms.old) (proof_settings settings.now) session.old p → AnswersAs terms.old (both symbols.new terms.new) (StandsAfter (both symbols.new terms.new) (proof_settings settings.now) session.new) (performed (proof_settings settings.now) (command_said items.now command) p) result }
+    ensures read { (p : ProofState) → IsProofSession (both symbols.old terms.old) (proof_settings settings.now) session.old p →
+        AnswersAs terms.old (both symbols.new terms.new) (StandsAfter (both symbols.new terms.new) (proof_settings settings.now) session.new)
+        (performed (proof_settings settings.now) (command_said items.now command) p) result }
     ensures few { length symbols.new.leaves ≤ length symbols.old.leaves + length items.now.nodes }
     ensures commands { OnOk result (next_index session.new.builder ≤ next_index session.old.builder + 1) }
     ensures scopes { OnOk result (next_scope session.new.builder ≤ next_scope session.old.builder + 1) }

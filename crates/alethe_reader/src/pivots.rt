@@ -32,7 +32,7 @@ use text_items::shapes::second;
 /// be a truth value is none, or the last term has none behind it; each term is read all the same, and so is each term that gets
 /// a name behind one.
 ///
-/// Refused at the first fault of the first term that has one; and besides for want of memory, and where the pool had no room
+/// Refused at the first fault of the first term that has one; and besides when out of memory, and where the pool had no room
 /// for a cell of a term that was read. After a refusal the reader is given up.
 #[tactic(auto, using(crate::proofs::LeftToRead::one_by_one))]
 pub(crate) fn pivots_at(
@@ -44,9 +44,13 @@ pub(crate) fn pivots_at(
     pivots: &mut Vec<(Ref, bool)>,
 ) -> Result<(), ReadFault>
     requires items { AreItemsAt items.now arguments.first arguments.end }
-    requires reader { (settings : ProofSettings) × (nesting : Nesting Var Term) × (p : ProofState) × IsReaderOf symbols.old terms.old reader.old p.script (place_in settings nesting) }
+    requires reader { (settings : ProofSettings) × (nesting : Nesting Var Term) × (p : ProofState) ×
+        IsReaderOf symbols.old terms.old reader.old p.script (place_in settings nesting) }
     requires room { length symbols.old.leaves + (length items.now.nodes - arguments.first) ≤ 2 ^ 30 }
-    ensures read { (settings : ProofSettings) (nesting : Nesting Var Term) (p : ProofState) → IsReaderOf symbols.old terms.old reader.old p.script (place_in settings nesting) → AnswersAs terms.old (both symbols.new terms.new) (AreReadPivots (both symbols.new terms.new) settings nesting reader.new p pivots.new.items) (pivots_from settings nesting (items_at items.now arguments.first arguments.end) p) result }
+    ensures read { (settings : ProofSettings) (nesting : Nesting Var Term) (p : ProofState) →
+        IsReaderOf symbols.old terms.old reader.old p.script (place_in settings nesting) →
+        AnswersAs terms.old (both symbols.new terms.new) (AreReadPivots (both symbols.new terms.new) settings nesting reader.new p pivots.new.items)
+        (pivots_from settings nesting (items_at items.now arguments.first arguments.end) p) result }
     // Each leaf that is added has a node of its own.
     ensures spent { OnOk result (length symbols.new.leaves ≤ length symbols.old.leaves + (arguments.end - arguments.first)) }
     ensures few { length symbols.new.leaves ≤ length symbols.old.leaves + (length items.now.nodes - arguments.first) }
@@ -93,9 +97,13 @@ fn pivot_at(
 ) -> Result<Option<(Ref, bool)>, ReadFault>
     requires some { end_at items.now pair.first ≤ pair.end }
     requires items { AreItemsAt items.now (end_at items.now pair.first) pair.end }
-    requires reader { (settings : ProofSettings) × (nesting : Nesting Var Term) × (p : ProofState) × IsReaderOf symbols.old terms.old reader.old p.script (place_in settings nesting) }
+    requires reader { (settings : ProofSettings) × (nesting : Nesting Var Term) × (p : ProofState) ×
+        IsReaderOf symbols.old terms.old reader.old p.script (place_in settings nesting) }
     requires room { length symbols.old.leaves + (length items.now.nodes - pair.first) ≤ 2 ^ 30 }
-    ensures read { (settings : ProofSettings) (nesting : Nesting Var Term) (p : ProofState) → IsReaderOf symbols.old terms.old reader.old p.script (place_in settings nesting) → AnswersAs terms.old (both symbols.new terms.new) (IsReadPivot (both symbols.new terms.new) settings nesting reader.new p) (pivot_read settings nesting (item_at items.now pair.first) (items_at items.now (end_at items.now pair.first) pair.end) p) result }
+    ensures read { (settings : ProofSettings) (nesting : Nesting Var Term) (p : ProofState) →
+        IsReaderOf symbols.old terms.old reader.old p.script (place_in settings nesting) →
+        AnswersAs terms.old (both symbols.new terms.new) (IsReadPivot (both symbols.new terms.new) settings nesting reader.new p)
+        (pivot_read settings nesting (item_at items.now pair.first) (items_at items.now (end_at items.now pair.first) pair.end) p) result }
     ensures spent { OnOk result (length symbols.new.leaves ≤ length symbols.old.leaves + (pair.end - pair.first)) }
     ensures few { length symbols.new.leaves ≤ length symbols.old.leaves + (length items.now.nodes - pair.first) }
     ensures grow { GrowByTerms (both symbols.old terms.old) (both symbols.new terms.new) }
@@ -145,7 +153,7 @@ fn with_truth(term: Ref, truth: Option<bool>) -> Option<(Ref, bool)>
     }
 }
 
-/// Holds a pivot behind the others, as long as all are there; answers whether they still are. Refuses want of memory alone.
+/// Holds a pivot behind the others, as long as all are there; returns whether they still are. Refuses only when out of memory.
 fn hold(
     pivots: &mut Vec<(Ref, bool)>,
     all: bool,

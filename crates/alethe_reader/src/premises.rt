@@ -60,7 +60,7 @@ fn index_of(ids: &Ids, reach: Reach, id: Named<'_>) -> Result<u32, Refusal>
 
 /// Reads the indices of the commands whose ids stand in a range, in place of what `indices` held.
 ///
-/// Refused at the first that is none of a command within reach, and for want of memory.
+/// Refused at the first that is none of a command within reach, and when out of memory.
 pub(crate) fn indices_at(
     items: &ItemText<'_, '_>,
     range: NodeRange,
@@ -69,7 +69,8 @@ pub(crate) fn indices_at(
     indices: &mut Vec<u32>,
 ) -> Result<(), ReadFault>
     requires { AreSymbolsAt items.now range.first range.end }
-    ensures { (sights : List Sight) (p : ProofState) → IsReach ids.now.used reach sights → AreIndices sights (names_in (items_at items.now range.first range.end)) p indices.new.items result }
+    ensures { (sights : List Sight) (p : ProofState) → IsReach ids.now.used reach sights →
+        AreIndices sights (names_in (items_at items.now range.first range.end)) p indices.new.items result }
 {
     indices.clear();
     let mut k = range.first;

@@ -35,13 +35,21 @@ use term_pool::Terms;
 use term_reader::{Flags, Problem, TermReader};
 use text_items::refusals::refused;
 
-/// A proof of which nothing was read yet.
-fn new_session<'a>(alloc: Global, problem: &'a Problem, flags: Flags) -> Session<'a>
-    ensures session { (s : Table) (v : TermsView) (before : Script) → IsProblemOf s v problem.now before → IsProofSession (both s v) (record { replaces_lets = flags.expand_lets; is_strict = flags.strict }) result (unread before) }
+/// A proof, of these bytes, of which nothing was read yet.
+fn new_session<'a>(
+    alloc: Global,
+    bytes: &'a [u8],
+    problem: &'a Problem,
+    flags: Flags,
+) -> Session<'a>
+    ensures session { (s : Table) (v : TermsView) (before : Script) → IsProblemOf s v problem.now before →
+        IsProofSession (both s v) (record { replaces_lets = flags.expand_lets; is_strict = flags.strict }) result (unread before) }
     ensures short { IsBehindCommands result.builder 0 }
 {
+    let mut reader = TermReader::new(alloc, problem, flags);
+    reader.keep_lists_of(bytes);
     Session {
-        reader: TermReader::new(alloc, problem, flags),
+        reader,
         builder: ProofBuilder::new(alloc),
         ids: Ids::new(alloc),
         anchors: Vec::new(alloc),
@@ -61,8 +69,11 @@ fn new_session<'a>(alloc: Global, problem: &'a Problem, flags: Flags) -> Session
 ///
 /// The builder is taken out of the session.
 fn finish(alloc: Global, lexer: Lexer<'_>, session: &mut Session<'_>) -> Result<Proof, ReadFault>
-    requires { (s : Table) × (v : TermsView) × (settings : ProofSettings) × (p : ProofState) × (behind : Items) × HasCommandItems (at.source lexer) false (at.position lexer) behind no_items × IsProofSession (both s v) settings session.old p }
-    ensures { (s : Table) (v : TermsView) (settings : ProofSettings) (p : ProofState) (behind : Items) → HasCommandItems (at.source lexer.entry) false (at.position lexer.entry) behind no_items → IsProofSession (both s v) settings session.old p → IsFinished (both s v) p (closing_from settings behind tt p) result }
+    requires { (s : Table) × (v : TermsView) × (settings : ProofSettings) × (p : ProofState) × (behind : Items) ×
+        HasCommandItems (at.source lexer) false (at.position lexer) behind no_items × IsProofSession (both s v) settings session.old p }
+    ensures { (s : Table) (v : TermsView) (settings : ProofSettings) (p : ProofState) (behind : Items) →
+        HasCommandItems (at.source lexer.entry) false (at.position lexer.entry) behind no_items → IsProofSession (both s v) settings session.old p →
+        IsFinished (both s v) p (closing_from settings behind tt p) result }
 {
     judge_end(lexer, session)?;
     let builder = replace(&mut session.builder, ProofBuilder::new(alloc));
@@ -72,7 +83,9 @@ fn finish(alloc: Global, lexer: Lexer<'_>, session: &mut Session<'_>) -> Result<
 /// Judges the end of a proof: refused where something stands behind the list of its commands, or an anchor is open.
 fn judge_end(lexer: Lexer<'_>, session: &Session<'_>) -> Result<(), Refusal>
     requires { (behind : Items) × HasCommandItems (at.source lexer) false (at.position lexer) behind no_items }
-    ensures { (s : Table) (v : TermsView) (settings : ProofSettings) (p : ProofState) (behind : Items) → HasCommandItems (at.source lexer.entry) false (at.position lexer.entry) behind no_items → IsProofSession (both s v) settings session.now p → IsEndJudged session.now behind (closing_from settings behind tt p) result }
+    ensures { (s : Table) (v : TermsView) (settings : ProofSettings) (p : ProofState) (behind : Items) →
+        HasCommandItems (at.source lexer.entry) false (at.position lexer.entry) behind no_items → IsProofSession (both s v) settings session.now p →
+        IsEndJudged session.now behind (closing_from settings behind tt p) result }
 {
     if let Some(place) = excess(lexer) {
         return Err(refused(Cause::BadCommand, place));
@@ -88,7 +101,7 @@ fn judge_end(lexer: Lexer<'_>, session: &Session<'_>) -> Result<(), Refusal>
 /// Problem and symbols have to be what the reading of the problem left. Numerals and variables are put into the table, no
 /// more than the text has bytes, and the terms into the pool. Where the flags ask for a strict proof, the arguments of
 /// resolution are its pivots. The first fault is one of form, or else the first one of the commands in their order. Refused
-/// besides for want of memory, and where the pool had no room for a cell of a term that was read.
+/// besides when out of memory, and where the pool had no room for a cell of a term that was read.
 pub fn read_proof(
     alloc: Global,
     bytes: &[u8],
@@ -107,7 +120,8 @@ pub fn read_proof(
     ensures refused { (before : Script) (r : Refusal) → IsProblemOf symbols.old terms.old problem.now before →
         IsFirstProofFault bytes.now (record { replaces_lets = flags.expand_lets; is_strict = flags.strict }) before r → IfOk result (λ _. ⊥) }
     ensures placed { (before : Script) → IsProblemOf symbols.old terms.old problem.now before →
-        PlacesCellsOf symbols.new terms.old.pass terms.new.pass (IsCountedOfProof bytes.now (record { replaces_lets = flags.expand_lets; is_strict = flags.strict }) before) }
+        PlacesCellsOf symbols.new terms.old.pass terms.new.pass
+        (IsCountedOfProof bytes.now (record { replaces_lets = flags.expand_lets; is_strict = flags.strict }) before) }
     ensures full { (before : Script) → IsProblemOf symbols.old terms.old problem.now before → result ≡ Err fault.PoolFull →
         LacksCellOf symbols.new terms.new.pass (IsCountedOfProof bytes.now (record { replaces_lets = flags.expand_lets; is_strict = flags.strict }) before) }
     ensures few { length symbols.new.leaves ≤ length symbols.old.leaves + length bytes.now }
@@ -122,7 +136,7 @@ pub fn read_proof(
     let in_list = enter_list(&mut lexer);
     let settings = SessionSettings { flags, in_list };
     let mut nodes = Vec::new(alloc);
-    let mut session = new_session(alloc, problem, flags);
+    let mut session = new_session(alloc, bytes, problem, flags);
     let read = read_commands(
         &settings,
         &mut lexer,

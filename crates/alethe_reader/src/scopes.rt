@@ -18,12 +18,13 @@ use pair_pool::Ref;
 use sym_table::Memory;
 use term_reader::TermReader;
 
-/// Puts the variables of an anchor in scope, by their leaves, the first one outermost. Refuses want of memory alone.
+/// Puts the variables of an anchor in scope, by their leaves, the first one outermost. Refuses only when out of memory.
 pub(crate) fn enter_variables(
     reader: &mut TermReader<'_>,
     opened: &[(u32, Ref)],
 ) -> Result<(), Memory>
-    ensures { (s : Table) (v : TermsView) (sc : Script) (p : Place) (bs : List (Var × Term)) → AllZip (IsBindingOf s v) opened.now bs → IsReaderOf s v reader.old sc p → OnOk result (IsReaderOf s v reader.new sc (record p { scope = entered (length bs) bs p.scope })) }
+    ensures { (s : Table) (v : TermsView) (sc : Script) (p : Place) (bs : List (Var × Term)) → AllZip (IsBindingOf s v) opened.now bs →
+        IsReaderOf s v reader.old sc p → OnOk result (IsReaderOf s v reader.new sc (record p { scope = entered (length bs) bs p.scope })) }
 {
     let mut k = 0;
     'variables: while k < opened.len() {
@@ -36,8 +37,11 @@ pub(crate) fn enter_variables(
 
 /// Takes the variables of the innermost anchor, which are so many, out of scope.
 pub(crate) fn leave_variables(reader: &mut TermReader<'_>, count: usize)
-    requires { (s : Table) × (v : TermsView) × (sc : Script) × (settings : ProofSettings) × (nesting : Nesting Var Term) × IsReaderOf s v reader.old sc (place_in settings nesting) × (count ≡ length (own_bindings nesting)) }
-    ensures { (s : Table) (v : TermsView) (sc : Script) (settings : ProofSettings) (around : Nesting Var Term) (before : ProofItems Var Term) (anchor : Anchor Var Term) → count ≡ length anchor.bindings → IsReaderOf s v reader.old sc (place_in settings (inside around before anchor)) → IsReaderOf s v reader.new sc (place_in settings around) }
+    requires { (s : Table) × (v : TermsView) × (sc : Script) × (settings : ProofSettings) × (nesting : Nesting Var Term) ×
+        IsReaderOf s v reader.old sc (place_in settings nesting) × (count ≡ length (own_bindings nesting)) }
+    ensures { (s : Table) (v : TermsView) (sc : Script) (settings : ProofSettings) (around : Nesting Var Term) (before : ProofItems Var Term)
+        (anchor : Anchor Var Term) → count ≡ length anchor.bindings → IsReaderOf s v reader.old sc (place_in settings (inside around before anchor)) →
+        IsReaderOf s v reader.new sc (place_in settings around) }
 {
     let mut left = count;
     'variables: while left > 0 {

@@ -34,7 +34,8 @@ pub(crate) fn standing_at(
     found: Option<Found>,
 ) -> Result<Standing, Refusal>
     requires { IsIdFound session.now.ids.used id.name.now found }
-    ensures { (s : Table) (v : TermsView) (p : ProofState) → IsSymbolName id.entry.name.now → IsWritten (both s v) session.now p → IsStanding session.now.ids.used p (is_named id.entry) result }
+    ensures { (s : Table) (v : TermsView) (p : ProofState) → IsSymbolName id.entry.name.now → IsWritten (both s v) session.now p →
+        IsStanding session.now.ids.used p (is_named id.entry) result }
 {
     let Some(found) = found else {
         return Ok(standing_here(session.ids.len()));
@@ -63,7 +64,11 @@ fn closed_by(anchors: &[OpenAnchor], found: Found) -> Option<OpenAnchor>
 
 /// A step that closes nothing has as premises all commands that are visible, and discharges nothing.
 fn standing_here(len: usize) -> Standing
-    ensures { result ≡ record { premises = record { first = 0; end = len; takes_steps = true }; discharges = record { first = 0; end = 0; takes_steps = false }; closes = None } }
+    ensures { result ≡ record {
+      premises = record { first = 0; end = len; takes_steps = true };
+      discharges = record { first = 0; end = 0; takes_steps = false };
+      closes = None;
+    } }
 {
     Standing {
         premises: Reach {
@@ -84,7 +89,11 @@ fn standing_here(len: usize) -> Standing
 /// behind it.
 fn closing(anchor: OpenAnchor, len: usize) -> Standing
     requires { anchor.ids < len }
-    ensures { result ≡ record { premises = record { first = 0; end = anchor.ids; takes_steps = true }; discharges = record { first = anchor.ids + 1; end = len; takes_steps = false }; closes = Some anchor } }
+    ensures { result ≡ record {
+      premises = record { first = 0; end = anchor.ids; takes_steps = true };
+      discharges = record { first = anchor.ids + 1; end = len; takes_steps = false };
+      closes = Some anchor;
+    } }
 {
     Standing {
         premises: Reach {

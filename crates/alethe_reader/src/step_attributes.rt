@@ -19,7 +19,8 @@ ghost use Rattle.alethe_text.specs.States.{ProofState, demand};
 ghost use Rattle.alethe_text.specs.Steps.{attribute_read, attributes_read};
 ghost use Rattle.alethe_reader.specs.Answers.{AnswersAs};
 ghost use Rattle.alethe_reader.specs.Settings.{proof_settings};
-ghost use Rattle.alethe_reader.specs.StepParts.{AreStepParts, IsBare, StandsAt, AreReadAttributes, AreRatios, IsRuleJudged, KeepsOthers, fault_of_coefficients, own_nodes, nodes_from};
+ghost use Rattle.alethe_reader.specs.StepParts.{AreStepParts, IsBare, StandsAt, AreReadAttributes, AreRatios, IsRuleJudged, KeepsOthers};
+ghost use Rattle.alethe_reader.specs.StepParts.{fault_of_coefficients, own_nodes, nodes_from};
 ghost use Rattle.term_expansion.specs.SymbolsAndTerms.{both};
 
 use crate::arguments::names_at;
@@ -62,7 +63,7 @@ struct OneAttribute {
 ///
 /// Refused at the first fault: a rule that is left out, a premise that is no visible command, an id to be discharged that is no
 /// assume of the scope that the step closes, a coefficient that is too wide, the first fault of a pivot in a strict proof, or
-/// that of a term that gets a name in other arguments; and besides for want of memory, and where the pool had no room for a cell
+/// that of a term that gets a name in other arguments; and besides when out of memory, and where the pool had no room for a cell
 /// of a term that was read. After a refusal the session is given up.
 #[tactic(auto, using(crate::proofs::AttributeReading::attributes_counted))]
 pub(crate) fn attributes_at(
@@ -74,9 +75,14 @@ pub(crate) fn attributes_at(
     session: &mut Session<'_>,
 ) -> Result<(), ReadFault>
     requires attributes { AreAttributesAt items.now step.first (length items.now.nodes) }
-    requires stands { (at : ids.Standing) × (p : ProofState) × StandsAt (both symbols.old terms.old) (proof_settings settings.now) at session.old step.standing p }
+    requires stands { (at : ids.Standing) × (p : ProofState) ×
+        StandsAt (both symbols.old terms.old) (proof_settings settings.now) at session.old step.standing p }
     requires room { length symbols.old.leaves + (length items.now.nodes - step.first) ≤ 2 ^ 30 }
-    ensures read { (at : ids.Standing) (p : ProofState) (before : Step Term) → StandsAt (both symbols.old terms.old) (proof_settings settings.now) at session.old step.standing p → before.rule ≡ step.rule → IsBare before → AnswersAs terms.old (both symbols.new terms.new) (AreReadAttributes (both symbols.new terms.new) (proof_settings settings.now) at.nesting session.new p before) (attributes_read (proof_settings settings.now) at (attributes_of (items_at items.now step.first (length items.now.nodes))) before p) result }
+    ensures read { (at : ids.Standing) (p : ProofState) (before : Step Term) →
+        StandsAt (both symbols.old terms.old) (proof_settings settings.now) at session.old step.standing p → before.rule ≡ step.rule → IsBare before →
+        AnswersAs terms.old (both symbols.new terms.new)
+        (AreReadAttributes (both symbols.new terms.new) (proof_settings settings.now) at.nesting session.new p before)
+        (attributes_read (proof_settings settings.now) at (attributes_of (items_at items.now step.first (length items.now.nodes))) before p) result }
     // Each leaf that is added has a node of its own.
     ensures few { length symbols.new.leaves ≤ length symbols.old.leaves + (length items.now.nodes - step.first) }
     ensures grow { GrowByTerms (both symbols.old terms.old) (both symbols.new terms.new) }
@@ -98,7 +104,8 @@ pub(crate) fn attributes_at(
 /// Empties what attributes have of a step's parts. There are coefficients, though none so far, where its rule takes them.
 #[tactic(auto, using(crate::proofs::AttributeReading::none_among))]
 fn clear(parts: &mut StepParts, has_ratios: bool)
-    ensures parts { (s : Table) (v : TermsView) (before : Step Term) → IsBare before → spec.takes_coefficients before.rule ≡ has_ratios → AreStepParts (both s v) parts.new before }
+    ensures parts { (s : Table) (v : TermsView) (before : Step Term) → IsBare before → spec.takes_coefficients before.rule ≡ has_ratios →
+        AreStepParts (both s v) parts.new before }
     ensures clause { parts.new.clause ≡ parts.old.clause }
 {
     parts.premises.clear();
@@ -140,9 +147,15 @@ fn attribute_at(
     session: &mut Session<'_>,
 ) -> Result<(), ReadFault>
     requires there { IsAttributeThere items.now one.attribute }
-    requires stands { (at : ids.Standing) × (p : ProofState) × StandsAt (both symbols.old terms.old) (proof_settings settings.now) at session.old one.standing p }
+    requires stands { (at : ids.Standing) × (p : ProofState) ×
+        StandsAt (both symbols.old terms.old) (proof_settings settings.now) at session.old one.standing p }
     requires room { length symbols.old.leaves + nodes_from one.attribute (length items.now.nodes) ≤ 2 ^ 30 }
-    ensures read { (at : ids.Standing) (p : ProofState) (before : Step Term) → StandsAt (both symbols.old terms.old) (proof_settings settings.now) at session.old one.standing p → before.rule ≡ one.rule → AreStepParts (both symbols.old terms.old) session.old.parts before → AnswersAs terms.old (both symbols.new terms.new) (AreReadAttributes (both symbols.new terms.new) (proof_settings settings.now) at.nesting session.new p before) (attribute_read (proof_settings settings.now) at (attribute_said items.now one.attribute) before p) result }
+    ensures read { (at : ids.Standing) (p : ProofState) (before : Step Term) →
+        StandsAt (both symbols.old terms.old) (proof_settings settings.now) at session.old one.standing p → before.rule ≡ one.rule →
+        AreStepParts (both symbols.old terms.old) session.old.parts before →
+        AnswersAs terms.old (both symbols.new terms.new)
+        (AreReadAttributes (both symbols.new terms.new) (proof_settings settings.now) at.nesting session.new p before)
+        (attribute_read (proof_settings settings.now) at (attribute_said items.now one.attribute) before p) result }
     ensures spent { OnOk result (length symbols.new.leaves ≤ length symbols.old.leaves + own_nodes one.attribute) }
     ensures few { length symbols.new.leaves ≤ length symbols.old.leaves + nodes_from one.attribute (length items.now.nodes) }
     ensures grow { GrowByTerms (both symbols.old terms.old) (both symbols.new terms.new) }
@@ -182,7 +195,8 @@ fn attribute_at(
 #[tactic(auto, using(crate::proofs::AttributeReading::rules_judged))]
 fn judge_rule(items: &ItemText<'_, '_>, k: usize) -> Result<(), ReadFault>
     requires { IsSymbolAt items.now k }
-    ensures { (p : ProofState) → IsRuleJudged (demand (not (is_among left_out_rules (name_in items.now k).name)) LeftOut (name_in items.now k).place p) p result }
+    ensures { (p : ProofState) → IsRuleJudged (demand (not (is_among left_out_rules (name_in items.now k).name)) LeftOut (name_in items.now k).place p) p
+        result }
 {
     let rule = named_at(items, k);
     if is_left_out(rule.name) {

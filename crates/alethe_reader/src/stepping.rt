@@ -73,7 +73,7 @@ struct NewStep<'a> {
 /// Adds a step. One with the id of the innermost open anchor closes its scope: it is read in the scope around.
 ///
 /// Refused where the id may not be that of the step, at the first fault of its literals, and then of its attributes in the
-/// order of the text; and besides for want of memory, and where the pool had no room for a cell of a term that was read. After
+/// order of the text; and besides when out of memory, and where the pool had no room for a cell of a term that was read. After
 /// a refusal the session is given up.
 #[tactic(auto, using(term_reader::proofs::Staying::adds_then))]
 pub fn read_step(
@@ -90,7 +90,10 @@ pub fn read_step(
     requires session { (p : ProofState) × IsProofSession (both symbols.old terms.old) (proof_settings settings.now) session.old p }
     requires room { length symbols.old.leaves + (length items.now.nodes - step.first) ≤ 2 ^ 30 }
     requires few { next_index session.old.builder + 1 < 2 ^ 32 - 1 }
-    ensures read { (p : ProofState) → IsProofSession (both symbols.old terms.old) (proof_settings settings.now) session.old p → AnswersAs terms.old (both symbols.new terms.new) (StandsAfter (both symbols.new terms.new) (proof_settings settings.now) session.new) (steps.step_read (proof_settings settings.now) (name_in items.now step.id) (items_at items.now step.first step.attributes) (shape.attributes_of (items_at items.now step.attributes (length items.now.nodes))) p) result }
+    ensures read { (p : ProofState) → IsProofSession (both symbols.old terms.old) (proof_settings settings.now) session.old p →
+        AnswersAs terms.old (both symbols.new terms.new) (StandsAfter (both symbols.new terms.new) (proof_settings settings.now) session.new)
+        (steps.step_read (proof_settings settings.now) (name_in items.now step.id) (items_at items.now step.first step.attributes)
+        (shape.attributes_of (items_at items.now step.attributes (length items.now.nodes))) p) result }
     ensures few { length symbols.new.leaves ≤ length symbols.old.leaves + (length items.now.nodes - step.first) }
     ensures grow { GrowByTerms (both symbols.old terms.old) (both symbols.new terms.new) }
     ensures commands { OnOk result (next_index session.new.builder ≡ next_index session.old.builder + 1) }
@@ -127,8 +130,11 @@ pub fn read_step(
 
 /// Goes to the scope in which a step stands: one that closes a scope stands in the scope around.
 fn stand(reader: &mut TermReader<'_>, closes: Option<OpenAnchor>)
-    requires { (s : Table) × (v : TermsView) × (settings : ProofSettings) × (used : List Used) × (p : ProofState) × (id : List ℕ) × (here : ids.Standing) × IsReaderOf s v reader.old p.script (place_in settings p.scope.nesting) × IsClosing used p id here closes }
-    ensures { (s : Table) (v : TermsView) (settings : ProofSettings) (used : List Used) (p : ProofState) (id : List ℕ) (here : ids.Standing) → IsReaderOf s v reader.old p.script (place_in settings p.scope.nesting) → IsClosing used p id here closes → IsReaderOf s v reader.new p.script (place_in settings here.nesting) }
+    requires { (s : Table) × (v : TermsView) × (settings : ProofSettings) × (used : List Used) × (p : ProofState) × (id : List ℕ) × (here : ids.Standing) ×
+        IsReaderOf s v reader.old p.script (place_in settings p.scope.nesting) × IsClosing used p id here closes }
+    ensures { (s : Table) (v : TermsView) (settings : ProofSettings) (used : List Used) (p : ProofState) (id : List ℕ) (here : ids.Standing) →
+        IsReaderOf s v reader.old p.script (place_in settings p.scope.nesting) → IsClosing used p id here closes →
+        IsReaderOf s v reader.new p.script (place_in settings here.nesting) }
 {
     let Some(anchor) = closes else {
         return;
@@ -137,12 +143,14 @@ fn stand(reader: &mut TermReader<'_>, closes: Option<OpenAnchor>)
 }
 
 /// Adds the step that was read, and puts its id in use. Where it closes a scope, all that belongs to the scope is left. Refuses
-/// want of memory alone.
+/// only when out of memory.
 fn add_step(session: &mut Session<'_>, new: NewStep<'_>) -> Result<(), ReadFault>
-    requires step { (s : Table) × (v : TermsView) × (settings : ProofSettings) × (step : Step Term) × (p : ProofState) × IsToAdd (both s v) settings session.old new step p }
+    requires step { (s : Table) × (v : TermsView) × (settings : ProofSettings) × (step : Step Term) × (p : ProofState) ×
+        IsToAdd (both s v) settings session.old new step p }
     requires name { new.name ≡ position (bytes_eq new.id.name.now) session.old.ids.names }
     requires few { next_index session.old.builder + 1 < 2 ^ 32 - 1 }
-    ensures added { OnOk result ((s : Table) (v : TermsView) (settings : ProofSettings) (step : Step Term) (p : ProofState) → IsToAdd (both s v) settings session.old new.entry step p → IsProofSession (both s v) settings session.new (steps.with_step step p)) }
+    ensures added { OnOk result ((s : Table) (v : TermsView) (settings : ProofSettings) (step : Step Term) (p : ProofState) →
+        IsToAdd (both s v) settings session.old new.entry step p → IsProofSession (both s v) settings session.new (steps.with_step step p)) }
     ensures refused { IfErr result (λ fault. fault ≡ ReadFault.Memory) }
     ensures commands { OnOk result (next_index session.new.builder ≡ next_index session.old.builder + 1) }
     ensures scopes { OnOk result (next_scope session.new.builder ≡ next_scope session.old.builder) }
@@ -156,7 +164,7 @@ fn add_step(session: &mut Session<'_>, new: NewStep<'_>) -> Result<(), ReadFault
     Ok(())
 }
 
-/// Hands the step over to the builder, and answers its index.
+/// Hands the step over to the builder, and returns its index.
 fn take_step(builder: &mut ProofBuilder, parts: &StepParts, new: NewStep<'_>) -> Result<u32, Memory>
     requires may { MayTake builder.old (spec.step_added parts.now new) }
     requires few { next_index builder.old + 1 < 2 ^ 32 - 1 }
@@ -193,10 +201,13 @@ fn ratios_of(parts: &StepParts) -> Option<&[Ratio]>
 
 /// Leaves the scope of the innermost anchor: its ids, its variables, and itself.
 fn leave_scope(session: &mut Session<'_>, anchor: OpenAnchor)
-    requires { (s : Table) × (v : TermsView) × (nesting : Nesting Var Term) × AreBound (both s v) session.old.bound nesting × (anchor.variables ≡ length (own_bindings nesting)) }
+    requires { (s : Table) × (v : TermsView) × (nesting : Nesting Var Term) × AreBound (both s v) session.old.bound nesting ×
+        (anchor.variables ≡ length (own_bindings nesting)) }
     ensures ids { session.new.ids ≡ record { names = session.old.ids.names; used = take anchor.ids session.old.ids.used } }
     ensures anchors { (front : List OpenAnchor) (last : OpenAnchor) → session.old.anchors.items ≡ front ++ last ∷ [] → session.new.anchors.items ≡ front }
-    ensures bound { (s : Table) (v : TermsView) (around : Nesting Var Term) (before : Proof Var Term) (other : Anchor Var Term) → anchor.variables ≡ length other.bindings → AreBound (both s v) session.old.bound (inside around before other) → AreBound (both s v) session.new.bound around }
+    ensures bound { (s : Table) (v : TermsView) (around : Nesting Var Term) (before : Proof Var Term) (other : Anchor Var Term) →
+        anchor.variables ≡ length other.bindings → AreBound (both s v) session.old.bound (inside around before other) →
+        AreBound (both s v) session.new.bound around }
     ensures builder { session.new.builder ≡ session.old.builder }
     ensures reader { session.new.reader ≡ session.old.reader }
 {

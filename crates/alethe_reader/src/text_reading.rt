@@ -35,17 +35,23 @@ fn read_command(
     terms: &mut Terms<'_>,
     session: &mut Session<'_>,
 ) -> Result<bool, ReadFault>
-    requires left { (p : ProofState) × (whole : Outcome ProofState (Proof Var Term)) × AreCommandsLeft (at.source lexer.old) settings.now (at.position lexer.old) p whole × IsProofSession (both symbols.old terms.old) (proof_settings settings.now) session.old p }
+    requires left { (p : ProofState) × (whole : Outcome ProofState (Proof Var Term)) ×
+        AreCommandsLeft (at.source lexer.old) settings.now (at.position lexer.old) p whole ×
+        IsProofSession (both symbols.old terms.old) (proof_settings settings.now) session.old p }
     requires room { most_after (length symbols.old.leaves) (at.source lexer.old) (at.position lexer.old) ≤ 2 ^ 30 }
     requires short { length (at.source lexer.old) ≤ 268435456 }
     requires inside { at.position lexer.old ≤ length (at.source lexer.old) }
     requires few { IsBehindCommands session.old.builder (at.position lexer.old) }
-    ensures reads { (p : ProofState) (whole : Outcome ProofState (Proof Var Term)) → AreCommandsLeft (at.source lexer.old) settings.now (at.position lexer.old) p whole → IsProofSession (both symbols.old terms.old) (proof_settings settings.now) session.old p → ReadsProofCommand (at.source lexer.new) terms.old (both symbols.new terms.new) settings.now session.new (at.position lexer.new) whole result }
+    ensures reads { (p : ProofState) (whole : Outcome ProofState (Proof Var Term)) →
+        AreCommandsLeft (at.source lexer.old) settings.now (at.position lexer.old) p whole →
+        IsProofSession (both symbols.old terms.old) (proof_settings settings.now) session.old p →
+        ReadsProofCommand (at.source lexer.new) terms.old (both symbols.new terms.new) settings.now session.new (at.position lexer.new) whole result }
     ensures source { at.source lexer.new ≡ at.source lexer.old }
     ensures progress { IfOk result (λ found. IsTrue found → at.position lexer.old < at.position lexer.new) }
     ensures inside { IfOk result (λ found. IsTrue found → at.position lexer.new ≤ length (at.source lexer.old)) }
     ensures short { IfOk result (λ found. IsTrue found → IsBehindCommands session.new.builder (at.position lexer.new)) }
-    ensures few { IfOk result (λ found. IsTrue found → most_after (length symbols.new.leaves) (at.source lexer.new) (at.position lexer.new) ≤ most_after (length symbols.old.leaves) (at.source lexer.old) (at.position lexer.old)) }
+    ensures few { IfOk result (λ found. IsTrue found → most_after (length symbols.new.leaves) (at.source lexer.new) (at.position lexer.new) ≤ most_after
+        (length symbols.old.leaves) (at.source lexer.old) (at.position lexer.old)) }
     ensures few_at_all { length symbols.new.leaves ≤ most_after (length symbols.old.leaves) (at.source lexer.old) (at.position lexer.old) }
     ensures grow { GrowByTerms (both symbols.old terms.old) (both symbols.new terms.new) }
 {
@@ -68,12 +74,18 @@ pub(crate) fn read_commands(
     terms: &mut Terms<'_>,
     session: &mut Session<'_>,
 ) -> Result<(), ReadFault>
-    requires left { (p : ProofState) × (whole : Outcome ProofState (Proof Var Term)) × AreCommandsLeft (at.source lexer.old) settings.now (at.position lexer.old) p whole × IsProofSession (both symbols.old terms.old) (proof_settings settings.now) session.old p }
+    requires left { (p : ProofState) × (whole : Outcome ProofState (Proof Var Term)) ×
+        AreCommandsLeft (at.source lexer.old) settings.now (at.position lexer.old) p whole ×
+        IsProofSession (both symbols.old terms.old) (proof_settings settings.now) session.old p }
     requires room { most_after (length symbols.old.leaves) (at.source lexer.old) (at.position lexer.old) ≤ 2 ^ 30 }
     requires short { length (at.source lexer.old) ≤ 268435456 }
     requires inside { at.position lexer.old ≤ length (at.source lexer.old) }
     requires few { IsBehindCommands session.old.builder (at.position lexer.old) }
-    ensures reads { (p : ProofState) (whole : Outcome ProofState (Proof Var Term)) → AreCommandsLeft (at.source lexer.old) settings.now (at.position lexer.old) p whole → IsProofSession (both symbols.old terms.old) (proof_settings settings.now) session.old p → ReadsProof (at.source lexer.new) terms.old (both symbols.new terms.new) (proof_settings settings.now) session.new (at.position lexer.new) whole result }
+    ensures reads { (p : ProofState) (whole : Outcome ProofState (Proof Var Term)) →
+        AreCommandsLeft (at.source lexer.old) settings.now (at.position lexer.old) p whole →
+        IsProofSession (both symbols.old terms.old) (proof_settings settings.now) session.old p →
+        ReadsProof (at.source lexer.new) terms.old (both symbols.new terms.new) (proof_settings settings.now) session.new
+        (at.position lexer.new) whole result }
     ensures few { length symbols.new.leaves ≤ most_after (length symbols.old.leaves) (at.source lexer.old) (at.position lexer.old) }
     ensures grow { GrowByTerms (both symbols.old terms.old) (both symbols.new terms.new) }
 {

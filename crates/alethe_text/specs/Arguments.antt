@@ -1,6 +1,7 @@
 -- Public. The arguments of a step (Alethe, "The Proof Format"). Those of la_generic are its coefficients; in a strict proof
 -- those of resolution are its pivots; no others are judged, but for the terms that get a name in them.
-use Rattle.std.specs.Prelude.{Bool, true, false, ◌&&◌, if◌then◌else◌, List, [], ◌∷◌, codes, Option, Some, None, option_map, option_and_then, is_some, unwrap_or, ⊤}
+use Rattle.std.specs.Prelude.{Bool, true, false, ◌&&◌, if◌then◌else◌, List, [], ◌∷◌, codes, Option, Some, None, option_map, option_and_then, is_some}
+use Rattle.std.specs.Prelude.{unwrap_or, ⊤}
 use Rattle.sexpr.specs.Items.{Item, word, quoted, string, list, Items, no_items, item, symbol_name}
 use Rattle.term_model.specs.Terms.{Var, Term}
 use Rattle.rule_model.specs.declared.rules.Rule.{Rule}

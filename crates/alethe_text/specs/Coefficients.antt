@@ -1,6 +1,7 @@
 -- Public. Coefficients of linear arithmetic, which the arguments of a step by la_generic are (Alethe, "List of rules":
 -- la_generic). Numbers have 128 bits.
-use Rattle.std.specs.Prelude.{ℕ, suc, zero, ◌*◌, ◌/◌, ◌%◌, ◌^◌, ◌==◌, pos, neg_ℤ, nat_le, Bool, true, false, not, ◌||◌, if◌then◌else◌, List, [], ◌∷◌, ◌++◌, codes, length, Option, Some, None, option_map, option_and_then, Result, Ok}
+use Rattle.std.specs.Prelude.{ℕ, suc, zero, ◌*◌, ◌/◌, ◌%◌, ◌^◌, ◌==◌, pos, neg_ℤ, nat_le, Bool, true, false, not, ◌||◌, if◌then◌else◌, List, [], ◌∷◌, ◌++◌}
+use Rattle.std.specs.Prelude.{codes, length, Option, Some, None, option_map, option_and_then, Result, Ok}
 use Rattle.std.specs.List.{before_first, after_first}
 use Rattle.std.specs.Option.{option_or}
 use Rattle.sexpr.specs.declared.causes.Cause.TheVariants.{WideNumber}

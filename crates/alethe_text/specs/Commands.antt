@@ -95,19 +95,16 @@ abbrev pub variable_fault : Item → Option ℕ
 variable_fault (list place items) = pair_fault (list place items)
 variable_fault other = symbol_fault other
 
--- A variable and its term, behind the `:=` of an argument that begins at this place; or the sort behind a variable alone.
+-- A variable and its term, behind the `:=` of an argument that begins at this place.
 abbrev pub assigned_fault : ℕ → Items → Option ℕ
 assigned_fault place (item x (item t rest)) = option_or (variable_fault x) (excess rest)
 assigned_fault place _ = Some place
 
-abbrev pub alone_fault : ℕ → Items → Option ℕ
-alone_fault place (item sort rest) = excess rest
-alone_fault place no_items = Some place
-
+-- An argument is a list of two items or more: a variable and its term behind `:=`, or a variable alone and its sort.
 abbrev pub argument_fault : Item → Option ℕ
-argument_fault (list place (item head rest)) =
-    if is_spelled (codes ":=") head then assigned_fault place rest
-    else if is_some (symbol_name head) then alone_fault place rest
+argument_fault (list place (item head (item i rest))) =
+    if is_spelled (codes ":=") head then assigned_fault place (item i rest)
+    else if is_some (symbol_name head) then excess rest
     else Some (place_of head)
 argument_fault other = Some (place_of other)
 
@@ -144,16 +141,16 @@ abbrev pub argument_items : Items → Items
 argument_items (item keyword (item items rest)) = items_of items
 argument_items _ = no_items
 
--- the attributes of an anchor: the id of the step that is to close it, and its arguments
-abbrev pub anchor_keywords : List Known
-anchor_keywords =
-    record { spelling = codes ":step"; wants = wanted.Name; once = true; needed = false }
-    ∷ record { spelling = codes ":args"; wants = wanted.AnyList; once = true; needed = false } ∷ []
+-- the word `:args` at the end lacks its list
+abbrev pub list_lacking : ℕ → Items → Option ℕ
+list_lacking place (item keyword no_items) = if is_spelled (codes ":args") keyword then Some place else None
+list_lacking place _ = None
 
--- `:step` stands first, `:args` may stand behind it, and no other attribute.
+-- The form of an anchor goes by places: `:step` and the id of the step that is to close it, and behind them perhaps `:args` and
+-- the list of the arguments.
 abbrev pub anchor_shape : ℕ → Items → Result Command Refusal
 anchor_shape place (item keyword (item id rest)) =
-    shaped (earlier (attributes_fault anchor_keywords place (item keyword (item id rest)))
+    shaped (option_or (list_lacking place rest)
     (option_or (word_fault (codes ":step") keyword) (option_or (symbol_fault id) (arguments_fault rest))))
     (anchor place (name_at id) (arguments_in (argument_items rest)))
 anchor_shape place _ = refused BadCommand place

@@ -27,7 +27,9 @@ read_value (Err refusal) = None
 
 -- what a text comes to behind a problem
 unfoldable pub proof_read : ProofSettings → List ℕ → List ℕ → Outcome ProofState (Proof Var Term)
-unfolding first_fault script_in rule_named command_of coefficient_of common_divisor coefficients_from ◌>>=◌ standing_of indices_of term_in formula_in formulas_in named_in pivots_from arguments_from assume_read attribute_read attributes_read step_read argument_read arguments_read anchor_read performed commands proof_from
+unfolding first_fault script_in rule_named command_of coefficient_of common_divisor coefficients_from ◌>>=◌ standing_of indices_of term_in formula_in
+    formulas_in named_in pivots_from arguments_from assume_read attribute_read attributes_read step_read argument_read arguments_read anchor_read performed
+    commands proof_from
 proof_read settings problem text = proof_from settings (items_in text) (unread (script_in problem))
 
 -- lets are kept, and the proof is not strict

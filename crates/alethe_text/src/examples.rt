@@ -1,7 +1,8 @@
 //! Short texts with what they stand for, or with their first fault. The functions do nothing: their contracts are
 //! examples of the definitions.
 ghost use Rattle.std.specs.Prelude.{◌≡◌, [], ◌∷◌, true, false, codes, pos, neg_ℤ, Some, None, map};
-ghost use Rattle.sexpr.specs.declared.causes.Cause.TheVariants.{OpenList, UnknownCommand, BadCommand, UnknownName, Repeated, SortMismatch, LeftOut, WideNumber, NoStep, BadAnchor};
+ghost use Rattle.sexpr.specs.declared.causes.Cause.TheVariants.{OpenList, UnknownCommand, BadCommand, UnknownName, Repeated, SortMismatch, LeftOut};
+ghost use Rattle.sexpr.specs.declared.causes.Cause.TheVariants.{WideNumber, NoStep, BadAnchor};
 ghost use Rattle.term_model.specs.declared.symbols.Op.TheVariants as Op;
 ghost use Rattle.term_model.specs.declared.symbols.Sort.TheVariants as Sort;
 ghost use Rattle.term_model.specs.Terms.{numeral, call, operation, no_terms, not_of};
@@ -47,6 +48,17 @@ pub fn variables_leave_with_their_scope()
     ensures other_sort { first_fault_behind [] (codes "(anchor :step t :args ((:= (x Int) true)))") ≡ fault SortMismatch 23 }
 {}
 
+/// The form of an anchor goes by places: what lacks something is faulty at its bracket, and what stands in another's place there.
+pub fn anchors_are_judged_by_places()
+    ensures one_item { first_fault_behind [] (codes "(anchor :step t1 :args ((5)))") ≡ fault BadCommand 24 }
+    ensures other_head { first_fault_behind [] (codes "(anchor :step t1 :args ((5 6)))") ≡ fault BadCommand 25 }
+    ensures out_of_place { first_fault_behind [] (codes "(anchor :step t (x) :args)") ≡ fault BadCommand 16 }
+    ensures again { first_fault_behind [] (codes "(anchor :step t :args () :args)") ≡ fault BadCommand 25 }
+    ensures no_step { first_fault_behind [] (codes "(anchor i :step)") ≡ fault BadCommand 8 }
+    ensures arguments_first { first_fault_behind [] (codes "(anchor :args () :step t :args)") ≡ fault BadCommand 8 }
+    ensures no_list { first_fault_behind [] (codes "(anchor i t :args)") ≡ fault BadCommand 0 }
+{}
+
 /// What texts stand for.
 pub fn texts_stand_for_proofs()
     ensures quoted { proof_behind (codes "(declare-fun p () Bool)") (codes "(assume |h| |p|)")
@@ -55,9 +67,13 @@ pub fn texts_stand_for_proofs()
         ≡ Some (with_assume (with_assume no_items (codes "h") (operation Op.True no_terms)) (codes "g") (not_of (operation Op.True no_terms))) }
     ensures steps { proof_behind [] (codes "(assume h true)(step t (cl true false) :rule weakening :premises (h))")
         ≡ Some (with_step (with_assume no_items (codes "h") (operation Op.True no_terms))
-        (record (plain_step (codes "t") Rule.Weakening (codes "weakening")) { clause = operation Op.True no_terms ∷ operation Op.False no_terms ∷ []; premises = 0 ∷ [] })) }
+        (record (plain_step (codes "t") Rule.Weakening (codes "weakening")) {
+          clause = operation Op.True no_terms ∷ operation Op.False no_terms ∷ [];
+          premises = 0 ∷ [];
+        })) }
     ensures subproof { proof_behind [] (codes "(anchor :step t :args ((:= x 1)))(assume h true)(step t (cl) :rule foo :discharge (h))")
-        ≡ Some (with_subproof no_items ((record { name = codes "x"; sort = Sort.Int }, numeral 1) ∷ []) (with_assume no_items (codes "h") (operation Op.True no_terms))
+        ≡ Some (with_subproof no_items ((record { name = codes "x"; sort = Sort.Int }, numeral 1) ∷ [])
+        (with_assume no_items (codes "h") (operation Op.True no_terms))
         (record (plain_step (codes "t") Rule.Unknown (codes "foo")) { discharged = 0 ∷ [] })) }
 {}
 
@@ -70,9 +86,11 @@ pub fn arguments_are_read_by_rules()
     ensures no_coefficient { proof_behind [] (codes "(step t (cl) :rule la_generic :args (1 x))")
         ≡ Some (with_step no_items (plain_step (codes "t") Rule.LaGeneric (codes "la_generic"))) }
     ensures other_rule { first_fault_behind [] (codes "(step t (cl) :args (1 (/ 170141183460469231731687303715884105727 0.1)) :rule bind)") ≡ fault LeftOut 77 }
-    ensures wide { first_fault_behind [] (codes "(step t (cl) :rule la_generic :args (x (/ 170141183460469231731687303715884105727 0.1)))") ≡ fault WideNumber 39 }
+    ensures wide { first_fault_behind [] (codes "(step t (cl) :rule la_generic :args (x (/ 170141183460469231731687303715884105727 0.1)))") ≡ fault
+        WideNumber 39 }
     ensures pivots { strict [] (codes "(step t (cl) :rule resolution :args (true false))")
-        ≡ Some (with_step no_items (record (plain_step (codes "t") Rule.Resolution (codes "resolution")) { pivots = (operation Op.True no_terms, false) ∷ [] })) }
+        ≡ Some (with_step no_items (record
+        (plain_step (codes "t") Rule.Resolution (codes "resolution")) { pivots = (operation Op.True no_terms, false) ∷ [] })) }
     ensures unjudged { proof_behind [] (codes "(step t (cl) :rule resolution :args (zz (! zz)))")
         ≡ Some (with_step no_items (plain_step (codes "t") Rule.Resolution (codes "resolution"))) }
     ensures in_arguments { first_fault_behind [] (codes "(step t (cl) :rule hole :args ((f (! true :named n))))(assume h n)") ≡ None }

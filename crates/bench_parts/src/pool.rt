@@ -26,7 +26,7 @@ impl From<PoolFull> for Stop {
     }
 }
 
-/// The sum of the numbers of all references that the case was answered, modulo 2^64.
+/// The sum of the numbers of all references that the case returned, modulo 2^64.
 pub fn run(alloc: Global, case: &str, bits: &str, count: &str) -> Result<u64, Stop> {
     let bits = bits.parse::<u32>().unwrap_or(0);
     let count = count.parse::<u32>().unwrap_or(u32::MAX);

@@ -21,7 +21,7 @@ struct Leaves {
     variable: u32,
 }
 
-/// How many cells the term of so many applications has, or the number of the reference that the case was answered.
+/// How many cells the term of so many applications has, or the number of the reference that the case returned.
 pub fn run(alloc: Global, case: &str, bits: &str, count: &str) -> Result<u64, Stop> {
     let bits = bits.parse::<u32>().unwrap_or(0);
     let count = count.parse::<u32>().unwrap_or(u32::MAX);

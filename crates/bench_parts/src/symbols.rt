@@ -29,7 +29,7 @@ impl From<NameFault> for Stop {
 // How many leaves a table may have before a call that adds one.
 const LIMIT: u32 = 1 << 30;
 
-/// The sum of the leaves that the case was answered, modulo 2^64.
+/// The sum of the leaves that the case returned, modulo 2^64.
 pub fn run(alloc: Global, case: &str, count: &str) -> Result<u64, Stop> {
     let count = count.parse::<u32>().unwrap_or(u32::MAX);
     if count > (1 << 24) {

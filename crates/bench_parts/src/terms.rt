@@ -74,7 +74,7 @@ struct Heads {
     quaternary: u32,
 }
 
-/// The sum of the numbers of all references that the case was answered, modulo 2^64.
+/// The sum of the numbers of all references that the case returned, modulo 2^64.
 pub fn run(alloc: Global, case: &str, bits: &str, count: &str) -> Result<u64, Stop> {
     let bits = bits.parse::<u32>().unwrap_or(0);
     let count = count.parse::<u32>().unwrap_or(u32::MAX);
@@ -138,7 +138,7 @@ fn sum_of_case(
     }
 }
 
-// Declares a function, and answers its leaf.
+// Declares a function, and returns its leaf.
 #[tactic(auto, using(crate::proofs::TermLemmas::declared_head, crate::proofs::TermLemmas::keeps_heads))]
 pub(crate) fn declare(symbols: &mut Symbols, name: &[u8], args: &[Sort]) -> Result<u32, Stop>
     ensures head { IfOk result (IsDeclaredLeaf symbols.new) }

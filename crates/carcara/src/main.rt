@@ -1,6 +1,9 @@
 //! The program `carcara`: the top call on the real files and the standard output.
 #![tactic(auto)]
 
+ghost use Rattle.std.specs.Prelude.{◌≡◌, IfOk, IfErr};
+ghost use Rattle.std.specs.Process.{exit_status};
+
 use carcara_cli::carcara;
 use file_ports::{OpenGate, RealFolder, RealSink};
 use std::alloc::AllocError;
@@ -12,11 +15,20 @@ mod pool_tests;
 #[cfg(test)]
 mod resolution_tests;
 
-/// The status of want of memory.
+/// The status of out of memory.
 const NO_MEMORY: u8 = 7;
 
 fn main(rt: HostRuntime) -> ExitCode {
-    ExitCode::from(run(&rt).unwrap_or(NO_MEMORY))
+    ended(run(&rt))
+}
+
+/// How the program ends: with the status that the top call returned, or with that of out of memory where the top call was not
+/// made.
+fn ended(found: Result<u8, AllocError>) -> ExitCode
+    ensures told { IfOk found (λ status. exit_status result ≡ status) }
+    ensures no_memory { IfErr found (λ _. exit_status result ≡ 7) }
+{
+    ExitCode::from(found.unwrap_or(NO_MEMORY))
 }
 
 /// Runs the top call on the words of the command line.

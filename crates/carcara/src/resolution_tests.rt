@@ -1,4 +1,4 @@
-//! That `propagate` answers with ample memory: a trail for a step whose clause follows, and none for one whose clause doesn't.
+//! That `propagate` returns with ample memory: a trail for a step whose clause follows, and none for one whose clause doesn't.
 ghost use Rattle.std.specs.Prelude.{◌≤◌, ◌+◌, ◌^◌, length};
 ghost use Rattle.problem_text.specs.Scripts.{Script};
 ghost use Rattle.term_reader.specs.ProblemViews.{IsNewTable, IsProblemOf};
@@ -42,7 +42,7 @@ const FLAGS: Flags = Flags {
     ignore_unknown: false,
 };
 
-// What `propagate` answers for the command at an index of a proof's text behind a problem. None where it finds no memory,
+// What `propagate` returns for the command at an index of a proof's text behind a problem. None where it is out of memory,
 // where the text is refused and where it has no such command.
 fn answer_behind(
     alloc: Global,
@@ -93,7 +93,7 @@ fn answer_with(
     found
 }
 
-// What `propagate` answers for the command at an index of the proof, in a pool with ample room.
+// What `propagate` returns for the command at an index of the proof, in a pool with ample room.
 fn answer(alloc: Global, i: u32) -> Option<Option<Trail>> {
     if PROBLEM.len() > 268_435_456 || PROOF.len() > 268_435_456 {
         return None;

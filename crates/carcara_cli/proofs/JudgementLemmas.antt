@@ -7,8 +7,6 @@ use Rattle.term_pool.specs.Views.{TermsView}
 use Rattle.rule_model.specs.declared.statuses.Status.{Status}
 use Rattle.rule_model.specs.declared.statuses.Verdict.{Verdict}
 use Rattle.rule_model.specs.Proofs.{ProofItems}
-use Rattle.problem_text.specs.Problems.{StandsForProblem}
-use Rattle.problem_text.specs.Scripts.{Script}
 use Rattle.file_ports.specs.declared.whole.ReadStop.{ReadStop}
 use Rattle.file_ports.specs.declared.whole.ReadStop.TheVariants as stops
 use Rattle.file_ports.specs.Faults.{HasRisen}
@@ -24,7 +22,7 @@ use Rattle.carcara_cli.specs.Holes.{holes_from}
 use Rattle.carcara_cli.specs.Judgement.{IsCheckedAs, IsJudgement}
 use Rattle.carcara_cli.specs.Judging.{Corresponds, IsJudgedProof, IsReadProof}
 use Rattle.carcara_cli.specs.Printed.{status_of}
-use Rattle.carcara_cli.specs.TopCall.{most_bytes, most_bits, IsWithinLimit, IsTooLong, IsJudgedIfTold, IsJudgedOfFiles, IsAnswerTo, IsUnsatisfiableIfTold, ShowsUnsatisfiable}
+use Rattle.carcara_cli.specs.TopCall.{most_bytes, IsTooLong, IsJudgedOfFiles, IsAnswerTo, IsShownUnsatisfiable, ShowsUnsatisfiable}
 use Rattle.carcara_cli.specs.Answering.{IsUnread}
 use Rattle.carcara_cli.proofs.VerdictLemmas.{verdict_stands}
 
@@ -37,7 +35,7 @@ holes_stand refs proof s v same i (Status.Faulty cause ∷ statuses) = holes_sta
 holes_stand refs proof s v same i (Status.Wide ∷ statuses) = holes_stand refs proof s v same (suc i) statuses
 
 module _ (problem : List ℕ) (options : Options) (text : List ℕ) (bits : ℕ) (s : Table) (v : TermsView) (asserted : List ℕ) (refs : ProofItems ℕ ℕ)
-    (both : IsReadProof problem options.replaces_lets text s v asserted refs) (same : Corresponds s v refs both.read.proof) where
+    (both : IsReadProof problem options text s v asserted refs) (same : Corresponds s v refs both.read.proof) where
   checked_as : (j : Judgement) (h : IsJudgedProof (flags_of options) s v asserted refs j) (of : Verdict) → h.of ≡ of → IsCheckedAs problem options text of
   checked_as j h of e = record {
     script = both.script;
@@ -61,56 +59,63 @@ module _ (problem : List ℕ) (options : Options) (text : List ℕ) (bits : ℕ)
   judged_proof (RefusedProof r) h = absurd h.named
   judged_proof PoolFull h = absurd h.named
 
--- what was read of a file that is within the limit is all that is told
-pub within_told : (told : Option (List ℕ)) (bytes : List ℕ) → AreTold told bytes → length bytes ≤ most_bytes → IsWithinLimit told
-within_told None bytes is within = tt
-within_told (Some told) bytes is within = rw is at within
-
-if_told : (options : Options) (x y : Option (List ℕ)) (problem proof : List ℕ) (j : Judgement) → AreTold x problem → AreTold y proof → IsJudgement problem options proof most_bits j → IsJudgedIfTold options x y j
-if_told options None y problem proof j told told' h = tt
-if_told options (Some t) None problem proof j told told' h = tt
-if_told options (Some t) (Some u) problem proof j told told' h = rw (told, told') at h
-
-pub judged_of_files : (options : Options) (x y : Option (List ℕ)) (problem proof : List ℕ) (j : Judgement)
+pub judged_of_files : (bits : ℕ) (options : Options) (x y : Option (List ℕ)) (problem proof : List ℕ) (j : Judgement)
     → AreTold x problem → AreTold y proof → length problem ≤ most_bytes → length proof ≤ most_bytes
-    → IsJudgement problem options proof most_bits j → IsJudgedOfFiles options x y j
-judged_of_files options x y problem proof j told told' within within' h = record {
-  problem_within = within_told x problem told within;
-  proof_within = within_told y proof told' within';
-  judged = if_told options x y problem proof j told told' h;
+    → IsJudgement problem options proof bits j → IsJudgedOfFiles bits options x y j
+judged_of_files bits options x y problem proof j told told' within within' h = record {
+  problem_text = problem;
+  proof_text = proof;
+  problem_told = told;
+  proof_told = told';
+  problem_within = within;
+  proof_within = within';
+  judged = h;
 }
 
-pub answer_is : (content : List ℕ → Option (List ℕ)) (before after : ℕ) (p : Asked) (asked : Option Asked) (j : Judgement)
-    → Some p ≡ asked → IsJudgedOfFiles p.options (content p.problem) (content p.proof) j → IsAnswerTo content before after asked (Judged j)
-answer_is content before after p asked j e h = rw (← e) h
+pub answer_is : (bits : ℕ) (content : List ℕ → Option (List ℕ)) (before after : ℕ) (p : Asked) (asked : Option Asked) (j : Judgement)
+    → Some p ≡ asked → IsJudgedOfFiles bits p.options (content p.problem) (content p.proof) j → IsAnswerTo bits content before after asked (Judged j)
+answer_is bits content before after p asked j e h = rw (← e) h
 
 -- the answer where a file was not read
-pub unread_is : (content : List ℕ → Option (List ℕ)) (before after : ℕ) (p : Asked) (asked : Option Asked) (stop : ReadStop) (a : Answer)
+pub unread_is : (bits : ℕ) (content : List ℕ → Option (List ℕ)) (before after : ℕ) (p : Asked) (asked : Option Asked) (stop : ReadStop) (a : Answer)
     → Some p ≡ asked → (stop ≡ stops.TooLong → IsTooLong (content p.problem) (content p.proof)) → (stop ≡ stops.Fault → HasRisen before after)
-    → IsUnread stop a → IsAnswerTo content before after asked a
-unread_is content before after p asked stops.Fault a e too_long fault h = rw (← e, h) (fault refl)
-unread_is content before after p asked stops.TooLong a e too_long fault h = rw (← e, h) (too_long refl)
-unread_is content before after p asked stops.Memory a e too_long fault h = absurd h
+    → IsUnread stop a → IsAnswerTo bits content before after asked a
+unread_is bits content before after p asked stops.Fault a e too_long fault h = rw (← e, h) (fault refl)
+unread_is bits content before after p asked stops.TooLong a e too_long fault h = rw (← e, h) (too_long refl)
+unread_is bits content before after p asked stops.Memory a e too_long fault h = absurd h
 
-module _ (sound : (problem : List ℕ) (options : Options) (proof : List ℕ) → IsCheckedAs problem options proof Verdict.Valid → (sc : Script) × StandsForProblem problem options.replaces_lets sc × Unsatisfiable sc.assertions) where
-  valid_told : (options : Options) (x y : Option (List ℕ)) → IsJudgedIfTold options x y Valid → IsUnsatisfiableIfTold options.replaces_lets x y
-  valid_told options None y h = tt
-  valid_told options (Some problem) None h = tt
-  valid_told options (Some problem) (Some proof) h = sound problem options proof h
+abbrev pub AreSound : Type 0
+AreSound =
+    (problem : List ℕ) (options : Options) (proof : List ℕ) (checked : IsCheckedAs problem options proof Verdict.Valid)
+    → Unsatisfiable checked.script.assertions
 
-  valid_shows_told : (options : Options) (x y : Option (List ℕ)) (j : Judgement) → IsJudgedIfTold options x y j → status_of (Judged j) ≡ 0 → IsUnsatisfiableIfTold options.replaces_lets x y
-  valid_shows_told options x y Valid h e = valid_told options x y h
-  valid_shows_told options x y NoEmptyClause h e = absurd (omega (arith, e))
-  valid_shows_told options x y (Holey holes) h e = absurd (omega (arith, e))
-  valid_shows_told options x y (Faulty id cause) h e = absurd (omega (arith, e))
-  valid_shows_told options x y (TooWide id) h e = absurd (omega (arith, e))
-  valid_shows_told options x y (RefusedProblem r) h e = absurd (omega (arith, e))
-  valid_shows_told options x y (RefusedProof r) h e = absurd (omega (arith, e))
-  valid_shows_told options x y PoolFull h e = absurd (omega (arith, e))
+module _ (sound : AreSound) where
+  valid_told : (bits : ℕ) (options : Options) (x y : Option (List ℕ)) → IsJudgedOfFiles bits options x y Valid → IsShownUnsatisfiable options x y
+  valid_told bits options x y h = record {
+    problem_text = h.problem_text;
+    proof_text = h.proof_text;
+    problem_told = h.problem_told;
+    proof_told = h.proof_told;
+    script = h.judged.script;
+    stands = h.judged.problem_text;
+    unsatisfiable = sound h.problem_text options h.proof_text h.judged;
+  }
 
-  pub valid_shows : (content : List ℕ → Option (List ℕ)) (before after : ℕ) (asked : Option Asked) (a : Answer) → IsAnswerTo content before after asked a → status_of a ≡ 0 → ShowsUnsatisfiable content asked
-  valid_shows content before after None (Judged j) h e = absurd h
-  valid_shows content before after (Some p) (Judged j) h e = valid_shows_told p.options (content p.problem) (content p.proof) j h.judged e
-  valid_shows content before after asked Usage h e = absurd (omega (arith, e))
-  valid_shows content before after asked ReadFault h e = absurd (omega (arith, e))
-  valid_shows content before after asked TooLong h e = absurd (omega (arith, e))
+  valid_shows_told : (bits : ℕ) (options : Options) (x y : Option (List ℕ)) (j : Judgement) → IsJudgedOfFiles bits options x y j → status_of (Judged j) ≡ 0
+      → IsShownUnsatisfiable options x y
+  valid_shows_told bits options x y Valid h e = valid_told bits options x y h
+  valid_shows_told bits options x y NoEmptyClause h e = absurd (omega (arith, e))
+  valid_shows_told bits options x y (Holey holes) h e = absurd (omega (arith, e))
+  valid_shows_told bits options x y (Faulty id cause) h e = absurd (omega (arith, e))
+  valid_shows_told bits options x y (TooWide id) h e = absurd (omega (arith, e))
+  valid_shows_told bits options x y (RefusedProblem r) h e = absurd (omega (arith, e))
+  valid_shows_told bits options x y (RefusedProof r) h e = absurd (omega (arith, e))
+  valid_shows_told bits options x y PoolFull h e = absurd (omega (arith, e))
+
+  pub valid_shows : (bits : ℕ) (content : List ℕ → Option (List ℕ)) (before after : ℕ) (asked : Option Asked) (a : Answer)
+      → IsAnswerTo bits content before after asked a → status_of a ≡ 0 → ShowsUnsatisfiable content asked
+  valid_shows bits content before after None a h e = absurd (omega (arith, rw h at e))
+  valid_shows bits content before after (Some p) (Judged j) h e = valid_shows_told bits p.options (content p.problem) (content p.proof) j h e
+  valid_shows bits content before after (Some p) Usage h e = absurd (omega (arith, e))
+  valid_shows bits content before after (Some p) ReadFault h e = absurd (omega (arith, e))
+  valid_shows bits content before after (Some p) TooLong h e = absurd (omega (arith, e))

@@ -8,3 +8,4 @@ pub mod ScopedTerms
 pub mod ScopedProofs
 pub mod TruthClauses
 mod OneAnswer
+mod SomeJudgement

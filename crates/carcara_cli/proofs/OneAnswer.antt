@@ -1,5 +1,5 @@
 -- The words and the files define one answer.
-use Rattle.std.proofs.Common.{◌≡◌, ◌≢◌, ◌⊎◌, inl, inr, ◌≤◌, ◌<◌, ℕ, suc, List, [], ◌∷◌, ◌++◌, Bool, map, length, slice_get, Option, Some, None, refl, sym, ◌∙◌, ap, subst, arith}
+use Rattle.std.proofs.Common.{◌≡◌, ◌≢◌, inl, inr, ◌≤◌, ℕ, suc, List, [], ◌∷◌, ◌++◌, Bool, map, length, slice_get, Option, Some, None, refl, sym, ◌∙◌, ap, subst, arith}
 use Rattle.std.specs.Prelude.{codes}
 use Rattle.std.specs.Io.KnownBytes.{Appends}
 use Rattle.std.specs.List.{flat_map}
@@ -23,12 +23,12 @@ use Rattle.carcara_cli.specs.declared.answer.Answer.TheVariants.{Usage, ReadFaul
 use Rattle.carcara_cli.specs.declared.judgement.Hole as code
 use Rattle.carcara_cli.specs.declared.judgement.Judgement.{Judgement}
 use Rattle.carcara_cli.specs.declared.judgement.Judgement.TheVariants.{Valid, Holey, NoEmptyClause, Faulty, TooWide, RefusedProblem, RefusedProof, PoolFull}
-use Rattle.carcara_cli.specs.Exactness.{IsDefinedJudgement, IsDefinedOfTexts, IsDefinedOfFiles, IsDefinedAnswer, IsExact, SaySame}
+use Rattle.carcara_cli.specs.Exactness.{IsDefinedAnswer, IsExact, SaySame}
 use Rattle.carcara_cli.specs.Holes.{Hole, holes_from, told_hole}
 use Rattle.carcara_cli.specs.Judgement.{IsCheckedAs, IsJudgement}
-use Rattle.carcara_cli.specs.Printed.{line_end, text_of_step_cause, step_text, hole_line, refusal_text, text_of_judgement, status_of_judgement, status_of, text_of}
+use Rattle.carcara_cli.specs.Printed.{line_end, text_of_step_cause, step_text, hole_line, refusal_text, text_of_judgement, status_of_judgement, status_of}
 use Rattle.carcara_cli.specs.Reading.{flags_of, settings_of}
-use Rattle.carcara_cli.specs.TopCall.{most_bytes, most_bits, IsTooLong, IsJudgedOfFiles, IsAnswerTo, IsPrinted}
+use Rattle.carcara_cli.specs.TopCall.{most_bytes, IsTooLong, IsJudgedOfFiles, IsAnswerOf, IsAnswerTo, IsPrinted}
 
 same_lists : (ss zs : List Status) → length ss ≡ length zs → ((i : ℕ) (s z : Status) → slice_get ss i ≡ Some s → slice_get zs i ≡ Some z → s ≡ z) → ss ≡ zs
 same_lists [] [] e h = refl
@@ -61,6 +61,14 @@ verdict_status Verdict.NoEmpty = 1
 verdict_status (Verdict.InvalidAt i cause) = 1
 verdict_status (Verdict.Unknown i) = 4
 
+-- where no fault rose, both files were read
+read_both : (bits : ℕ) (content : List ℕ → Option (List ℕ)) (p : Asked) (a : Answer) → IsAnswerTo bits content 0 0 (Some p) a
+    → IsAnswerOf bits p.options (content p.problem) (content p.proof) a
+read_both bits content p Usage h = h
+read_both bits content p ReadFault h = absurd (omega (arith, h))
+read_both bits content p TooLong h = h
+read_both bits content p (Judged j) h = h
+
 module _
     (one_script : (source : List ℕ) (replaces : Bool) (s t : Script) → StandsForProblem source replaces s → StandsForProblem source replaces t → s ≡ t)
     (one_fault : (source : List ℕ) (replaces : Bool) (r q : Refusal) → IsFirstFault source replaces r → IsFirstFault source replaces q → r ≡ q)
@@ -78,8 +86,8 @@ module _
 
       same_commands : a.commands ≡ b.commands
       same_commands =
-          (one_proof proof (settings_of options.replaces_lets) b.script a.commands b.commands a.after b.after
-          (subst (λ s. StandsForProof proof (settings_of options.replaces_lets) s a.commands a.after) same_script a.proof_text) b.proof_text).0
+          (one_proof proof (settings_of options) b.script a.commands b.commands a.after b.after
+          (subst (λ s. StandsForProof proof (settings_of options) s a.commands a.after) same_script a.proof_text) b.proof_text).0
 
       moved : AreStatuses (checking (flags_of options) b.script.assertions) b.commands a.statuses
       moved =
@@ -105,7 +113,7 @@ module _
     data ComesTo (status : ℕ) (text : List ℕ) : Type 0 where
       by_verdict : (v : Verdict) (a : IsCheckedAs problem options proof v) → status ≡ verdict_status v → text ≡ verdict_text a.commands a.statuses v → ComesTo status text
       by_problem : (r : Refusal) → IsFirstFault problem options.replaces_lets r → status ≡ 3 → text ≡ refusal_text (codes "problem ") r → ComesTo status text
-      by_proof : (sc : Script) (r : Refusal) → StandsForProblem problem options.replaces_lets sc → IsFirstProofFault proof (settings_of options.replaces_lets) sc r →
+      by_proof : (sc : Script) (r : Refusal) → StandsForProblem problem options.replaces_lets sc → IsFirstProofFault proof (settings_of options) sc r →
           status ≡ 3 → text ≡ refusal_text (codes "proof ") r → ComesTo status text
 
     comes : (bits : ℕ) (j : Judgement) → IsJudgement problem options proof bits j → j ≢ PoolFull → ComesTo (status_of_judgement j) (text_of_judgement j)
@@ -122,10 +130,10 @@ module _
     comes bits (RefusedProof r) h room = by_proof h.0 r h.1 h.2 refl refl
     comes bits PoolFull h room = absurd (room refl)
 
-    no_proof_fault : (v : Verdict) (a : IsCheckedAs problem options proof v) (sc : Script) (r : Refusal) → StandsForProblem problem options.replaces_lets sc → IsFirstProofFault proof (settings_of options.replaces_lets) sc r → ⊥
+    no_proof_fault : (v : Verdict) (a : IsCheckedAs problem options proof v) (sc : Script) (r : Refusal) → StandsForProblem problem options.replaces_lets sc → IsFirstProofFault proof (settings_of options) sc r → ⊥
     no_proof_fault v a sc r stands h =
-        not_both_proof proof (settings_of options.replaces_lets) sc a.commands a.after r
-        (subst (λ s. StandsForProof proof (settings_of options.replaces_lets) s a.commands a.after) (one_script problem options.replaces_lets a.script sc a.problem_text stands) a.proof_text) h
+        not_both_proof proof (settings_of options) sc a.commands a.after r
+        (subst (λ s. StandsForProof proof (settings_of options) s a.commands a.after) (one_script problem options.replaces_lets a.script sc a.problem_text stands) a.proof_text) h
 
     one_coming : (m n : ℕ) (x y : List ℕ) → ComesTo m x → ComesTo n y → (m ≡ n) × (x ≡ y)
     one_coming m n x y (by_verdict v a e f) (by_verdict w b g h) =
@@ -142,8 +150,8 @@ module _
       e ∙ sym g,
       f
           ∙ (ap (refusal_text (codes "proof "))
-          (one_proof_fault proof (settings_of options.replaces_lets) sd r q
-          (subst (λ s. IsFirstProofFault proof (settings_of options.replaces_lets) s r) (one_script problem options.replaces_lets sc sd stands stands') fault) other)
+          (one_proof_fault proof (settings_of options) sd r q
+          (subst (λ s. IsFirstProofFault proof (settings_of options) s r) (one_script problem options.replaces_lets sc sd stands stands') fault) other)
           ∙ sym h),
     )
 
@@ -151,81 +159,66 @@ module _
         → (status_of_judgement j ≡ status_of_judgement k) × (text_of_judgement j ≡ text_of_judgement k)
     one_judgement bits j k h l room room' = one_coming _ _ _ _ (comes bits j h room) (comes bits k l room')
 
-    not_too_long : (j : Judgement) → IsDefinedJudgement problem proof options j → IsTooLong (Some problem) (Some proof) → ⊥
-    not_too_long j h (inl longer) = omega (arith, h.problem_within, longer)
-    not_too_long j h (inr both) = omega (arith, h.proof_within, both.1)
+  -- the judgement of two files whose bytes are told
+  module _ (bits : ℕ) (options : Options) (problem proof : List ℕ) where
+    of_told : (j : Judgement) → IsJudgedOfFiles bits options (Some problem) (Some proof) j → IsJudgement problem options proof bits j
+    of_told j h = rw (h.problem_told, h.proof_told) at h.judged
 
-    one_of_texts : (a b : Answer) → IsDefinedOfTexts problem proof options a → IsDefinedOfTexts problem proof options b → SaySame a b
-    one_of_texts TooLong TooLong h k = record { status = refl; text = refl }
-    one_of_texts TooLong (Judged j) h k = absurd (not_too_long j k h)
-    one_of_texts (Judged j) TooLong h k = absurd (not_too_long j h k)
-    one_of_texts (Judged i) (Judged j) h k =
-        let both = one_judgement most_bits i j h.judged k.judged h.has_room k.has_room in record { status = both.0; text = both.1 }
-    one_of_texts Usage b h k = absurd h
-    one_of_texts ReadFault b h k = absurd h
-    one_of_texts TooLong Usage h k = absurd k
-    one_of_texts TooLong ReadFault h k = absurd k
-    one_of_texts (Judged j) Usage h k = absurd k
-    one_of_texts (Judged j) ReadFault h k = absurd k
+    not_too_long : (j : Judgement) → IsJudgedOfFiles bits options (Some problem) (Some proof) j → IsTooLong (Some problem) (Some proof) → ⊥
+    not_too_long j h (inl longer) = let within : length problem ≤ most_bytes = rw h.problem_told at h.problem_within in omega (arith, within, longer)
+    not_too_long j h (inr both) = let within : length proof ≤ most_bytes = rw h.proof_told at h.proof_within in omega (arith, within, both.1)
 
-  some_is : (x y : List ℕ) → Some x ≡ Some y → x ≡ y
-  some_is x y e = cc
+    one_of_told : (a b : Answer) → IsAnswerOf bits options (Some problem) (Some proof) a → IsAnswerOf bits options (Some problem) (Some proof) b
+        → a ≢ Judged PoolFull → b ≢ Judged PoolFull → SaySame a b
+    one_of_told TooLong TooLong h k room room' = record { status = refl; text = refl }
+    one_of_told TooLong (Judged j) h k room room' = absurd (not_too_long j k h)
+    one_of_told (Judged j) TooLong h k room room' = absurd (not_too_long j h k)
+    one_of_told (Judged i) (Judged j) h k room room' =
+        let both = one_judgement problem options proof bits i j (of_told i h) (of_told j k) (λ e. room (ap Judged e)) (λ e. room' (ap Judged e)) in
+        record { status = both.0; text = both.1 }
+    one_of_told Usage b h k room room' = absurd h
+    one_of_told ReadFault b h k room room' = absurd h
+    one_of_told TooLong Usage h k room room' = absurd k
+    one_of_told TooLong ReadFault h k room room' = absurd k
+    one_of_told (Judged j) Usage h k room room' = absurd k
+    one_of_told (Judged j) ReadFault h k room room' = absurd k
 
-  same_files : (content : List ℕ → Option (List ℕ)) (p : Asked) (a : Answer) (h : IsDefinedOfFiles content p a) (b : Answer) (k : IsDefinedOfFiles content p b) → IsDefinedOfTexts k.problem k.proof p.options a
-  same_files content p a h b k =
-      subst (λ x. IsDefinedOfTexts k.problem x p.options a) (some_is h.proof k.proof (sym h.told_proof ∙ k.told_proof))
-      (subst (λ x. IsDefinedOfTexts x h.proof p.options a) (some_is h.problem k.problem (sym h.told_problem ∙ k.told_problem)) h.defined)
+  one_of_files : (bits : ℕ) (options : Options) (x y : Option (List ℕ)) (a b : Answer) → x ≢ None → y ≢ None
+      → IsAnswerOf bits options x y a → IsAnswerOf bits options x y b → a ≢ Judged PoolFull → b ≢ Judged PoolFull → SaySame a b
+  one_of_files bits options None y a b told told' h k room room' = absurd (told refl)
+  one_of_files bits options (Some problem) None a b told told' h k room room' = absurd (told' refl)
+  one_of_files bits options (Some problem) (Some proof) a b told told' h k room room' = one_of_told bits options problem proof a b h k room room'
 
   -- the words and the files define one answer, as far as it is printed
-  pub one_answer : (content : List ℕ → Option (List ℕ)) (asked : Option Asked) (a b : Answer) → IsDefinedAnswer content asked a → IsDefinedAnswer content asked b → SaySame a b
-  one_answer content None a b h k = rw (h, k) (record { status = refl; text = refl })
-  one_answer content (Some p) a b h k = one_of_texts k.problem p.options k.proof a b (same_files content p a h b k) k.defined
+  pub one_answer : (bits : ℕ) (content : List ℕ → Option (List ℕ)) (asked : Option Asked) (a b : Answer)
+      → IsDefinedAnswer bits content asked a → IsDefinedAnswer bits content asked b → SaySame a b
+  one_answer bits content None a b h k = rw (h.answers, k.answers) (record { status = refl; text = refl })
+  one_answer bits content (Some p) a b h k =
+      one_of_files bits p.options (content p.problem) (content p.proof) a b h.told.0 h.told.1
+      (read_both bits content p a h.answers) (read_both bits content p b k.answers) h.has_room k.has_room
 
 abbrev pub DefineOneAnswer : Type 0
-DefineOneAnswer = (content : List ℕ → Option (List ℕ)) (asked : Option Asked) (a b : Answer) → IsDefinedAnswer content asked a → IsDefinedAnswer content asked b → SaySame a b
+DefineOneAnswer =
+    (bits : ℕ) (content : List ℕ → Option (List ℕ)) (asked : Option Asked) (a b : Answer)
+    → IsDefinedAnswer bits content asked a → IsDefinedAnswer bits content asked b → SaySame a b
 
--- an answer that is given of told files, and no fault nor full pool, is defined
-given_of_texts : (problem proof : List ℕ) (options : Options) (j : Judgement) → IsJudgedOfFiles options (Some problem) (Some proof) j → j ≢ PoolFull → IsDefinedJudgement problem proof options j
-given_of_texts problem proof options j h room = record {
-  problem_within = h.problem_within;
-  proof_within = h.proof_within;
-  judged = h.judged;
-  has_room = room;
-}
+-- an answer but a read fault says nothing of the counts of faults
+no_fault_risen : (bits : ℕ) (content : List ℕ → Option (List ℕ)) (before after : ℕ) (asked : Option Asked) (a : Answer)
+    → IsAnswerTo bits content before after asked a → status_of a ≢ 5 → IsAnswerTo bits content 0 0 asked a
+no_fault_risen bits content before after None a h not_fault = h
+no_fault_risen bits content before after (Some p) Usage h not_fault = h
+no_fault_risen bits content before after (Some p) ReadFault h not_fault = absurd (not_fault refl)
+no_fault_risen bits content before after (Some p) TooLong h not_fault = h
+no_fault_risen bits content before after (Some p) (Judged j) h not_fault = h
 
-no_room : (j : Judgement) → status_of (Judged j) ≢ 8 → j ≢ PoolFull
-no_room j h e = h (rw e refl)
-
-given_is_defined : (content : List ℕ → Option (List ℕ)) (before after : ℕ) (asked : Option Asked) (a b : Answer)
-    → IsDefinedAnswer content asked a → IsAnswerTo content before after asked b → status_of b ≢ 5 → status_of b ≢ 8 → IsDefinedAnswer content asked b
-given_is_defined content before after None a Usage h k not_fault not_full = refl
-given_is_defined content before after None a ReadFault h k not_fault not_full = absurd k
-given_is_defined content before after None a TooLong h k not_fault not_full = absurd k
-given_is_defined content before after None a (Judged j) h k not_fault not_full = absurd k
-given_is_defined content before after (Some p) a Usage h k not_fault not_full = absurd k
-given_is_defined content before after (Some p) a ReadFault h k not_fault not_full = absurd (not_fault refl)
-given_is_defined content before after (Some p) a TooLong h k not_fault not_full = record {
-  problem = h.problem;
-  proof = h.proof;
-  told_problem = h.told_problem;
-  told_proof = h.told_proof;
-  defined = subst (λ x. IsTooLong (Some h.problem) x) h.told_proof (subst (λ x. IsTooLong x (content p.proof)) h.told_problem k);
-}
-given_is_defined content before after (Some p) a (Judged j) h k not_fault not_full = record {
-  problem = h.problem;
-  proof = h.proof;
-  told_problem = h.told_problem;
-  told_proof = h.told_proof;
-  defined =
-      given_of_texts h.problem h.proof p.options j
-      (subst (λ x. IsJudgedOfFiles p.options (Some h.problem) x j) h.told_proof (subst (λ x. IsJudgedOfFiles p.options x (content p.proof) j) h.told_problem k))
-      (no_room j not_full);
-}
-
-pub exact : DefineOneAnswer → (content : List ℕ → Option (List ℕ)) (before after : ℕ) (asked : Option Asked) (old new : Option (List ℕ)) (status : ℕ)
-    → IsPrinted (IsAnswerTo content before after asked) old new status → IsExact content asked old new status
-exact one content before after asked old new status printed a defined not_fault not_failed not_memory not_full =
+pub exact : DefineOneAnswer → (bits : ℕ) (content : List ℕ → Option (List ℕ)) (before after : ℕ) (asked : Option Asked) (old new : Option (List ℕ)) (status : ℕ)
+    → IsPrinted (IsAnswerTo bits content before after asked) old new status → IsExact bits content asked old new status
+exact one bits content before after asked old new status printed a defined not_fault not_failed not_memory not_full =
     let whole = printed.whole not_failed not_memory in
-    let same = one content asked whole.answer a
-    (given_is_defined content before after asked a whole.answer defined whole.may_answer (λ e. not_fault (whole.is_status ∙ e)) (λ e. not_full (whole.is_status ∙ e))) defined in
+    let given : IsDefinedAnswer bits content asked whole.answer = record {
+      told = defined.told;
+      answers = no_fault_risen bits content before after asked whole.answer whole.may_answer (λ e. not_fault (whole.is_status ∙ e));
+      has_room = λ e. not_full (whole.is_status ∙ ap status_of e);
+    } in
+    let same = one bits content asked whole.answer a given defined in
     (whole.is_status ∙ same.status, subst (Appends old new) same.text whole.printed)

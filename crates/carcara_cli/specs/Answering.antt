@@ -12,7 +12,7 @@ use Rattle.carcara_cli.specs.declared.judgement.Judgement.{Judgement}
 use Rattle.carcara_cli.specs.declared.judgement.Judgement.TheVariants.{Valid, Holey, NoEmptyClause, Faulty, TooWide}
 use Rattle.carcara_cli.specs.Holes.{holes_from, told_hole}
 
--- the answer where a file was not read, but for want of memory
+-- the answer where a file was not read, except when out of memory
 abbrev pub IsUnread : ReadStop → Answer → Type 0
 IsUnread stop.Fault a = a ≡ ReadFault
 IsUnread stop.TooLong a = a ≡ TooLong

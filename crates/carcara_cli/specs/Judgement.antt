@@ -1,5 +1,6 @@
 -- Public. What the texts of a problem and of a proof come to.
-use Rattle.std.specs.Prelude.{◌≡◌, ℕ, ◌^◌, List, map}
+use Rattle.std.specs.Prelude.{◌≡◌, ◌⊎◌, ℕ, ◌^◌, List, map}
+use Rattle.sexpr.specs.declared.causes.Refusal.{Refusal}
 use Rattle.term_model.specs.Terms.{Var, Term}
 use Rattle.rule_model.specs.declared.statuses.Status.{Status}
 use Rattle.rule_model.specs.declared.statuses.Verdict.{Verdict}
@@ -18,14 +19,14 @@ use Rattle.carcara_cli.specs.Cells.{HasMoreCells}
 use Rattle.carcara_cli.specs.Holes.{holes_from, told_hole}
 
 -- What the two texts stand for, the status of each command of the proof, and the verdict that the statuses come to, by the
--- options: lets are replaced, and steps by unknown rules are holes, where they ask for that.
+-- options: lets are replaced, conditions are strict, and steps by unknown rules are holes, where they ask for that.
 pub record IsCheckedAs (problem : List ℕ) (options : Options) (proof : List ℕ) (v : Verdict) : Type 0 where
   pub script : Script
   pub commands : ProofItems Var Term
   pub after : Script
   pub statuses : List Status
   pub problem_text : StandsForProblem problem options.replaces_lets script
-  pub proof_text : StandsForProof proof (settings_of options.replaces_lets) script commands after
+  pub proof_text : StandsForProof proof (settings_of options) script commands after
   pub are : AreStatuses (checking (flags_of options) script.assertions) commands statuses
   pub verdict : IsVerdict statuses commands v
 
@@ -48,5 +49,12 @@ IsJudgement problem options proof bits (TooWide id) =
 IsJudgement problem options proof bits (RefusedProblem r) = IsFirstFault problem options.replaces_lets r
 IsJudgement problem options proof bits (RefusedProof r) =
     (script : Script) × StandsForProblem problem options.replaces_lets script
-    × IsFirstProofFault proof (settings_of options.replaces_lets) script r
-IsJudgement problem options proof bits PoolFull = HasMoreCells (NeedsRoom problem options.replaces_lets proof) (2 ^ bits)
+    × IsFirstProofFault proof (settings_of options) script r
+IsJudgement problem options proof bits PoolFull = HasMoreCells (NeedsRoom problem options proof) (2 ^ bits)
+
+-- The texts have a judgement: one of them is refused, or the proof has a verdict.
+abbrev pub HasJudgement : List ℕ → Options → List ℕ → Type 0
+HasJudgement problem options proof =
+    ((r : Refusal) × IsFirstFault problem options.replaces_lets r)
+    ⊎ (((script : Script) × (r : Refusal) × StandsForProblem problem options.replaces_lets script × IsFirstProofFault proof (settings_of options) script r)
+    ⊎ ((v : Verdict) × IsCheckedAs problem options proof v))

@@ -1,5 +1,5 @@
 -- Private. What the judgement of a proof that was read comes to.
-use Rattle.std.specs.Prelude.{◌≡◌, ℕ, List, Bool}
+use Rattle.std.specs.Prelude.{◌≡◌, ℕ, List}
 use Rattle.std.specs.List.{AllZip}
 use Rattle.sym_table.specs.Table.{Table}
 use Rattle.term_model.specs.Terms.{Var, Term}
@@ -14,17 +14,19 @@ use Rattle.problem_text.specs.Problems.{StandsForProblem}
 use Rattle.problem_text.specs.Scripts.{Script}
 use Rattle.alethe_reader.specs.Reading.{IsProofOf}
 use Rattle.term_reader.specs.declared.flags.Flags.{Flags}
+use Rattle.command_words.specs.declared.request.Options.{Options}
 use Rattle.step_check.specs.Statuses.{AreStatusesOf}
 use Rattle.carcara_cli.specs.declared.judgement.Judgement.{Judgement}
 use Rattle.carcara_cli.specs.Answering.{NamesIds}
 use Rattle.carcara_cli.specs.Reading.{settings_of}
 
 -- what was read of the two texts, in a table and a pool: the references of the assertions, and the proof over references
-pub record IsReadProof (problem : List ℕ) (replaces_lets : Bool) (text : List ℕ) (s : Table) (v : TermsView) (asserted : List ℕ) (refs : ProofItems ℕ ℕ) : Type 0 where
+pub record IsReadProof (problem : List ℕ) (options : Options) (text : List ℕ) (s : Table) (v : TermsView) (asserted : List ℕ) (refs : ProofItems ℕ ℕ)
+    : Type 0 where
   pub script : Script
-  pub problem_text : StandsForProblem problem replaces_lets script
+  pub problem_text : StandsForProblem problem options.replaces_lets script
   pub assertions : ReferToAll s v asserted script.assertions
-  pub read : IsProofOf text (settings_of replaces_lets) script s v refs
+  pub read : IsProofOf text (settings_of options) script s v refs
 
 -- the two have the same commands
 pub record Corresponds (s : Table) (v : TermsView) (refs : ProofItems ℕ ℕ) (proof : ProofItems Var Term) : Type 0 where

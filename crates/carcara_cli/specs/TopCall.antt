@@ -1,12 +1,12 @@
--- Public. What the top call answers, over what a folder tells of its files and what the command line asks for, and what
+-- Public. What the top call returns, over what a folder tells of its files and what the command line asks for, and what
 -- it prints.
-use Rattle.std.specs.Prelude.{◌≡◌, ◌≢◌, ◌⊎◌, ℕ, ◌≤◌, List, length, Bool, Option, None, Some, ⊤}
+use Rattle.std.specs.Prelude.{◌≡◌, ◌≢◌, ◌⊎◌, ℕ, ◌≤◌, List, length, Option, None, Some, ⊤}
 use Rattle.std.specs.Io.KnownBytes.{Appends}
 use Rattle.term_model.specs.Unsatisfiable.{Unsatisfiable}
 use Rattle.problem_text.specs.Problems.{StandsForProblem}
 use Rattle.problem_text.specs.Scripts.{Script}
 use Rattle.file_ports.specs.Faults.{HasRisen}
-use Rattle.file_ports.specs.Texts.{IsLongerThan, AppendsFront}
+use Rattle.file_ports.specs.Texts.{AreTold, IsLongerThan, AppendsFront}
 use Rattle.carcara_cli.specs.declared.judgement.Judgement.{Judgement}
 use Rattle.carcara_cli.specs.declared.answer.Answer.{Answer}
 use Rattle.carcara_cli.specs.declared.answer.Answer.TheVariants.{Usage, ReadFault, TooLong, Judged}
@@ -37,29 +37,29 @@ IsWithinLimit (Some bytes) = length bytes ≤ most_bytes
 abbrev pub IsTooLong : Option (List ℕ) → Option (List ℕ) → Type 0
 IsTooLong problem proof = IsLongerThan most_bytes problem ⊎ (IsWithinLimit problem × IsLongerThan most_bytes proof)
 
--- where both files are told, this is what their texts come to
-abbrev pub IsJudgedIfTold : Options → Option (List ℕ) → Option (List ℕ) → Judgement → Type 0
-IsJudgedIfTold options (Some problem) (Some proof) j = IsJudgement problem options proof most_bits j
-IsJudgedIfTold options (Some problem) None j = ⊤
-IsJudgedIfTold options None proof j = ⊤
+-- There are bytes of both files, those that are told where some are, and no more than a file may have. Their texts come to this
+-- judgement, where the largest pool has 2^bits places.
+pub record IsJudgedOfFiles (bits : ℕ) (options : Options) (problem proof : Option (List ℕ)) (j : Judgement) : Type 0 where
+  pub problem_text : List ℕ
+  pub proof_text : List ℕ
+  pub problem_told : AreTold problem problem_text
+  pub proof_told : AreTold proof proof_text
+  pub problem_within : length problem_text ≤ most_bytes
+  pub proof_within : length proof_text ≤ most_bytes
+  pub judged : IsJudgement problem_text options proof_text bits j
 
--- neither file is too long, and this is what their texts come to
-pub record IsJudgedOfFiles (options : Options) (problem proof : Option (List ℕ)) (j : Judgement) : Type 0 where
-  pub problem_within : IsWithinLimit problem
-  pub proof_within : IsWithinLimit proof
-  pub judged : IsJudgedIfTold options problem proof j
+-- the answer to a check of two files, by what is told of them, where each is read
+abbrev pub IsAnswerOf : ℕ → Options → Option (List ℕ) → Option (List ℕ) → Answer → Type 0
+IsAnswerOf bits options problem proof TooLong = IsTooLong problem proof
+IsAnswerOf bits options problem proof (Judged j) = IsJudgedOfFiles bits options problem proof j
+IsAnswerOf bits options problem proof _ = ⊥
 
 -- What an answer says: over what a folder tells of its files and its count of faults before and after, and over what
--- the words ask for.
-abbrev pub IsAnswerTo : (List ℕ → Option (List ℕ)) → ℕ → ℕ → Option Asked → Answer → Type 0
-IsAnswerTo content before after None Usage = ⊤
-IsAnswerTo content before after None ReadFault = ⊥
-IsAnswerTo content before after None TooLong = ⊥
-IsAnswerTo content before after None (Judged j) = ⊥
-IsAnswerTo content before after (Some p) Usage = ⊥
-IsAnswerTo content before after (Some p) ReadFault = HasRisen before after
-IsAnswerTo content before after (Some p) TooLong = IsTooLong (content p.problem) (content p.proof)
-IsAnswerTo content before after (Some p) (Judged j) = IsJudgedOfFiles p.options (content p.problem) (content p.proof) j
+-- the words ask for, where the largest pool has 2^bits places.
+abbrev pub IsAnswerTo : ℕ → (List ℕ → Option (List ℕ)) → ℕ → ℕ → Option Asked → Answer → Type 0
+IsAnswerTo bits content before after None a = a ≡ Usage
+IsAnswerTo bits content before after (Some p) ReadFault = HasRisen before after
+IsAnswerTo bits content before after (Some p) a = IsAnswerOf bits p.options (content p.problem) (content p.proof) a
 
 -- the whole text of an answer was printed, and the status is the answer's
 pub record PrintsWhole (MayAnswer : Answer → Type 0) (old new : Option (List ℕ)) (status : ℕ) : Type 0 where
@@ -68,25 +68,30 @@ pub record PrintsWhole (MayAnswer : Answer → Type 0) (old new : Option (List �
   pub is_status : status ≡ status_of answer
   pub printed : Appends old new (text_of answer)
 
--- a front of the text of an answer was printed
+-- a prefix of the text of an answer was printed
 pub record PrintsFront (MayAnswer : Answer → Type 0) (old new : Option (List ℕ)) : Type 0 where
   pub answer : Answer
   pub may_answer : MayAnswer answer
   pub printed : AppendsFront old new (text_of answer)
 
--- What was printed, by the status. After a failed write (6) it is a front of an answer, after want of memory (7) such a
--- front or nothing, and with any other status the whole text of an answer of that status.
+-- What was printed, by the status. After a failed write (6) it is a prefix of an answer, after out of memory (7) such a
+-- prefix or nothing, and with any other status the whole text of an answer of that status.
 pub record IsPrinted (MayAnswer : Answer → Type 0) (old new : Option (List ℕ)) (status : ℕ) : Type 0 where
   pub whole : status ≢ 6 → status ≢ 7 → PrintsWhole MayAnswer old new status
   pub write_fault : status ≡ 6 → PrintsFront MayAnswer old new
   pub memory : status ≡ 7 → PrintsFront MayAnswer old new ⊎ (new ≡ old)
 
--- where both files are told, the problem stands for assertions that no interpretation makes all true
-abbrev pub IsUnsatisfiableIfTold : Bool → Option (List ℕ) → Option (List ℕ) → Type 0
-IsUnsatisfiableIfTold replaces_lets (Some problem) (Some proof) = (sc : Script) × StandsForProblem problem replaces_lets sc × Unsatisfiable sc.assertions
-IsUnsatisfiableIfTold replaces_lets (Some problem) None = ⊤
-IsUnsatisfiableIfTold replaces_lets None proof = ⊤
+-- There are bytes of both files, those that are told where some are, and the problem's stand for a script whose assertions no
+-- interpretation makes all true.
+pub record IsShownUnsatisfiable (options : Options) (problem proof : Option (List ℕ)) : Type 0 where
+  pub problem_text : List ℕ
+  pub proof_text : List ℕ
+  pub problem_told : AreTold problem problem_text
+  pub proof_told : AreTold proof proof_text
+  pub script : Script
+  pub stands : StandsForProblem problem_text options.replaces_lets script
+  pub unsatisfiable : Unsatisfiable script.assertions
 
 abbrev pub ShowsUnsatisfiable : (List ℕ → Option (List ℕ)) → Option Asked → Type 0
 ShowsUnsatisfiable content None = ⊥
-ShowsUnsatisfiable content (Some p) = IsUnsatisfiableIfTold p.options.replaces_lets (content p.problem) (content p.proof)
+ShowsUnsatisfiable content (Some p) = IsShownUnsatisfiable p.options (content p.problem) (content p.proof)

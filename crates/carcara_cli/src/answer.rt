@@ -1,11 +1,11 @@
-//! What the checker answers, and how it is printed.
+//! What the checker returns, and how it is printed.
 ghost use Rattle.std.specs.Prelude.{◌≡◌, IfOk};
 ghost use Rattle.carcara_cli.specs.Printed.{status_of, text_of};
 
 use crate::judgement::{Judgement, status_of_judgement, text_of_judgement};
 use std::alloc::{AllocError, Global};
 
-/// What the checker answers.
+/// What the checker returns.
 #[derive(Debug, Drop)]
 pub enum Answer {
     /// The words of the command line spell no command.

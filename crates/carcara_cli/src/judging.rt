@@ -1,8 +1,8 @@
 //! The judgement of the two texts.
-ghost use Rattle.std.specs.Prelude.{◌≡◌, ◌≤◌, ◌+◌, ◌^◌, ℕ, [], length, false, IfErr, IfOk};
+ghost use Rattle.std.specs.Prelude.{◌≡◌, ◌≤◌, ◌+◌, ◌^◌, ℕ, [], length, IfErr, IfOk};
 ghost use Rattle.proof_store.specs.Checks.{StandForSome};
 ghost use Rattle.proof_store.specs.Meaning.{StandForItems};
-ghost use Rattle.proof_store.specs.declared.answers.RuleStop.TheVariants as RuleStop;
+ghost use Rattle.term_parts.specs.declared.answers.RuleStop.TheVariants as RuleStop;
 ghost use Rattle.sym_table.specs.Table.{Table};
 ghost use Rattle.term_model.specs.Terms.{Var, Term};
 ghost use Rattle.term_pool.specs.Views.{KeepsTerms, TermsView};
@@ -50,13 +50,13 @@ fn flags_of(options: Options) -> Flags
 {
     Flags {
         expand_lets: options.replaces_lets,
-        strict: false,
+        strict: options.is_strict,
         ignore_unknown: options.ignores_unknown_rules,
     }
 }
 
 /// The judgement of a proof that was read, behind a problem that was read. Refuses where the pool had no room for a cell that
-/// the check places, and for want of memory.
+/// the check places, and where it is out of memory.
 fn judge_commands(
     alloc: Global,
     flags: Flags,
@@ -65,7 +65,6 @@ fn judge_commands(
     symbols: &Symbols,
     terms: &mut Terms<'_>,
 ) -> Result<Judgement, RuleStop>
-    requires lax { flags.strict ≡ false }
     requires stand { StandForSome symbols.now terms.old proof.now }
     requires asserted { AreAsserted symbols.now terms.old problem.now.assertions }
     requires short { IsShort proof.now }
@@ -106,9 +105,9 @@ fn judge_read(
     mut terms: Terms<'_>,
 ) -> Result<Judgement, Memory>
     requires size { length texts.now.proof.now ≤ most_bytes }
-    requires read { IsReadProof texts.now.problem.now texts.now.options.replaces_lets texts.now.proof.now symbols.now terms problem.now.assertions proof.now }
+    requires read { IsReadProof texts.now.problem.now texts.now.options texts.now.proof.now symbols.now terms problem.now.assertions proof.now }
     requires shares { terms.pass.shares ≡ 65 }
-    requires holds { HoldsOnly symbols.now terms.pass (IsReadOf texts.now.problem.now texts.now.options.replaces_lets texts.now.proof.now) }
+    requires holds { HoldsOnly symbols.now terms.pass (IsReadOf texts.now.problem.now texts.now.options texts.now.proof.now) }
     ensures { (bits : ℕ) → terms.entry.pass.places ≡ 2 ^ bits → IfOk result (IsJudgement texts.now.problem.now texts.now.options texts.now.proof.now bits) }
 {
     proofs_are_short();
@@ -139,7 +138,7 @@ fn judge_proof(
     requires problem { IsReadProblem texts.now.problem.now texts.now.options.replaces_lets symbols.old terms problem.now }
     requires room { length symbols.old.leaves + length texts.now.proof.now ≤ 2 ^ 30 }
     requires shares { terms.pass.shares ≡ 65 }
-    requires holds { HoldsOnly symbols.old terms.pass (IsReadOf texts.now.problem.now texts.now.options.replaces_lets texts.now.proof.now) }
+    requires holds { HoldsOnly symbols.old terms.pass (IsReadOf texts.now.problem.now texts.now.options texts.now.proof.now) }
     ensures { (bits : ℕ) → terms.entry.pass.places ≡ 2 ^ bits → IfOk result (IsJudgement texts.now.problem.now texts.now.options texts.now.proof.now bits) }
 {
     problems_stay();
@@ -198,7 +197,7 @@ fn judge_into(alloc: Global, bits: u32, texts: &Texts<'_>) -> Result<Judgement, 
 /// into pools of at most 2^most_bits places, 12 to 26 bits: the top call hands in 26. Where a pool has no room for them, the
 /// texts are read again into one that is twice as large.
 ///
-/// The problem's text is read first: its refusal is answered whatever the proof's text is.
+/// The problem's text is read first: its refusal is returned whatever the proof's text is.
 pub fn judge(
     alloc: Global,
     problem: &[u8],

@@ -3,7 +3,7 @@
 //! - `top`: the two files, the answer and its printing.
 //! - `judging`: what the two texts come to, by the readers, the statuses of the commands and the verdict; `pools`: pools that
 //!   are large enough; `naming`: the commands that a verdict names.
-//! - `judgement`, `answer`: what is judged and answered, and how it is printed.
+//! - `judgement`, `answer`: what is judged and returned, and how it is printed.
 //! - `laws`: why `valid` can be trusted, and when a pool is full.
 #![tactic(auto)]
 
@@ -18,4 +18,4 @@ mod top;
 pub use judgement::{Hole, Judgement};
 pub use judging::judge;
 pub use laws::full_pools_have_many_cells;
-pub use top::carcara;
+pub use top::{carcara, carcara_within};

@@ -5,14 +5,14 @@ ghost use Rattle.file_ports.specs.Faults.{HasRisen};
 ghost use Rattle.file_ports.specs.Texts.{AreTold, AppendsFront};
 ghost use Rattle.carcara_cli.specs.Printed as spec;
 ghost use Rattle.command_words.specs.CommandLine.{asked_of};
-ghost use Rattle.carcara_cli.specs.TopCall.{most_bytes, IsTooLong, IsAnswerTo, IsPrinted, MayAskBoth, ShowsUnsatisfiable};
+ghost use Rattle.carcara_cli.specs.TopCall.{most_bits, most_bytes, IsTooLong, IsAnswerTo, IsPrinted, MayAskBoth, ShowsUnsatisfiable};
 ghost use Rattle.carcara_cli.specs.Answering.{IsUnread};
 ghost use Rattle.carcara_cli.specs.Exactness.{IsExact};
 
 use crate::answer::{Answer, status_of, text_of};
 use crate::judging::judge;
 use crate::laws::{valid_proofs_are_sound, words_and_files_define_one_answer};
-use crate::pools::MOST_BITS;
+use crate::pools::{LEAST_BITS, MOST_BITS};
 use command_words::{Request, asked_of};
 use file_ports::{Folder, Gate, OutStop, ReadStop, Sink, read_whole, write_whole};
 use pair_pool::Memory;
@@ -56,10 +56,17 @@ fn unread(stop: ReadStop) -> Result<Answer, Memory>
     }
 }
 
-/// The answer to the words of the command line, over the files of a folder.
-fn answer_to<F: Folder>(alloc: Global, words: &[String], folder: &mut F) -> Result<Answer, Memory>
-    requires { MayAskBoth (F.may_ask folder.old) (asked_of (map string_bytes words.now)) }
-    ensures { IfOk result (IsAnswerTo (F.content folder.old) (F.faults folder.old) (F.faults folder.new) (asked_of (map string_bytes words.now))) }
+/// The answer to the words of the command line, over the files of a folder, with pools of at most so many bits.
+fn answer_to<F: Folder>(
+    alloc: Global,
+    words: &[String],
+    folder: &mut F,
+    most_bits: u32,
+) -> Result<Answer, Memory>
+    requires paths { MayAskBoth (F.may_ask folder.old) (asked_of (map string_bytes words.now)) }
+    requires least { LEAST_BITS ≤ most_bits }
+    requires most { most_bits ≤ MOST_BITS }
+    ensures { IfOk result (IsAnswerTo most_bits (F.content folder.old) (F.faults folder.old) (F.faults folder.new) (asked_of (map string_bytes words.now))) }
 {
     let Some(asked) = asked_of(alloc, words)? else {
         return Ok(Answer::Usage);
@@ -73,7 +80,7 @@ fn answer_to<F: Folder>(alloc: Global, words: &[String], folder: &mut F) -> Resu
         &files.problem,
         asked.options,
         &files.proof,
-        MOST_BITS,
+        most_bits,
     )?;
     Ok(Answer::Judged(judgement))
 }
@@ -95,32 +102,36 @@ fn report<S: Sink>(alloc: Global, answer: &Answer, out: &mut S) -> u8
 }
 
 /// Checks the proof that stands at one path against the problem that stands at another, prints the answer, and
-/// says the status with which the program ends.
+/// returns the status with which the program ends.
 ///
 /// `words` are those of the command line without the program's name: `check`, and behind it the paths of the proof and
-/// of the problem, with `--expand-let-bindings` and `--ignore-unknown-rules` in any place; a `--` ends the options.
+/// of the problem, with `--expand-let-bindings`, `--ignore-unknown-rules` and `--strict` in any place; a `--` ends the options.
+/// With `--strict` each step has to meet the strict condition of its rule, and an outermost assume has to be an assertion as it
+/// stands.
 ///
-/// Status 0 is `valid`, 1 `invalid`, 2 `holey`, 3 `refused`, 4 `unknown`, 5 a read fault, 6 a write fault, 7 want of memory,
+/// Status 0 is `valid`, 1 `invalid`, 2 `holey`, 3 `refused`, 4 `unknown`, 5 a read fault, 6 a write fault, 7 out of memory,
 /// 8 texts whose terms have more than 2^26 distinct cells, 9 a file of more than 268,435,456 bytes, and 64 words that spell no
 /// command.
 ///
 /// The first that answers decides, in this order: the words, the problem's file, the proof's file, the problem's text,
 /// the proof's text, the verdict. Nothing is written before the answer is known. Where it can't be written whole, the
-/// status is 6, or 7 for want of memory, and what was written is a front of its text.
+/// status is 6, or 7 for out of memory, and what was written is a prefix of its text.
 pub fn carcara<R: AllocGlobal, F: Folder, S: Sink, G: Gate>(
     rt: &R,
     words: &[String],
     folder: &mut F,
     out: &mut S,
-    _gate: &G,
+    gate: &G,
 ) -> u8
     requires { MayAskBoth (F.may_ask folder.old) (asked_of (map string_bytes words.now)) }
 
-    // What was printed is the whole text of an answer of the status, and after a failed write or want of memory a front.
-    ensures printed { IsPrinted (IsAnswerTo (F.content folder.old) (F.faults folder.old) (F.faults folder.new) (asked_of (map string_bytes words.now))) (S.written out.old) (S.written out.new) result }
+    // What was printed is the whole text of an answer of the status, and after a failed write or out of memory a prefix.
+    ensures printed { IsPrinted
+        (IsAnswerTo most_bits (F.content folder.old) (F.faults folder.old) (F.faults folder.new) (asked_of (map string_bytes words.now)))
+        (S.written out.old) (S.written out.new) result }
 
     // Unless the status is 5, 6, 7 or 8, it is that of the one answer that the words and the bytes of the files define.
-    ensures exact { IsExact (F.content folder.old) (asked_of (map string_bytes words.now)) (S.written out.old) (S.written out.new) result }
+    ensures exact { IsExact most_bits (F.content folder.old) (asked_of (map string_bytes words.now)) (S.written out.old) (S.written out.new) result }
 
     // `valid` shows that no interpretation makes every assertion of the problem true.
     ensures unsatisfiable { result ≡ 0 → ShowsUnsatisfiable (F.content folder.old) (asked_of (map string_bytes words.now)) }
@@ -128,9 +139,33 @@ pub fn carcara<R: AllocGlobal, F: Folder, S: Sink, G: Gate>(
     ensures read_fault { result ≡ 5 → HasRisen (F.faults folder.old) (F.faults folder.new) }
     ensures write_fault { result ≡ 6 → HasRisen (S.faults out.old) (S.faults out.new) }
 {
+    carcara_within(rt, words, folder, out, gate, MOST_BITS)
+}
+
+/// As `carcara`, with pools of at most 2^most_bits places, 12 to 26 bits: status 8 is of texts whose terms have more cells than
+/// that.
+pub fn carcara_within<R: AllocGlobal, F: Folder, S: Sink, G: Gate>(
+    rt: &R,
+    words: &[String],
+    folder: &mut F,
+    out: &mut S,
+    _gate: &G,
+    most_bits: u32,
+) -> u8
+    requires paths { MayAskBoth (F.may_ask folder.old) (asked_of (map string_bytes words.now)) }
+    requires least { LEAST_BITS ≤ most_bits }
+    requires most { most_bits ≤ MOST_BITS }
+    ensures printed { IsPrinted
+        (IsAnswerTo most_bits (F.content folder.old) (F.faults folder.old) (F.faults folder.new) (asked_of (map string_bytes words.now)))
+        (S.written out.old) (S.written out.new) result }
+    ensures exact { IsExact most_bits (F.content folder.old) (asked_of (map string_bytes words.now)) (S.written out.old) (S.written out.new) result }
+    ensures unsatisfiable { result ≡ 0 → ShowsUnsatisfiable (F.content folder.old) (asked_of (map string_bytes words.now)) }
+    ensures read_fault { result ≡ 5 → HasRisen (F.faults folder.old) (F.faults folder.new) }
+    ensures write_fault { result ≡ 6 → HasRisen (S.faults out.old) (S.faults out.new) }
+{
     valid_proofs_are_sound();
     words_and_files_define_one_answer();
-    match answer_to(rt.alloc(), words, folder) {
+    match answer_to(rt.alloc(), words, folder, most_bits) {
         Ok(answer) => report(rt.alloc(), &answer, out),
         Err(Memory) => 7,
     }

@@ -1,4 +1,4 @@
-//! What the top call answers over files and an output in memory.
+//! What the top call returns over files and an output in memory.
 
 ghost use Rattle.std.specs.Prelude.{◌≤◌};
 

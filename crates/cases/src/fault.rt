@@ -21,7 +21,7 @@ pub enum Fault {
     PartTwice,
     #[error("the case above lacks a part")]
     PartAbsent,
-    #[error("want of memory")]
+    #[error("out of memory")]
     Memory,
 }
 

@@ -2,7 +2,7 @@
 //! answers with what is wanted. Each word names a file of cases; `README.md` has their form.
 //!
 //! - `line`: a line of a file; `reader`: the lines of a file as cases, over `draft`s; `fault`: why a file is none.
-//! - `case`: a case; `answer`: what the top call answers; `reading`: what a problem's text comes to.
+//! - `case`: a case; `answer`: what the top call returns; `reading`: what a problem's text comes to.
 //! - `file`: all cases of a file, and the lines that are printed about them.
 //!
 //! A case that differs is printed. The last line says how many cases pass. Where one differs, or a file has another

@@ -37,7 +37,7 @@ impl Reader {
         }
     }
 
-    /// Reads a line, and answers the case that ends before it.
+    /// Reads a line, and returns the case that ends before it.
     pub fn take(&mut self, line: &str) -> Result<Option<Case>, Fault> {
         match line_of(line)? {
             Line::Blank => Ok(None),
@@ -61,7 +61,7 @@ impl Reader {
         }
     }
 
-    // Begins a text with a name, and answers the case that ends before it.
+    // Begins a text with a name, and returns the case that ends before it.
     fn begin_text(&mut self, name: &str) -> Result<Option<Case>, Fault> {
         let name = String::from_str(self.alloc, name)?;
         let ended = self.end()?;
@@ -69,7 +69,7 @@ impl Reader {
         Ok(ended)
     }
 
-    // Begins a case, and answers the one that ends before it.
+    // Begins a case, and returns the one that ends before it.
     fn begin_case(&mut self, name: &str) -> Result<Option<Case>, Fault> {
         let name = String::from_str(self.alloc, name)?;
         let ended = self.end()?;

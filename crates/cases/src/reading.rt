@@ -36,7 +36,7 @@ pub fn reading(alloc: Global, text: &[u8], measured: bool) -> Result<Option<Read
     if text.len() > MOST_BYTES {
         return Ok(None);
     }
-    let (pool, pass) = Pool::new(alloc, BITS).map_err(|_| anyhow!("want of memory"))?;
+    let (pool, pass) = Pool::new(alloc, BITS).map_err(|_| anyhow!("out of memory"))?;
     reading_in(alloc, text, measured, &mut Terms::new(&pool, pass))
 }
 
@@ -49,7 +49,7 @@ fn reading_in(
 ) -> Result<Option<Reading>>
     requires { length text.now ≤ 268435456 }
 {
-    let mut symbols = Symbols::new(alloc).map_err(|_| anyhow!("want of memory"))?;
+    let mut symbols = Symbols::new(alloc).map_err(|_| anyhow!("out of memory"))?;
     let found = reading_with(alloc, text, measured, &mut symbols, terms);
     // What owns much is let go by a call: let go in parts, at the end of a scope, it is dear to prove.
     drop(symbols);
@@ -111,9 +111,9 @@ fn measures(alloc: Global, terms: &mut Terms<'_>, r: Ref) -> Result<Measures>
 {
     let height = terms
         .height(alloc, r)
-        .map_err(|_| anyhow!("want of memory"))?;
+        .map_err(|_| anyhow!("out of memory"))?;
     let cells = terms
         .cells_of(alloc, &[r])
-        .map_err(|_| anyhow!("want of memory"))?;
+        .map_err(|_| anyhow!("out of memory"))?;
     Ok(Measures { height, cells })
 }

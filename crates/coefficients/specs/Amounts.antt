@@ -1,5 +1,6 @@
 -- Private. Coefficients as nodes spell them.
-use Rattle.std.specs.Prelude.{◌≡◌, ◌⊎◌, ℕ, ◌^◌, ◌<◌, ◌≤◌, ◌==◌, Bool, false, List, codes, Option, Some, None, option_map, option_and_then, Result, Ok, Err, if◌then◌else◌}
+use Rattle.std.specs.Prelude.{◌≡◌, ◌⊎◌, ℕ, ◌^◌, ◌<◌, ◌≤◌, ◌==◌, Bool, false, List, codes, Option, Some, None, option_map, option_and_then, Result, Ok, Err}
+use Rattle.std.specs.Prelude.{if◌then◌else◌}
 use Rattle.sexpr.specs.Items.{Item, Items}
 use Rattle.sexpr.specs.declared.causes.Cause.TheVariants.{WideNumber}
 use Rattle.sexpr.specs.declared.causes.Refusal.{Refusal}

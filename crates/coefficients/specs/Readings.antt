@@ -7,7 +7,7 @@ use Rattle.proof_store.specs.declared.answers.Ratio.{Ratio}
 use Rattle.coefficients.specs.declared.stops.Stop.{Stop}
 
 -- All arguments are coefficients and were read, or one of them is none; or the reading stopped at a number that is too wide, or
--- for want of memory.
+-- when out of memory.
 abbrev pub AreCoefficients : List Ratio → Result Bool Stop → Result (Option (List Fraction)) Refusal → Type 0
 AreCoefficients qs (Ok true) expected = expected ≡ Ok (Some (map fraction_of_ratio qs))
 AreCoefficients qs (Ok false) expected = expected ≡ Ok None

@@ -40,7 +40,8 @@ fn read_quotient(negative: bool, place: u64, num: Figure, den: Figure) -> Result
     requires num { (f : spec.Figure) × IsFigure num f }
     requires den { (f : spec.Figure) × IsFigure den f }
     requires some { den.is_zero ≡ false }
-    ensures { (f g : spec.Figure) → IsFigure num f → IsFigure den g → amount_read_as result ≡ spec.coefficient_read (Some (record { negative = negative; amount = spec.quotient place false f g })) }
+    ensures { (f g : spec.Figure) → IsFigure num f → IsFigure den g →
+        amount_read_as result ≡ spec.coefficient_read (Some (record { negative = negative; amount = spec.quotient place false f g })) }
 {
     let above = narrow_parts(num.place, num.parts)?;
     let below = narrow_parts(den.place, den.parts)?;

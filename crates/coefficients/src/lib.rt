@@ -5,7 +5,7 @@
 //!
 //! - `reading`: arguments one after another. `amounts`: one argument, down to its words, by `shapes`. `figures`: numerals,
 //!   decimals and ratios by their spelling.
-//! - `judging`: what an amount stands for. `fractions`: lowest terms, and quotients. `stops`: why nothing is answered.
+//! - `judging`: what an amount stands for. `fractions`: lowest terms, and quotients. `stops`: why nothing is returned.
 //!
 //! What a contract sees: `specs/Readings`.
 #![tactic(auto)]

@@ -15,7 +15,7 @@ use text_items::nodes::ItemText;
 /// Reads the coefficients that the items from `first` to before `end` are, in place of what `ratios` held. Answers whether all
 /// of them are coefficients; where not, nothing is said of `ratios`.
 ///
-/// Refused at the first number above 2^127 - 1, also where another item is no coefficient; and besides for want of memory.
+/// Refused at the first number above 2^127 - 1, also where another item is no coefficient; and besides when out of memory.
 #[tactic(auto, using(crate::proofs::CoefficientLists::arguments_read))]
 pub fn coefficients_at(
     items: &ItemText<'_, '_>,

@@ -8,7 +8,7 @@ use std::alloc::AllocFailed;
 pub enum Stop {
     /// The first number above 2^127 - 1: its cause and the place of its first byte, counted from 0.
     Text(Refusal),
-    /// Want of memory.
+    /// Out of memory.
     Memory,
 }
 

@@ -4,7 +4,7 @@ use Rattle.clap.specs.Walk.{Rule}
 use Rattle.clap.specs.Simple.{Shape, built, is_simple, new_shape}
 use Rattle.clap.specs.Faults.{is_simple_and_free}
 use Rattle.clap.specs.declared.builder.value_parser.ValueParser.TheVariants as vp
-use Rattle.command_words.specs.Made.{made, made_proof, made_problem, made_expand, made_ignore}
+use Rattle.command_words.specs.Made.{made, made_proof, made_problem, made_expand, made_ignore, made_strict}
 
 -- the arguments as they are built
 abbrev pub proof_rule : Rule
@@ -37,8 +37,16 @@ ignore_rule = record made_ignore {
   parser = Some vp.Bool;
 }
 
+abbrev pub strict_rule : Rule
+strict_rule = record made_strict {
+  range = Some (record { start_inclusive = 0; end_inclusive = 0 });
+  defaults = codes "false" ∷ [];
+  missing = codes "true" ∷ [];
+  parser = Some vp.Bool;
+}
+
 abbrev pub rules : List Rule
-rules = proof_rule ∷ problem_rule ∷ expand_rule ∷ ignore_rule ∷ []
+rules = proof_rule ∷ problem_rule ∷ expand_rule ∷ ignore_rule ∷ strict_rule ∷ []
 
 abbrev pub check_shape : Shape
 check_shape = record (new_shape (codes "check")) {

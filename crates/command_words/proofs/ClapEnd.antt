@@ -6,7 +6,7 @@ use Rattle.clap.specs.Kinds.{Kinds, or_else}
 use Rattle.clap.specs.Walk.{Held, Row, Text, finished, has_row, settled, with_default}
 use Rattle.clap.specs.Faults.{check_fault, default_fault, defaults_fault, given_default_fault, settle_fault}
 use Rattle.clap.specs.declared.parser.matches.ValueSource.TheVariants.{CommandLine, DefaultValue}
-use Rattle.command_words.proofs.ClapApp.{rules, check_shape, expand_rule, ignore_rule, proof_rule, problem_rule}
+use Rattle.command_words.proofs.ClapApp.{rules, check_shape, expand_rule, ignore_rule, strict_rule, proof_rule, problem_rule}
 use Rattle.command_words.proofs.ClapRows.{Seen, one, two, nothing, AreRows, at_id, flag_row, found, has_row_is, kept, more_values_new, proof_in, problem_in, row_for}
 use Rattle.command_words.proofs.ClapWords.{no_cons}
 
@@ -40,10 +40,33 @@ ignore_default rows = by (has_row (codes "ignore") rows)
     by true = refl
     by false = refl
 
+strict_default : (rows : List Row) → default_fault rows strict_rule ≡ []
+strict_default rows = by (has_row (codes "strict") rows)
+  where
+    by : (b : Bool) → (if b || false then [] else given_default_fault strict_rule (codes "false" ∷ [])) ≡ []
+    by true = refl
+    by false = refl
+
+-- the rows with the defaults of the operands, of the first option, and of the second one
+abbrev with_operands : List Row → List Row
+with_operands rows = with_default (with_default rows proof_rule) problem_rule
+
+abbrev with_first : List Row → List Row
+with_first rows = with_default (with_operands rows) expand_rule
+
+abbrev with_second : List Row → List Row
+with_second rows = with_default (with_first rows) ignore_rule
+
 defaults_pass : (rows : List Row) → defaults_fault rows rules ≡ []
 unfolding defaults_fault
 defaults_pass rows =
-    rw (proof_default rows, problem_default (with_default rows proof_rule), expand_default (with_default (with_default rows proof_rule) problem_rule), ignore_default (with_default (with_default (with_default rows proof_rule) problem_rule) expand_rule)) refl
+    rw (
+      proof_default rows,
+      problem_default (with_default rows proof_rule),
+      expand_default (with_operands rows),
+      ignore_default (with_first rows),
+      strict_default (with_second rows),
+    ) refl
 
 -- the row of an option, with what the words say or its default
 abbrev pub flag_at_end : Text → Bool → Row
@@ -51,11 +74,12 @@ flag_at_end id true = row_for CommandLine id (codes "true")
 flag_at_end id false = row_for DefaultValue id (codes "false")
 
 -- the rows at the end
-pub record AreDone (seen : Seen) (e i : Bool) (rows : List Row) : Type 0 where
+pub record AreDone (seen : Seen) (e i s : Bool) (rows : List Row) : Type 0 where
   pub proof : at_id (codes "proof") rows ≡ option_map (row_for CommandLine (codes "proof")) (proof_in seen)
   pub problem : at_id (codes "problem") rows ≡ option_map (row_for CommandLine (codes "problem")) (problem_in seen)
   pub expand : at_id (codes "expand") rows ≡ Some (flag_at_end (codes "expand") e)
   pub ignore : at_id (codes "ignore") rows ≡ Some (flag_at_end (codes "ignore") i)
+  pub strict : at_id (codes "strict") rows ≡ Some (flag_at_end (codes "strict") s)
 
 same_proof : (rows : List Row) → with_default rows proof_rule ≡ rows
 same_proof rows = by (has_row (codes "proof") rows)
@@ -71,55 +95,75 @@ same_problem rows = by (has_row (codes "problem") rows)
     by true = refl
     by false = refl
 
--- the rows with the two defaults
-abbrev more_expand : Bool → List Row → List Row
-more_expand true rows = rows
-more_expand false rows = rows ++ row_for DefaultValue (codes "expand") (codes "false") ∷ []
+-- the rows with the default of an option that did not stand
+abbrev more_flag : Text → Bool → List Row → List Row
+more_flag id true rows = rows
+more_flag id false rows = rows ++ row_for DefaultValue id (codes "false") ∷ []
 
-abbrev more_ignore : Bool → List Row → List Row
-more_ignore true rows = rows
-more_ignore false rows = rows ++ row_for DefaultValue (codes "ignore") (codes "false") ∷ []
+default_expand : (rows : List Row) (e : Bool) → at_id (codes "expand") rows ≡ flag_row (codes "expand") e
+    → with_default rows expand_rule ≡ more_flag (codes "expand") e rows
+default_expand rows true h = rw (has_row_is (codes "expand") rows, h) refl
+default_expand rows false h = rw (has_row_is (codes "expand") rows, h) (more_values_new (codes "expand") DefaultValue (codes "false") rows h)
 
-default_expand : (seen : Seen) (e i : Bool) (rows : List Row) → AreRows seen e i rows → with_default rows expand_rule ≡ more_expand e rows
-default_expand seen true i rows h = rw (has_row_is (codes "expand") rows, h.expand) refl
-default_expand seen false i rows h = rw (has_row_is (codes "expand") rows, h.expand) (more_values_new (codes "expand") DefaultValue (codes "false") rows h.expand)
+default_ignore : (rows : List Row) (i : Bool) → at_id (codes "ignore") rows ≡ flag_row (codes "ignore") i
+    → with_default rows ignore_rule ≡ more_flag (codes "ignore") i rows
+default_ignore rows true h = rw (has_row_is (codes "ignore") rows, h) refl
+default_ignore rows false h = rw (has_row_is (codes "ignore") rows, h) (more_values_new (codes "ignore") DefaultValue (codes "false") rows h)
 
-default_ignore : (rows : List Row) (i : Bool) → at_id (codes "ignore") rows ≡ flag_row (codes "ignore") i → with_default rows ignore_rule ≡ more_ignore i rows
-default_ignore rows true e = rw (has_row_is (codes "ignore") rows, e) refl
-default_ignore rows false e = rw (has_row_is (codes "ignore") rows, e) (more_values_new (codes "ignore") DefaultValue (codes "false") rows e)
+default_strict : (rows : List Row) (s : Bool) → at_id (codes "strict") rows ≡ flag_row (codes "strict") s
+    → with_default rows strict_rule ≡ more_flag (codes "strict") s rows
+default_strict rows true h = rw (has_row_is (codes "strict") rows, h) refl
+default_strict rows false h = rw (has_row_is (codes "strict") rows, h) (more_values_new (codes "strict") DefaultValue (codes "false") rows h)
 
-past_expand : (id : Text) (e : Bool) (rows : List Row) → bytes_eq (codes "expand") id ≡ false → at_id id (more_expand e rows) ≡ at_id id rows
-past_expand id true rows other = refl
-past_expand id false rows other = kept id rows _ other
+-- another id's row stays
+past : (flag id : Text) (b : Bool) (rows : List Row) → bytes_eq flag id ≡ false → at_id id (more_flag flag b rows) ≡ at_id id rows
+past flag id true rows other = refl
+past flag id false rows other = kept id rows _ other
 
-past_ignore : (id : Text) (i : Bool) (rows : List Row) → bytes_eq (codes "ignore") id ≡ false → at_id id (more_ignore i rows) ≡ at_id id rows
-past_ignore id true rows other = refl
-past_ignore id false rows other = kept id rows _ other
+at_flag_end : (id : Text) (b : Bool) (rows : List Row) → bytes_eq id id ≡ true → at_id id rows ≡ flag_row id b
+    → at_id id (more_flag id b rows) ≡ Some (flag_at_end id b)
+at_flag_end id true rows same h = h
+at_flag_end id false rows same h = found id rows _ h same
 
-at_expand_end : (e : Bool) (rows : List Row) → at_id (codes "expand") rows ≡ flag_row (codes "expand") e → at_id (codes "expand") (more_expand e rows) ≡ Some (flag_at_end (codes "expand") e)
-at_expand_end true rows h = h
-at_expand_end false rows h = found (codes "expand") rows _ h refl
+-- the rows with the defaults of the first option, of the first two, and of all
+abbrev first_done : Bool → List Row → List Row
+first_done e rows = more_flag (codes "expand") e rows
 
-at_ignore_end : (i : Bool) (rows : List Row) → at_id (codes "ignore") rows ≡ flag_row (codes "ignore") i → at_id (codes "ignore") (more_ignore i rows) ≡ Some (flag_at_end (codes "ignore") i)
-at_ignore_end true rows h = h
-at_ignore_end false rows h = found (codes "ignore") rows _ h refl
+abbrev second_done : Bool → Bool → List Row → List Row
+second_done e i rows = more_flag (codes "ignore") i (first_done e rows)
 
-finished_is : (h : Held) (seen : Seen) (e i : Bool) → AreRows seen e i (settled rules h).rows → finished rules h ≡ more_ignore i (more_expand e (settled rules h).rows)
-finished_is h seen e i are =
+abbrev all_done : Bool → Bool → Bool → List Row → List Row
+all_done e i s rows = more_flag (codes "strict") s (second_done e i rows)
+
+module _ (e i s : Bool) (rows : List Row) where
+  past_two : (id : Text) → bytes_eq (codes "expand") id ≡ false → bytes_eq (codes "ignore") id ≡ false → at_id id (second_done e i rows) ≡ at_id id rows
+  past_two id no_expand no_ignore = past (codes "ignore") id i (first_done e rows) no_ignore ∙ past (codes "expand") id e rows no_expand
+
+  past_all : (id : Text) → bytes_eq (codes "expand") id ≡ false → bytes_eq (codes "ignore") id ≡ false → bytes_eq (codes "strict") id ≡ false
+      → at_id id (all_done e i s rows) ≡ at_id id rows
+  past_all id no_expand no_ignore no_strict = past (codes "strict") id s (second_done e i rows) no_strict ∙ past_two id no_expand no_ignore
+
+finished_is : (h : Held) (seen : Seen) (e i s : Bool) → AreRows seen e i s (settled rules h).rows → finished rules h ≡ all_done e i s (settled rules h).rows
+finished_is h seen e i s are =
     let rows = (settled rules h).rows in
-    ap (λ r. with_default (with_default (with_default r problem_rule) expand_rule) ignore_rule) (same_proof rows)
-    ∙ ap (λ r. with_default (with_default r expand_rule) ignore_rule) (same_problem rows)
-    ∙ ap (λ r. with_default r ignore_rule) (default_expand seen e i rows are)
-    ∙ default_ignore (more_expand e rows) i (past_expand (codes "ignore") e rows refl ∙ are.ignore)
+    ap (λ r. with_default (with_default (with_default (with_default r problem_rule) expand_rule) ignore_rule) strict_rule) (same_proof rows)
+    ∙ ap (λ r. with_default (with_default (with_default r expand_rule) ignore_rule) strict_rule) (same_problem rows)
+    ∙ ap (λ r. with_default (with_default r ignore_rule) strict_rule) (default_expand rows e are.expand)
+    ∙ ap (λ r. with_default r strict_rule) (default_ignore (first_done e rows) i (past (codes "expand") (codes "ignore") e rows refl ∙ are.ignore))
+    ∙ default_strict (second_done e i rows) s (past_two e i s rows (codes "strict") refl refl ∙ are.strict)
 
-pub done : (h : Held) (seen : Seen) (e i : Bool) → AreRows seen e i (settled rules h).rows → AreDone seen e i (finished rules h)
-done h seen e i are =
+pub done : (h : Held) (seen : Seen) (e i s : Bool) → AreRows seen e i s (settled rules h).rows → AreDone seen e i s (finished rules h)
+done h seen e i s are =
     let rows = (settled rules h).rows in
-    rw (finished_is h seen e i are) (record {
-      proof = past_ignore (codes "proof") i (more_expand e rows) refl ∙ past_expand (codes "proof") e rows refl ∙ are.proof;
-      problem = past_ignore (codes "problem") i (more_expand e rows) refl ∙ past_expand (codes "problem") e rows refl ∙ are.problem;
-      expand = past_ignore (codes "expand") i (more_expand e rows) refl ∙ at_expand_end e rows are.expand;
-      ignore = at_ignore_end i (more_expand e rows) (past_expand (codes "ignore") e rows refl ∙ are.ignore);
+    rw (finished_is h seen e i s are) (record {
+      proof = past_all e i s rows (codes "proof") refl refl refl ∙ are.proof;
+      problem = past_all e i s rows (codes "problem") refl refl refl ∙ are.problem;
+      expand = past (codes "strict") (codes "expand") s (second_done e i rows) refl
+          ∙ past (codes "ignore") (codes "expand") i (first_done e rows) refl
+          ∙ at_flag_end (codes "expand") e rows refl are.expand;
+      ignore = past (codes "strict") (codes "ignore") s (second_done e i rows) refl
+          ∙ at_flag_end (codes "ignore") i (first_done e rows) refl (past (codes "expand") (codes "ignore") e rows refl ∙ are.ignore);
+      strict = at_flag_end (codes "strict") s (second_done e i rows) refl (past_two e i s rows (codes "strict") refl refl ∙ are.strict);
     })
 
 -- ---- the end
@@ -128,17 +172,17 @@ done h seen e i are =
 abbrev pub closing : Held → Kinds
 closing h = or_else (settle_fault rules false h) (or_else (defaults_fault (settled rules h).rows rules) (check_fault check_shape (finished rules h) false))
 
-pub closes : (h : Held) (a b : Text) (e i : Bool) → settle_fault rules false h ≡ [] → AreRows (two a b) e i (settled rules h).rows → closing h ≡ []
-closes h a b e i settles are =
-    let at_end = done h (two a b) e i are in
+pub closes : (h : Held) (a b : Text) (e i s : Bool) → settle_fault rules false h ≡ [] → AreRows (two a b) e i s (settled rules h).rows → closing h ≡ []
+closes h a b e i s settles are =
+    let at_end = done h (two a b) e i s are in
     rw (settles, defaults_pass (settled rules h).rows, at_end.proof, at_end.problem) refl
 
-pub lacks_problem : (h : Held) (a : Text) (e i : Bool) → settle_fault rules false h ≡ [] → AreRows (one a) e i (settled rules h).rows → closing h ≡ [] → ⊥
-lacks_problem h a e i settles are bad =
-    let at_end = done h (one a) e i are in
+pub lacks_problem : (h : Held) (a : Text) (e i s : Bool) → settle_fault rules false h ≡ [] → AreRows (one a) e i s (settled rules h).rows → closing h ≡ [] → ⊥
+lacks_problem h a e i s settles are bad =
+    let at_end = done h (one a) e i s are in
     no_cons _ _ (rw (settles, defaults_pass (settled rules h).rows, at_end.proof, at_end.problem) at bad)
 
-pub lacks_both : (h : Held) (e i : Bool) → settle_fault rules false h ≡ [] → AreRows nothing e i (settled rules h).rows → closing h ≡ [] → ⊥
-lacks_both h e i settles are bad =
-    let at_end = done h nothing e i are in
+pub lacks_both : (h : Held) (e i s : Bool) → settle_fault rules false h ≡ [] → AreRows nothing e i s (settled rules h).rows → closing h ≡ [] → ⊥
+lacks_both h e i s settles are bad =
+    let at_end = done h nothing e i s are in
     no_cons _ _ (rw (settles, defaults_pass (settled rules h).rows, at_end.proof) at bad)

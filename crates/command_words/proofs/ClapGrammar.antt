@@ -4,24 +4,34 @@ use Rattle.std.proofs.Math.Bool.{and-false}
 use Rattle.std.specs.Prelude.{codes, if◌then◌else◌}
 use Rattle.std.specs.List.{prefix_len}
 use Rattle.std.specs.Str.{bytes_eq}
-use Rattle.command_words.specs.CommandLine.{Word, are_known_once, asked_with, expand_lets, ignore_unknown, is_among, is_no_end, is_operand, operands_of, options_by, options_of}
+use Rattle.command_words.specs.CommandLine.{Word, are_known_once, asked_with, be_strict, expand_lets, ignore_unknown, is_among, is_no_end, is_operand, operands_of, options_by, options_of}
 use Rattle.command_words.specs.declared.request.Options.{Options}
 use Rattle.command_words.proofs.ClapWords.{same_bytes}
 
 -- ---- the options, where some of them stood before
 
-abbrev pub told : Bool → Bool → List Word → Option Options
-told e i [] = Some (record { replaces_lets = e; ignores_unknown_rules = i })
-told e i (word ∷ words) =
-    if bytes_eq word expand_lets then (if e then None else told true i words)
-    else (if bytes_eq word ignore_unknown then (if i then None else told e true words) else None)
+abbrev pub told : Bool → Bool → Bool → List Word → Option Options
+told e i s [] = Some (record { replaces_lets = e; ignores_unknown_rules = i; is_strict = s })
+told e i s (word ∷ words) =
+    if bytes_eq word expand_lets then (if e then None else told true i s words)
+    else (if bytes_eq word ignore_unknown then (if i then None else told e true s words)
+    else (if bytes_eq word be_strict then (if s then None else told e i true words) else None))
 
-abbrev fits : Bool → Bool → List Word → Bool
-fits e i words = not (e && is_among expand_lets words) && (not (i && is_among ignore_unknown words) && are_known_once words)
+abbrev fits : Bool → Bool → Bool → List Word → Bool
+fits e i s words =
+    not (e && is_among expand_lets words)
+    && (not (i && is_among ignore_unknown words) && (not (s && is_among be_strict words) && are_known_once words))
 
-abbrev told_if : Bool → Bool → List Word → Option Options
-told_if e i words =
-    if fits e i words then Some (record { replaces_lets = e || is_among expand_lets words; ignores_unknown_rules = i || is_among ignore_unknown words }) else None
+-- what is asked for by the options that stood before and these
+abbrev joined : Bool → Bool → Bool → List Word → Options
+joined e i s words = record {
+  replaces_lets = e || is_among expand_lets words;
+  ignores_unknown_rules = i || is_among ignore_unknown words;
+  is_strict = s || is_among be_strict words;
+}
+
+abbrev told_if : Bool → Bool → Bool → List Word → Option Options
+told_if e i s words = if fits e i s words then Some (joined e i s words) else None
 
 swap : (a x k : Bool) → (not a && (not x && k)) ≡ (not x && (not a && k))
 swap true true k = refl
@@ -29,34 +39,63 @@ swap true false k = refl
 swap false true k = refl
 swap false false k = refl
 
-at_expand : (e i : Bool) (words : List Word) → told true i words ≡ told_if true i words → told e i (expand_lets ∷ words) ≡ told_if e i (expand_lets ∷ words)
-at_expand true i words h = refl
-at_expand false i words h =
-    h ∙ ap (λ c. if c then Some (record { replaces_lets = true; ignores_unknown_rules = i || is_among ignore_unknown words }) else None) (swap (is_among expand_lets words) (i && is_among ignore_unknown words) (are_known_once words))
+swap_two : (a x y k : Bool) → (not a && (not x && (not y && k))) ≡ (not x && (not y && (not a && k)))
+swap_two a x y k = swap a x (not y && k) ∙ ap (λ c. not x && c) (swap a y k)
 
-at_ignore : (e i : Bool) (words : List Word) → told e true words ≡ told_if e true words → told e i (ignore_unknown ∷ words) ≡ told_if e i (ignore_unknown ∷ words)
-at_ignore e true words h = rw (and-false (not (e && is_among expand_lets words))) refl
-at_ignore e false words h = h
+at_expand : (e i s : Bool) (words : List Word) → told true i s words ≡ told_if true i s words
+    → told e i s (expand_lets ∷ words) ≡ told_if e i s (expand_lets ∷ words)
+at_expand true i s words h = refl
+at_expand false i s words h =
+    h ∙ ap (λ c. if c then Some (joined true i s words) else None)
+    (swap_two (is_among expand_lets words) (i && is_among ignore_unknown words) (s && is_among be_strict words) (are_known_once words))
 
-at_other : (e i : Bool) (word : Word) (words : List Word) → bytes_eq word expand_lets ≡ false → bytes_eq word ignore_unknown ≡ false → told e i (word ∷ words) ≡ told_if e i (word ∷ words)
-at_other e i word words no_expand no_ignore =
-    rw (no_expand, no_ignore, and-false (not (i && is_among ignore_unknown words)), and-false (not (e && is_among expand_lets words))) refl
+at_ignore : (e i s : Bool) (words : List Word) → told e true s words ≡ told_if e true s words
+    → told e i s (ignore_unknown ∷ words) ≡ told_if e i s (ignore_unknown ∷ words)
+at_ignore e true s words h = rw (and-false (not (e && is_among expand_lets words))) refl
+at_ignore e false s words h =
+    h ∙ ap (λ c. if not (e && is_among expand_lets words) && c then Some (joined e true s words) else None)
+    (swap (is_among ignore_unknown words) (s && is_among be_strict words) (are_known_once words))
 
-told_is : (e i : Bool) (words : List Word) → told e i words ≡ told_if e i words
-told_is true true [] = refl
-told_is true false [] = refl
-told_is false true [] = refl
-told_is false false [] = refl
-told_is e i (word ∷ words) = go (bytes_eq word expand_lets) (bytes_eq word ignore_unknown) refl refl (told_is true i words) (told_is e true words)
+at_strict : (e i s : Bool) (words : List Word) → told e i true words ≡ told_if e i true words
+    → told e i s (be_strict ∷ words) ≡ told_if e i s (be_strict ∷ words)
+at_strict e i true words h = rw (and-false (not (i && is_among ignore_unknown words)), and-false (not (e && is_among expand_lets words))) refl
+at_strict e i false words h = h
+
+at_other : (e i s : Bool) (word : Word) (words : List Word) → bytes_eq word expand_lets ≡ false → bytes_eq word ignore_unknown ≡ false
+    → bytes_eq word be_strict ≡ false → told e i s (word ∷ words) ≡ told_if e i s (word ∷ words)
+at_other e i s word words no_expand no_ignore no_strict =
+    rw (
+      no_expand,
+      no_ignore,
+      no_strict,
+      and-false (not (s && is_among be_strict words)),
+      and-false (not (i && is_among ignore_unknown words)),
+      and-false (not (e && is_among expand_lets words)),
+    ) refl
+
+told_is : (e i s : Bool) (words : List Word) → told e i s words ≡ told_if e i s words
+told_is true true true [] = refl
+told_is true true false [] = refl
+told_is true false true [] = refl
+told_is true false false [] = refl
+told_is false true true [] = refl
+told_is false true false [] = refl
+told_is false false true [] = refl
+told_is false false false [] = refl
+told_is e i s (word ∷ words) =
+    go (bytes_eq word expand_lets) (bytes_eq word ignore_unknown) (bytes_eq word be_strict) refl refl refl
+    (told_is true i s words) (told_is e true s words) (told_is e i true words)
   where
-    go : (a b : Bool) → bytes_eq word expand_lets ≡ a → bytes_eq word ignore_unknown ≡ b → told true i words ≡ told_if true i words → told e true words ≡ told_if e true words
-        → told e i (word ∷ words) ≡ told_if e i (word ∷ words)
-    go true b is other h k = rw (same_bytes word expand_lets is) (at_expand e i words h)
-    go false true other is h k = rw (same_bytes word ignore_unknown is) (at_ignore e i words k)
-    go false false no_expand no_ignore h k = at_other e i word words no_expand no_ignore
+    go : (a b c : Bool) → bytes_eq word expand_lets ≡ a → bytes_eq word ignore_unknown ≡ b → bytes_eq word be_strict ≡ c
+        → told true i s words ≡ told_if true i s words → told e true s words ≡ told_if e true s words → told e i true words ≡ told_if e i true words
+        → told e i s (word ∷ words) ≡ told_if e i s (word ∷ words)
+    go true b c is other third h k l = rw (same_bytes word expand_lets is) (at_expand e i s words h)
+    go false true c other is third h k l = rw (same_bytes word ignore_unknown is) (at_ignore e i s words k)
+    go false false true other third is h k l = rw (same_bytes word be_strict is) (at_strict e i s words l)
+    go false false false no_expand no_ignore no_strict h k l = at_other e i s word words no_expand no_ignore no_strict
 
-pub options_are_told : (words : List Word) → told false false words ≡ options_by words
-options_are_told words = told_is false false words
+pub options_are_told : (words : List Word) → told false false false words ≡ options_by words
+options_are_told words = told_is false false false words
 
 -- ---- a word is an operand or an option
 

@@ -14,12 +14,12 @@ use Rattle.command_words.specs.CommandLine.{Asked, asked_of, options_of}
 use Rattle.command_words.specs.Made.{made}
 use Rattle.command_words.specs.Found.{IsReadFrom, flag_text}
 use Rattle.command_words.proofs.ClapApp.{check_shape, rules, top_shape}
-use Rattle.command_words.proofs.ClapRows.{two, nothing, at_id, no_rows}
-use Rattle.command_words.proofs.ClapWords.{IsFlag, IsPlain, Word, ends, expands, first_faults, ignores, no_cons, plain, same_bytes, strange, word_is}
+use Rattle.command_words.proofs.ClapRows.{nothing, at_id, no_rows}
+use Rattle.command_words.proofs.ClapWords.{IsFlag, IsPlain, Word, ends, expands, first_faults, ignores, is_strict, no_cons, plain, same_bytes, strange, word_is}
 use Rattle.command_words.proofs.ClapWalk.{or_first}
-use Rattle.command_words.proofs.ClapEnd.{AreDone, flag_at_end}
+use Rattle.command_words.proofs.ClapEnd.{flag_at_end}
 use Rattle.command_words.proofs.ClapGrammar.{options_are_told}
-use Rattle.command_words.proofs.ClapReach.{AllUtf8, Answers, reaches}
+use Rattle.command_words.proofs.ClapReach.{AllUtf8, Answers, ReadsAs, reaches}
 
 abbrev names : Names
 names = (codes "check", []) ∷ []
@@ -78,7 +78,8 @@ no_check word rest other u (ends is) bad = only_end rest (rw is at bad)
 no_check word rest other u (plain is) bad = first_fails word rest (plain_word word other is) bad
 no_check word rest other u (expands is) bad = first_fails word rest (other_word word other u (rw is (record { operand = refl; no_end = refl }))) bad
 no_check word rest other u (ignores is) bad = first_fails word rest (other_word word other u (rw is (record { operand = refl; no_end = refl }))) bad
-no_check word rest other u (strange f no_expand no_ignore) bad = first_fails word rest (other_word word other u f) bad
+no_check word rest other u (is_strict is) bad = first_fails word rest (other_word word other u (rw is (record { operand = refl; no_end = refl }))) bad
+no_check word rest other u (strange f none) bad = first_fails word rest (other_word word other u f) bad
 
 no_words : fault_of made [] ≡ [] → ⊥
 unfolding walk_fault defaults_fault
@@ -91,7 +92,7 @@ pub record IsRead (a : Asked) (words : List Text) : Type 0 where
   pub rows : List Row
   pub passes : fault_of made words ≡ []
   pub subcommand : subcommand_of made words ≡ Some (codes "check", rows)
-  pub reads : AreDone (two a.proof a.problem) a.options.replaces_lets a.options.ignores_unknown_rules rows
+  pub reads : ReadsAs a rows
 
 abbrev pub Outcome : Option Asked → List Text → Type 0
 Outcome None words = fault_of made words ≡ [] → ⊥
@@ -107,7 +108,9 @@ behind_check (Some a) words h = record {
 }
 
 checked : (words : List Text) → AllUtf8 words → Outcome (asked_of (codes "check" ∷ words)) (codes "check" ∷ words)
-checked words u = behind_check _ words (rw (options_are_told (options_of words)) at (reaches words u nothing false false false [] None (record { settles = refl; are = no_rows })))
+checked words u =
+    behind_check _ words (rw (options_are_told (options_of words)) at
+    (reaches words u nothing false false false false [] None (record { settles = refl; are = no_rows })))
 
 pub outcome : (words : List Text) → AllUtf8 words → Outcome (asked_of words) words
 outcome [] u = no_words
@@ -140,6 +143,7 @@ read_from a words h = record {
   problem = rw h.reads.problem refl;
   expand = flag_read (codes "expand") a.options.replaces_lets h.rows h.reads.expand;
   ignore = flag_read (codes "ignore") a.options.ignores_unknown_rules h.rows h.reads.ignore;
+  strict = flag_read (codes "strict") a.options.is_strict h.rows h.reads.strict;
 }
 
 -- where `clap` takes the words, its matches say what they ask for

@@ -2,14 +2,14 @@
 use Rattle.std.proofs.Common.{◌≡◌, refl, ℕ, Bool, true, false, List, [], ◌∷◌, Option, Some, None}
 use Rattle.std.proofs.Math.Bool.{and-false}
 use Rattle.std.specs.Prelude.{codes, ⊤}
-use Rattle.std.specs.Str.{IsUtf8, bytes_eq}
+use Rattle.std.specs.Str.{IsUtf8}
 use Rattle.clap.specs.Kinds.{Kinds, or_else}
 use Rattle.clap.specs.Walk.{Held, Row, Text, Walk, idle, settled_rows, value, walked, word_met, is_pending, used}
 use Rattle.clap.specs.Faults.{repeat_fault, settle_fault, turn_fault, word_fault}
-use Rattle.command_words.specs.CommandLine.{expand_lets, ignore_unknown}
-use Rattle.command_words.proofs.ClapApp.{rules, check_shape, expand_rule, ignore_rule, proof_rule, problem_rule}
+use Rattle.command_words.specs.CommandLine.{be_strict, expand_lets, ignore_unknown}
+use Rattle.command_words.proofs.ClapApp.{rules, check_shape, expand_rule, ignore_rule, strict_rule, proof_rule, problem_rule}
 use Rattle.command_words.proofs.ClapRows.{has_row_is, at_id}
-use Rattle.command_words.proofs.ClapWords.{IsPlain, IsFlag, no_cons, strange_faults}
+use Rattle.command_words.proofs.ClapWords.{IsPlain, IsFlag, IsNoOption, no_cons, strange_faults}
 
 -- between two words: the rows so far, the positional whose value is not yet put among them, and the next position
 abbrev pub held : List Row → Option (Text × List Text) → Held
@@ -93,11 +93,19 @@ module _ (rows : List Row) (p : Option (Text × List Text)) (k : ℕ) where
   unfolding walked
   at_ignore = refl
 
+  pub at_strict : walked rules [] (at rows p k false) be_strict ≡ at (used strict_rule [] (settled_rows rules p rows)) None k false
+  unfolding walked
+  at_strict = refl
+
   pub expand_turn : settle_fault rules false (held rows p) ≡ [] → at_id (codes "expand") (settled_rows rules p rows) ≡ None → turn_fault check_shape [] (at rows p k false) expand_lets ≡ []
   expand_turn settles none = rw (settles, range_fits (codes "expand") (settled_rows rules p rows) none) refl
 
   pub ignore_turn : settle_fault rules false (held rows p) ≡ [] → at_id (codes "ignore") (settled_rows rules p rows) ≡ None → turn_fault check_shape [] (at rows p k false) ignore_unknown ≡ []
   ignore_turn settles none = rw (settles, range_fits (codes "ignore") (settled_rows rules p rows) none) refl
+
+  pub strict_turn : settle_fault rules false (held rows p) ≡ [] → at_id (codes "strict") (settled_rows rules p rows) ≡ None
+      → turn_fault check_shape [] (at rows p k false) be_strict ≡ []
+  strict_turn settles none = rw (settles, range_fits (codes "strict") (settled_rows rules p rows) none) refl
 
   -- an option that stands twice
   pub expand_again : settle_fault rules false (held rows p) ≡ [] → (r : Row) → at_id (codes "expand") (settled_rows rules p rows) ≡ Some r → turn_fault check_shape [] (at rows p k false) expand_lets ≡ [] → ⊥
@@ -106,7 +114,9 @@ module _ (rows : List Row) (p : Option (Text × List Text)) (k : ℕ) where
   pub ignore_again : settle_fault rules false (held rows p) ≡ [] → (r : Row) → at_id (codes "ignore") (settled_rows rules p rows) ≡ Some r → turn_fault check_shape [] (at rows p k false) ignore_unknown ≡ [] → ⊥
   ignore_again settles r there bad = no_cons _ _ (rw (settles, has_row_is (codes "ignore") (settled_rows rules p rows), there) at bad)
 
-  pub strange_turn : (word : Text) → IsUtf8 word → IsFlag word → bytes_eq word expand_lets ≡ false → bytes_eq word ignore_unknown ≡ false
-      → turn_fault check_shape [] (at rows p k false) word ≡ [] → ⊥
-  strange_turn word u f no_expand no_ignore bad =
-      strange_faults word (held rows p) refl u f no_expand no_ignore (or_first _ _ (rw f.no_end at bad))
+  pub strict_again : settle_fault rules false (held rows p) ≡ [] → (r : Row) → at_id (codes "strict") (settled_rows rules p rows) ≡ Some r
+      → turn_fault check_shape [] (at rows p k false) be_strict ≡ [] → ⊥
+  strict_again settles r there bad = no_cons _ _ (rw (settles, has_row_is (codes "strict") (settled_rows rules p rows), there) at bad)
+
+  pub strange_turn : (word : Text) → IsUtf8 word → IsFlag word → IsNoOption word → turn_fault check_shape [] (at rows p k false) word ≡ [] → ⊥
+  strange_turn word u f none bad = strange_faults word (held rows p) refl u f none (or_first _ _ (rw f.no_end at bad))

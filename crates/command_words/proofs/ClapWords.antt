@@ -1,5 +1,5 @@
 -- What a word of the command line is, by the grammar and to `clap`.
-use Rattle.std.proofs.Common.{◌≡◌, ◌∙◌, ◌||◌, ◌==◌, ap, subst, sym, refl, arith, ◌+◌, true≢false, ℕ, suc, Bool, true, false, cond, List, [], ◌∷◌, Some, None}
+use Rattle.std.proofs.Common.{◌≡◌, ◌∙◌, ◌||◌, ◌==◌, ap, subst, sym, refl, arith, ◌+◌, true≢false, ℕ, suc, Bool, true, false, cond, List, [], ◌∷◌, Option, Some, None}
 use Rattle.std.specs.Prelude.{codes, if◌then◌else◌, nat_eq}
 use Rattle.std.specs.List.{after_first, before_first, position_or_len}
 use Rattle.std.specs.Option.{option_map_or}
@@ -10,8 +10,8 @@ use Rattle.std.proofs.lemmas.Str.{chars_from_encodes, chars_past_char}
 use Rattle.clap.specs.Lexer.{has_byte, long_of, name_and_value, short_of}
 use Rattle.clap.specs.Walk.{Held, Rule, Text, arg_by_long, arg_by_short}
 use Rattle.clap.specs.Faults.{bundle_fault, flag_word_fault, flags_fault, long_fault}
-use Rattle.command_words.specs.CommandLine.{is_operand, expand_lets, ignore_unknown}
-use Rattle.command_words.proofs.ClapApp.{rules, expand_rule, ignore_rule}
+use Rattle.command_words.specs.CommandLine.{is_operand, be_strict, expand_lets, ignore_unknown}
+use Rattle.command_words.proofs.ClapApp.{rules, expand_rule, ignore_rule, strict_rule}
 
 pub no_cons : {A : Type 0} (x : A) (xs : List A) → x ∷ xs ≡ [] → ⊥
 no_cons x xs e = absurd (cc)
@@ -52,20 +52,28 @@ pub record IsFlag (word : Text) : Type 0 where
   pub operand : is_operand word ≡ false
   pub no_end : bytes_eq word (codes "--") ≡ false
 
+-- no option of the command
+pub record IsNoOption (word : Text) : Type 0 where
+  pub expand : bytes_eq word expand_lets ≡ false
+  pub ignore : bytes_eq word ignore_unknown ≡ false
+  pub strict : bytes_eq word be_strict ≡ false
+
 pub data Word (word : Text) : Type 0 where
   ends : word ≡ codes "--" → Word word
   plain : IsPlain word → Word word
   expands : word ≡ expand_lets → Word word
   ignores : word ≡ ignore_unknown → Word word
-  strange : IsFlag word → bytes_eq word expand_lets ≡ false → bytes_eq word ignore_unknown ≡ false → Word word
+  is_strict : word ≡ be_strict → Word word
+  strange : IsFlag word → IsNoOption word → Word word
 
 flag_word : (word : Text) → IsFlag word → Word word
-flag_word word h = go (bytes_eq word expand_lets) (bytes_eq word ignore_unknown) refl refl
+flag_word word h = go (bytes_eq word expand_lets) (bytes_eq word ignore_unknown) (bytes_eq word be_strict) refl refl refl
   where
-    go : (a b : Bool) → bytes_eq word expand_lets ≡ a → bytes_eq word ignore_unknown ≡ b → Word word
-    go true b e f = expands (same_bytes word expand_lets e)
-    go false true e f = ignores (same_bytes word ignore_unknown f)
-    go false false e f = strange h e f
+    go : (a b c : Bool) → bytes_eq word expand_lets ≡ a → bytes_eq word ignore_unknown ≡ b → bytes_eq word be_strict ≡ c → Word word
+    go true b c e f g = expands (same_bytes word expand_lets e)
+    go false true c e f g = ignores (same_bytes word ignore_unknown f)
+    go false false true e f g = is_strict (same_bytes word be_strict g)
+    go false false false e f g = strange h (record { expand = e; ignore = f; strict = g })
 
 hyphened : (x : ℕ) (r : Text) → Word (45 ∷ x ∷ r)
 hyphened x r = go (bytes_eq (45 ∷ x ∷ r) (codes "--")) refl
@@ -100,27 +108,41 @@ no_equals (x ∷ text) h = go (x == 61) refl h (no_equals text)
     go true e k next = absurd (cc)
     go false e k next = let more : 1 + position_or_len (λ y. y == 61) text ≡ suc (position_or_len (λ y. y == 61) text) = omega arith in rw (e, more) (ap (λ t. x ∷ t) (next k))
 
--- a long option with a value, or by another name, is refused
-module _ (x : ℕ) (r : Text) (h : Held) (no_expand : bytes_eq (45 ∷ 45 ∷ x ∷ r) expand_lets ≡ false) (no_ignore : bytes_eq (45 ∷ 45 ∷ x ∷ r) ignore_unknown ≡ false) where
-  by_name : (a b : Bool) → bytes_eq (codes "expand-let-bindings") (x ∷ r) ≡ a → bytes_eq (codes "ignore-unknown-rules") (x ∷ r) ≡ b
-      → long_fault rules false (cond (a || false) (Some expand_rule) (cond (b || false) (Some ignore_rule) None)) None h ≡ [] → ⊥
-  by_name true b e f bad =
-      let is : bytes_eq (45 ∷ 45 ∷ codes "expand-let-bindings") expand_lets ≡ false = subst (λ t. bytes_eq (45 ∷ 45 ∷ t) expand_lets ≡ false) (sym (same_bytes (codes "expand-let-bindings") (x ∷ r) e)) no_expand in absurd (true≢false is)
-  by_name false true e f bad =
-      let is : bytes_eq (45 ∷ 45 ∷ codes "ignore-unknown-rules") ignore_unknown ≡ false = subst (λ t. bytes_eq (45 ∷ 45 ∷ t) ignore_unknown ≡ false) (sym (same_bytes (codes "ignore-unknown-rules") (x ∷ r) f)) no_ignore in absurd (true≢false is)
-  by_name false false e f bad = no_cons _ _ bad
+-- the option by its name, where there is one
+abbrev option_named : Bool → Bool → Bool → Option Rule
+option_named a b c = cond (a || false) (Some expand_rule) (cond (b || false) (Some ignore_rule) (cond (c || false) (Some strict_rule) None))
 
-  with_value : (v : Text) (a b : Bool) → long_fault rules false (cond (a || false) (Some expand_rule) (cond (b || false) (Some ignore_rule) None)) (Some v) h ≡ [] → ⊥
-  with_value v true b bad = no_cons _ _ bad
-  with_value v false true bad = no_cons _ _ bad
-  with_value v false false bad = no_cons _ _ bad
+-- a word that names an option is that option
+names_one : (name word : Text) → bytes_eq (45 ∷ 45 ∷ name) (45 ∷ 45 ∷ name) ≡ true → bytes_eq name word ≡ true
+    → bytes_eq (45 ∷ 45 ∷ word) (45 ∷ 45 ∷ name) ≡ false → ⊥
+names_one name word same e other =
+    let is : bytes_eq (45 ∷ 45 ∷ name) (45 ∷ 45 ∷ name) ≡ false =
+    subst (λ t. bytes_eq (45 ∷ 45 ∷ t) (45 ∷ 45 ∷ name) ≡ false) (sym (same_bytes name word e)) other in
+    true≢false (sym same ∙ is)
+
+-- a long option with a value, or by another name, is refused
+module _ (x : ℕ) (r : Text) (h : Held) (none : IsNoOption (45 ∷ 45 ∷ x ∷ r)) where
+  by_name : (a b c : Bool) → bytes_eq (codes "expand-let-bindings") (x ∷ r) ≡ a → bytes_eq (codes "ignore-unknown-rules") (x ∷ r) ≡ b
+      → bytes_eq (codes "strict") (x ∷ r) ≡ c → long_fault rules false (option_named a b c) None h ≡ [] → ⊥
+  by_name true b c e f g bad = names_one (codes "expand-let-bindings") (x ∷ r) refl e none.expand
+  by_name false true c e f g bad = names_one (codes "ignore-unknown-rules") (x ∷ r) refl f none.ignore
+  by_name false false true e f g bad = names_one (codes "strict") (x ∷ r) refl g none.strict
+  by_name false false false e f g bad = no_cons _ _ bad
+
+  with_value : (v : Text) (a b c : Bool) → long_fault rules false (option_named a b c) (Some v) h ≡ [] → ⊥
+  with_value v true b c bad = no_cons _ _ bad
+  with_value v false true c bad = no_cons _ _ bad
+  with_value v false false true bad = no_cons _ _ bad
+  with_value v false false false bad = no_cons _ _ bad
 
   pub no_long : long_fault rules false (arg_by_long rules (name_and_value (x ∷ r)).0) (name_and_value (x ∷ r)).1 h ≡ [] → ⊥
   no_long = go (has_byte 61 (x ∷ r)) refl
     where
-      go : (b : Bool) → has_byte 61 (x ∷ r) ≡ b → long_fault rules false (arg_by_long rules (before_first (λ y. y == 61) (x ∷ r))) (if b then Some (after_first (λ y. y == 61) (x ∷ r)) else None) h ≡ [] → ⊥
-      go true e bad = with_value _ _ _ bad
-      go false e bad = by_name _ _ refl refl (rw (no_equals (x ∷ r) e) at bad)
+      go : (b : Bool) → has_byte 61 (x ∷ r) ≡ b
+          → long_fault rules false (arg_by_long rules (before_first (λ y. y == 61) (x ∷ r)))
+          (if b then Some (after_first (λ y. y == 61) (x ∷ r)) else None) h ≡ [] → ⊥
+      go true e bad = with_value _ _ _ _ bad
+      go false e bad = by_name _ _ _ refl refl refl (rw (no_equals (x ∷ r) e) at bad)
 
 -- a word of the form of an option is refused where no long option takes it
 module _ (c : List Rule) (none_short : (x : ℕ) → arg_by_short c x ≡ None) (h : Held) (skip : h.skip ≡ 0) where
@@ -154,10 +176,10 @@ module _ (c : List Rule) (none_short : (x : ℕ) → arg_by_short c x ≡ None) 
       go true true e d word f u long bad = longer (eqb-true b 45 e) (eqb-true x 45 d) word f long bad
 
 -- behind `check`
-pub strange_faults : (word : Text) (h : Held) → h.skip ≡ 0 → IsUtf8 word → IsFlag word → bytes_eq word expand_lets ≡ false → bytes_eq word ignore_unknown ≡ false
+pub strange_faults : (word : Text) (h : Held) → h.skip ≡ 0 → IsUtf8 word → IsFlag word → IsNoOption word
     → flag_word_fault rules false (long_of word) word h ≡ [] → ⊥
-strange_faults word h skip u f no_expand no_ignore bad =
-    flag_faults rules (λ x. refl) h skip word f u (λ x r e k. no_long x r h (rw e at no_expand) (rw e at no_ignore) k) bad
+strange_faults word h skip u f none bad =
+    flag_faults rules (λ x. refl) h skip word f u (λ x r e k. no_long x r h (subst IsNoOption e none) k) bad
 
 -- in place of `check`
 pub first_faults : (word : Text) (h : Held) → h.skip ≡ 0 → IsUtf8 word → IsFlag word → flag_word_fault [] false (long_of word) word h ≡ [] → ⊥

@@ -1,4 +1,4 @@
--- What the getters of `clap`'s matches answer.
+-- What the getters of `clap`'s matches return.
 use Rattle.std.proofs.Common.{◌≡◌, ◌∙◌, ap, refl, Bool, true, false, List, Option, Some}
 use Rattle.std.proofs.lemmas.Option.{same_Some}
 use Rattle.std.specs.Prelude.{codes, option_map}
@@ -22,6 +22,7 @@ by_text false t r is said other = other is
 pub flag_is : (f : Found) (id : Text) (rows : List Row) (b r : Bool) → rows_of f ≡ rows → one_of id rows ≡ Some (flag_text b) → (one_text f id ≡ Some (codes "true") → r ≡ true) → (one_text f id ≡ Some (codes "false") → r ≡ false) → r ≡ b
 flag_is f id rows b r is there said other = by_text b (one_text f id) r (one_text-rows f id ∙ ap (one_of id) is ∙ there) said other
 
-pub asked_is : (p q : Text) (e i : Bool) (a : Asked) → Some p ≡ Some a.proof → Some q ≡ Some a.problem → e ≡ a.options.replaces_lets → i ≡ a.options.ignores_unknown_rules
-    → Some (record { proof = p; problem = q; options = record { replaces_lets = e; ignores_unknown_rules = i } }) ≡ Some a
-asked_is p q e i a proof problem lets unknown = rw (same_Some p a.proof proof, same_Some q a.problem problem, lets, unknown) refl
+pub asked_is : (p q : Text) (e i s : Bool) (a : Asked) → Some p ≡ Some a.proof → Some q ≡ Some a.problem
+    → e ≡ a.options.replaces_lets → i ≡ a.options.ignores_unknown_rules → s ≡ a.options.is_strict
+    → Some (record { proof = p; problem = q; options = record { replaces_lets = e; ignores_unknown_rules = i; is_strict = s } }) ≡ Some a
+asked_is p q e i s a proof problem lets unknown strict = rw (same_Some p a.proof proof, same_Some q a.problem problem, lets, unknown, strict) refl

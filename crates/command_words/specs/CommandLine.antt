@@ -1,7 +1,8 @@
 -- Public. What the words of a command line ask for (POSIX.1-2017, Base Definitions, "Utility Syntax Guidelines"). The
 -- first word is the command, and behind it stand operands and options, in any order. The first `--` ends the options:
 -- every word behind it is an operand.
-use Rattle.std.specs.Prelude.{ℕ, List, [], ◌∷◌, ◌++◌, Bool, true, not, ◌&&◌, ◌||◌, if◌then◌else◌, Option, None, Some, nat_eq, bytes_eq, codes, drop, filter, take_while}
+use Rattle.std.specs.Prelude.{ℕ, List, [], ◌∷◌, ◌++◌, Bool, true, not, ◌&&◌, ◌||◌, if◌then◌else◌, Option, None, Some, nat_eq, bytes_eq, codes, drop, filter}
+use Rattle.std.specs.Prelude.{take_while}
 use Rattle.std.specs.List.{list_any, prefix_len}
 use Rattle.command_words.specs.declared.request.Options.{Options}
 
@@ -42,15 +43,18 @@ operands_of words = filter is_operand (before_end words) ++ behind_end words
 abbrev pub options_of : List Word → List Word
 options_of words = filter is_option (before_end words)
 
--- the options of a check: that lets are replaced, and that steps by unknown rules are holes
+-- the options of a check: that lets are replaced, that steps by unknown rules are holes, and that conditions are strict
 abbrev pub expand_lets : Word
 expand_lets = codes "--expand-let-bindings"
 
 abbrev pub ignore_unknown : Word
 ignore_unknown = codes "--ignore-unknown-rules"
 
+abbrev pub be_strict : Word
+be_strict = codes "--strict"
+
 abbrev pub is_known : Word → Bool
-is_known word = bytes_eq word expand_lets || bytes_eq word ignore_unknown
+is_known word = bytes_eq word expand_lets || (bytes_eq word ignore_unknown || bytes_eq word be_strict)
 
 abbrev pub is_among : Word → List Word → Bool
 is_among word words = list_any (λ other. bytes_eq other word) words
@@ -64,7 +68,11 @@ are_known_once (word ∷ words) = is_known word && (not (is_among word words) &&
 abbrev pub options_by : List Word → Option Options
 options_by words =
     if are_known_once words
-    then Some (record { replaces_lets = is_among expand_lets words; ignores_unknown_rules = is_among ignore_unknown words })
+    then Some (record {
+      replaces_lets = is_among expand_lets words;
+      ignores_unknown_rules = is_among ignore_unknown words;
+      is_strict = is_among be_strict words;
+    })
     else None
 
 -- the operands are the proof and the problem, in this order

@@ -15,3 +15,4 @@ pub record IsReadFrom (a : Asked) (subcommand : Option (Text × List Row)) : Typ
   pub problem : first_of (codes "problem") rows ≡ Some a.problem
   pub expand : one_of (codes "expand") rows ≡ Some (flag_text a.options.replaces_lets)
   pub ignore : one_of (codes "ignore") rows ≡ Some (flag_text a.options.ignores_unknown_rules)
+  pub strict : one_of (codes "strict") rows ≡ Some (flag_text a.options.is_strict)

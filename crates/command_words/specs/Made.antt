@@ -1,4 +1,4 @@
--- Private. The command line as it is made for `clap`: one subcommand, with two operands and two options.
+-- Private. The command line as it is made for `clap`: one subcommand, with two operands and three options.
 use Rattle.std.specs.Prelude.{◌≡◌, Some, false, true, codes}
 use Rattle.clap.specs.Walk.{Rule, Text}
 use Rattle.clap.specs.Simple.{App, app_of, new_rule, new_shape, new_app, with_rule, with_subcommand}
@@ -24,8 +24,15 @@ made_expand = made_flag (codes "expand") (codes "expand-let-bindings")
 abbrev pub made_ignore : Rule
 made_ignore = made_flag (codes "ignore") (codes "ignore-unknown-rules")
 
+abbrev pub made_strict : Rule
+made_strict = made_flag (codes "strict") (codes "strict")
+
+-- the command with its operands
+abbrev pub made_operands : App
+made_operands = with_rule (with_rule (new_app (codes "check")) made_proof) made_problem
+
 abbrev pub made_check : App
-made_check = with_rule (with_rule (with_rule (with_rule (new_app (codes "check")) made_proof) made_problem) made_expand) made_ignore
+made_check = with_rule (with_rule (with_rule made_operands made_expand) made_ignore) made_strict
 
 pub record IsMadeCheck (c : Command) : Type 0 where
   pub shape : app_of c ≡ made_check

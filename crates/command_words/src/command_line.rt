@@ -28,7 +28,7 @@ fn flag<'a>(alloc: Global, id: &'a str, name: &'a str) -> Arg<'a>
     Arg::new(alloc, id).long(name).action(ArgAction::SetTrue)
 }
 
-/// The command `check`, with two operands and two options.
+/// The command `check`, with two operands and three options.
 fn check_command<'a>(alloc: Global) -> Result<Command<'a>, AllocError>
     ensures { IfOk result IsMadeCheck }
 {
@@ -36,7 +36,8 @@ fn check_command<'a>(alloc: Global) -> Result<Command<'a>, AllocError>
         .arg(operand(alloc, "proof"))?
         .arg(operand(alloc, "problem"))?
         .arg(flag(alloc, "expand", "expand-let-bindings"))?
-        .arg(flag(alloc, "ignore", "ignore-unknown-rules"))
+        .arg(flag(alloc, "ignore", "ignore-unknown-rules"))?
+        .arg(flag(alloc, "strict", "strict"))
 }
 
 /// The command line: one subcommand, and no help.
@@ -68,6 +69,7 @@ fn request_of<'a>(matches: &ArgMatches<'a>) -> Option<Request<'a>>
     let options = Options {
         replaces_lets: check.get_flag("expand"),
         ignores_unknown_rules: check.get_flag("ignore"),
+        is_strict: check.get_flag("strict"),
     };
     Some(Request {
         proof,
@@ -76,7 +78,7 @@ fn request_of<'a>(matches: &ArgMatches<'a>) -> Option<Request<'a>>
     })
 }
 
-/// The answer to words that were refused: they ask for nothing, or memory was wanting.
+/// The answer to words that were refused: they ask for nothing, or memory ran out.
 fn refused<'a>(kind: ErrorKind) -> Result<Option<Request<'a>>, AllocError>
     ensures { IfOk result (λ r. (told_of r ≡ None) × (kind ≢ ErrorKind.OutOfMemory)) }
 {
@@ -88,9 +90,9 @@ fn refused<'a>(kind: ErrorKind) -> Result<Option<Request<'a>>, AllocError>
 
 /// What the words of a command line ask for, where they spell a command (POSIX.1-2017, Base
 /// Definitions, "Utility Syntax Guidelines"): `check PROOF PROBLEM`, and in any place behind `check` the options
-/// `--expand-let-bindings` and `--ignore-unknown-rules`, each once at most. A `--` ends the options.
+/// `--expand-let-bindings`, `--ignore-unknown-rules` and `--strict`, each once at most. A `--` ends the options.
 ///
-/// `words` are those of the command line without the program's name. An error is want of memory.
+/// `words` are those of the command line without the program's name. An error means out of memory.
 pub fn asked_of<'a>(alloc: Global, words: &'a [String]) -> Result<Option<Request<'a>>, AllocError>
     ensures { IfOk result (λ r. told_of r ≡ asked_of (map string_bytes words.now)) }
 {

@@ -7,6 +7,8 @@ pub struct Options {
     pub replaces_lets: bool,
     /// Whether a step by an unknown rule is a hole, and not faulty.
     pub ignores_unknown_rules: bool,
+    /// Whether each step is judged by the strict condition of its rule.
+    pub is_strict: bool,
 }
 
 /// A check of the proof at one path against the problem at another.

@@ -41,7 +41,7 @@ split p parts r P (cell a b) known shape high = record { first = a; second = b; 
 pub spot_cell : (p : PassView) → HasPartsOfTrees p → (lists : Lists) (place : Place) → IsSpot p lists place → IsKnownCell p (reference_of place)
 spot_cell p parts lists place h = is_cell p parts (reference_of place) h.tree h.known h.high
 
--- what a look finds is what the place becomes
+-- what a look-up finds is what the place becomes
 pub image_known : (p : PassView) (images : Images) (f : ℕ → Tree) → AreImages p images f → (hidden : List ℕ) (k : ℕ) → Knows p k (leaf k) → Knows p (image_of_leaf images hidden k) (image f hidden k)
 image_known p images f are hidden k itself = go (list_any (nat_eq k) hidden) (get nat_eq images k) (are k)
   where
@@ -70,7 +70,7 @@ looked p one parts images lists memo f are right place found d low high e (cell 
 low_or_high : (r : ℕ) → (r < 2 ^ 30) ⊎ (2 ^ 30 ≤ r)
 low_or_high r = grind arith
 
--- a look that finds nothing was at a cell that is not remembered
+-- a look-up that finds nothing was at a cell that is not remembered
 pub unseen_high : (r : ℕ) (found : Option ℕ) (d : ℕ) → (r < 2 ^ 30 → found ≡ Some d) → found ≡ None → 2 ^ 30 ≤ r
 unseen_high r found d low e = go (low_or_high r)
   where

@@ -37,7 +37,7 @@ abbrev mutual
 abbrev pub Images : Type 0
 Images = HashMap ℕ ℕ (BuildHasherDefault FoldHasher)
 
--- what is put in for a leaf, by a look into the map
+-- what is put in for a leaf, by a look-up in the map
 abbrev pub Look : Type 0
 Look = ℕ → Option ℕ
 

@@ -7,7 +7,7 @@ use Rattle.contexts.specs.Firsts.{first_for}
 use Rattle.contexts.specs.Places.{IsWalked}
 use Rattle.contexts.specs.PutIn.{joined}
 
--- The list has leaves, each with what was put in for it before. Put back from its end, they turn the one look into the
+-- The list has leaves, each with what was put in for it before. Put back from its end, they turn the one look-up into the
 -- other; and what is put back over something finds something there.
 abbrev pub PutsBack : List (ℕ × Option ℕ) → Look → Look → Type 0
 PutsBack [] now before = (k : ℕ) → now k ≡ before k

@@ -113,7 +113,8 @@ pub record Visits (old new : PassView) (images : Images) (before after : Lists) 
       IfOk result (λ v. (f : ℕ → Tree) → AreImages old images f → IsMemory old f before memo → HasDone old new f before place v)
   pub placed : (f : ℕ → Tree) → AreImages old images f → IsMemory old f before memo → PlacesImage old new f before place
   pub full :
-      IfErr result (λ e. e ≡ TermStop.PoolFull → (f : ℕ → Tree) → AreImages old images f → IsMemory old f before memo → LacksRoomForImage old new f before place)
+      IfErr result (λ e. e ≡ TermStop.PoolFull → (f : ℕ → Tree) → AreImages old images f → IsMemory old f before memo →
+      LacksRoomForImage old new f before place)
 
 -- the head of the cell r is that of a let, or it is not
 abbrev pub HasLetHead : PassView → ℕ → Bool → Type 0

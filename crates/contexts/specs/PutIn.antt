@@ -1,4 +1,4 @@
--- Public. What `put_in` takes, answers and places.
+-- Public. What `put_in` takes, returns and places.
 use Rattle.std.specs.Prelude.{ℕ, List, [], ◌∷◌, ◌++◌}
 use Rattle.std.specs.List.{AllZip}
 use Rattle.rule_model.specs.Replacement.{Replacement}

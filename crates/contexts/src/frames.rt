@@ -44,7 +44,8 @@ pub(crate) fn put_all(
     before: &mut Vec<(u32, Option<Ref>)>,
 ) -> Result<(), Memory>
     ensures back { (outer : Look) → PutsBack before.old.items (look_of images.old) outer → PutsBack before.new.items (look_of images.new) outer }
-    ensures put { OnOk result ((outer : List (ℕ × ℕ)) → ((k : ℕ) → look_of images.old k ≡ first_for outer k) → (k : ℕ) → look_of images.new k ≡ first_for (bindings.now ++ outer) k) }
+    ensures put { OnOk result ((outer : List (ℕ × ℕ)) → ((k : ℕ) → look_of images.old k ≡ first_for outer k) → (k : ℕ) →
+        look_of images.new k ≡ first_for (bindings.now ++ outer) k) }
 {
     let mut at = bindings.len();
     'bindings: while at > 0 {

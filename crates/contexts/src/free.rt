@@ -26,7 +26,7 @@ const ROOM: usize = 16;
 /// Of a leaf that is no variable's it says nothing.
 ///
 /// Opens each distinct cell of the term at most once, but for the first few that it opens, and takes memory for each. It
-/// places no cell. Refuses want of memory alone.
+/// places no cell. Refuses only when out of memory.
 pub fn free_in(
     alloc: Global,
     symbols: &Symbols,
@@ -35,7 +35,8 @@ pub fn free_in(
     r: Ref,
 ) -> Result<bool, Memory>
     requires { IsTerm symbols.now terms.old r }
-    ensures exact { IfOk result (λ yes. (x : Var) (t : Term) → IsLeaf symbols.now var (variable_leaf x) → RefersTo symbols.now terms.old r t → IsTrue yes ↔ IsFree x t) }
+    ensures exact { IfOk result (λ yes. (x : Var) (t : Term) → IsLeaf symbols.now var (variable_leaf x) → RefersTo symbols.now terms.old r t →
+        IsTrue yes ↔ IsFree x t) }
     ensures same { terms.new ≡ terms.old }
 {
     let _leaves = symbols.count();

@@ -95,7 +95,8 @@ pub(crate) fn under_let(
     requires layer { layer < length layers.old.lists.items }
     requires list { IsBindingList terms.old.pass list }
     requires body { IsShaped terms.old.pass body }
-    ensures hides { IfOk result (λ under. Hides terms.old.pass images.now (shadowed layers.old.lists.items layer) list body (shadowed layers.new.lists.items under)) }
+    ensures hides { IfOk result (λ under. Hides terms.old.pass images.now (shadowed layers.old.lists.items layer) list body
+        (shadowed layers.new.lists.items under)) }
     ensures inside { IfOk result (λ under. under < length layers.new.lists.items) }
     ensures keeps { KeepsLayers layers.old.lists.items layers.new.lists.items }
     ensures same { terms.new ≡ terms.old }

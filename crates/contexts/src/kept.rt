@@ -57,7 +57,7 @@ impl Substitution {
     /// Enters a frame in which the second part of each binding is put in for its first part, the leaf of a variable, and
     /// else what was put in before. Of two for one leaf the first counts. Nothing is remembered there yet.
     ///
-    /// Refuses want of memory alone, and has entered nothing then.
+    /// Refuses only when out of memory, and has entered nothing then.
     pub fn enter(
         &mut self,
         bindings: Vec<(u32, Ref)>,
@@ -108,7 +108,7 @@ impl Substitution {
     ///
     /// A cell is not gone through again that was gone through in this frame before, so over all calls in a frame it costs
     /// what one call would that goes through all the terms. Refuses where the pool had no room for a cell of the answer,
-    /// and for want of memory; what was gone through before a refusal stays remembered.
+    /// and when out of memory; what was gone through before a refusal stays remembered.
     pub fn put_in(
         &mut self,
         symbols: &Symbols,
@@ -118,11 +118,14 @@ impl Substitution {
         requires term { IsTerm symbols.now terms.old r }
         requires bindings { AreReplacementBy symbols.now terms.old (all_bindings self.old) }
         requires right { IsRight terms.old self.old }
-        ensures term { IfOk result (λ i. (t : Term) (q : Replacement) → RefersTo symbols.now terms.old r t → StandForReplacement symbols.now terms.old (all_bindings self.old) q → RefersTo symbols.now terms.new i (put_in q t)) }
+        ensures term { IfOk result (λ i. (t : Term) (q : Replacement) → RefersTo symbols.now terms.old r t →
+            StandForReplacement symbols.now terms.old (all_bindings self.old) q → RefersTo symbols.now terms.new i (put_in q t)) }
 
-        // It places only cells of its answer, and is refused for want of room for one.
-        ensures placed { (t : Term) (q : Replacement) → RefersTo symbols.now terms.old r t → StandForReplacement symbols.now terms.old (all_bindings self.old) q → PlacesTerm symbols.now terms.old.pass terms.new.pass (put_in q t) }
-        ensures full { IfErr result (λ e. e ≡ TermStop.PoolFull → (t : Term) (q : Replacement) → RefersTo symbols.now terms.old r t → StandForReplacement symbols.now terms.old (all_bindings self.old) q → LacksRoomFor symbols.now terms.new.pass (put_in q t)) }
+        // It places only cells of its answer, and is refused for lack of room for one.
+        ensures placed { (t : Term) (q : Replacement) → RefersTo symbols.now terms.old r t →
+            StandForReplacement symbols.now terms.old (all_bindings self.old) q → PlacesTerm symbols.now terms.old.pass terms.new.pass (put_in q t) }
+        ensures full { IfErr result (λ e. e ≡ TermStop.PoolFull → (t : Term) (q : Replacement) → RefersTo symbols.now terms.old r t →
+            StandForReplacement symbols.now terms.old (all_bindings self.old) q → LacksRoomFor symbols.now terms.new.pass (put_in q t)) }
         ensures known { IfOk result (IsKnown terms.new.pass) }
         ensures keeps { KeepsTerms terms.old terms.new }
         ensures right { IsRight terms.new self.new }
@@ -138,8 +141,10 @@ impl Substitution {
     /// One look-up, which takes no memory and places no cell.
     pub fn image(&self, symbols: &Symbols, variable: u32) -> Option<Ref>
         requires { IsRightForSome self.now }
-        ensures image { (v : TermsView) (x : Var) (q : Replacement) → IsLeaf symbols.now variable (variable_leaf x) → StandForReplacement symbols.now v (all_bindings self.now) q → IfSome result (λ r. RefersTo symbols.now v r (replaced_by q x)) }
-        ensures replaced { (v : TermsView) (x : Var) (q : Replacement) → IsLeaf symbols.now variable (variable_leaf x) → StandForReplacement symbols.now v (all_bindings self.now) q → IsSome result ↔ Replaces q x }
+        ensures image { (v : TermsView) (x : Var) (q : Replacement) → IsLeaf symbols.now variable (variable_leaf x) →
+            StandForReplacement symbols.now v (all_bindings self.now) q → IfSome result (λ r. RefersTo symbols.now v r (replaced_by q x)) }
+        ensures replaced { (v : TermsView) (x : Var) (q : Replacement) → IsLeaf symbols.now variable (variable_leaf x) →
+            StandForReplacement symbols.now v (all_bindings self.now) q → IsSome result ↔ Replaces q x }
     {
         let _leaves = symbols.count();
         self.images.get(&variable).copied()

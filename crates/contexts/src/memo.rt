@@ -1,7 +1,8 @@
 //! What is remembered of the places that were walked over.
 
 ghost use Rattle.std.specs.Prelude.{◌≡◌, ◌≢◌, ◌+◌, ◌-◌, ◌<◌, ◌≤◌, ◌^◌, ℕ, Some, None, IfOk, OnErr, OnOk, length};
-ghost use Rattle.contexts.specs.Remembering.{found_at_slot, if_cell, is_bare, memory_size, reference_of, remembered, FindsNoMore, IsCopy, Remembers, RemembersNoMore};
+ghost use Rattle.contexts.specs.Remembering.{found_at_slot, if_cell, is_bare, memory_size, reference_of, remembered, FindsNoMore, IsCopy, Remembers};
+ghost use Rattle.contexts.specs.Remembering.{RemembersNoMore};
 ghost use Rattle.contexts.specs.declared.places.Place.{Place};
 
 use crate::places::Place;
@@ -18,7 +19,7 @@ const MANY: usize = 16;
 /// What places have become.
 ///
 /// Most are those of cells under no let that hides a variable. Where few of them are remembered, they stand in a map, and
-/// from one for 16 slots of the pool on in a vector with 4 bytes for each slot, where a look is several times faster and the
+/// from one for 16 slots of the pool on in a vector with 4 bytes for each slot, where a look-up is several times faster and the
 /// memory that it touches a few times less. Its size goes by the greatest slot that was met, since the pool scatters its
 /// cells; so it has at most 128 bytes for each cell that is remembered. All other places stand in a map.
 #[derive(Drop)]

@@ -156,9 +156,12 @@ pub(crate) fn put(
 ) -> Result<Ref, TermStop>
     requires shaped { IsShaped terms.old.pass r }
     requires walked { IsWalked terms.old.pass (look_of images.now) walked.old.layers.lists.items walked.old.memo }
-    ensures image { IfOk result (λ i. (f : ℕ → Tree) (t : Tree) → AreImages terms.old.pass images.now f → Knows terms.old.pass r t → Knows terms.new.pass i (becomes f [] t)) }
-    ensures placed { (f : ℕ → Tree) (t : Tree) → AreImages terms.old.pass images.now f → Knows terms.old.pass r t → PlacesOnlyIn terms.old.pass terms.new.pass (becomes f [] t) }
-    ensures full { IfErr result (λ e. e ≡ TermStop.PoolFull → (f : ℕ → Tree) (t : Tree) → AreImages terms.old.pass images.now f → Knows terms.old.pass r t → IsFullIn terms.new.pass (becomes f [] t)) }
+    ensures image { IfOk result (λ i. (f : ℕ → Tree) (t : Tree) → AreImages terms.old.pass images.now f → Knows terms.old.pass r t →
+        Knows terms.new.pass i (becomes f [] t)) }
+    ensures placed { (f : ℕ → Tree) (t : Tree) → AreImages terms.old.pass images.now f → Knows terms.old.pass r t →
+        PlacesOnlyIn terms.old.pass terms.new.pass (becomes f [] t) }
+    ensures full { IfErr result (λ e. e ≡ TermStop.PoolFull → (f : ℕ → Tree) (t : Tree) → AreImages terms.old.pass images.now f → Knows terms.old.pass r t →
+        IsFullIn terms.new.pass (becomes f [] t)) }
     ensures walked { IsWalked terms.new.pass (look_of images.now) walked.new.layers.lists.items walked.new.memo }
     ensures keeps { KeepsTerms terms.old terms.new }
 {

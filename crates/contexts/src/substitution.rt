@@ -50,7 +50,7 @@ pub(crate) fn images_of(alloc: Global, bindings: &[(u32, Ref)]) -> Result<HashMa
 /// Each distinct cell is gone through once for each list of these variables that lets around it hide, and once where no let
 /// binds one of them; a list has only what stands free in the body of the let where it begins. At a let that binds one, its
 /// body is searched for each variable that is hidden there. Loads a cell at most three times each time, and takes memory for
-/// each. Takes no stack. Refuses where the pool had no room for a cell of the answer, and for want of memory.
+/// each. Takes no stack. Refuses where the pool had no room for a cell of the answer, and when out of memory.
 pub fn put_in(
     alloc: Global,
     bindings: &[(u32, Ref)],
@@ -60,11 +60,14 @@ pub fn put_in(
 ) -> Result<Ref, TermStop>
     requires term { IsTerm symbols.now terms.old r }
     requires bindings { AreReplacementBy symbols.now terms.old bindings.now }
-    ensures term { IfOk result (λ i. (t : Term) (q : Replacement) → RefersTo symbols.now terms.old r t → StandForReplacement symbols.now terms.old bindings.now q → RefersTo symbols.now terms.new i (put_in q t)) }
+    ensures term { IfOk result (λ i. (t : Term) (q : Replacement) → RefersTo symbols.now terms.old r t →
+        StandForReplacement symbols.now terms.old bindings.now q → RefersTo symbols.now terms.new i (put_in q t)) }
 
-    // It places only cells of its answer, and is refused for want of room for one.
-    ensures placed { (t : Term) (q : Replacement) → RefersTo symbols.now terms.old r t → StandForReplacement symbols.now terms.old bindings.now q → PlacesTerm symbols.now terms.old.pass terms.new.pass (put_in q t) }
-    ensures full { IfErr result (λ e. e ≡ TermStop.PoolFull → (t : Term) (q : Replacement) → RefersTo symbols.now terms.old r t → StandForReplacement symbols.now terms.old bindings.now q → LacksRoomFor symbols.now terms.new.pass (put_in q t)) }
+    // It places only cells of its answer, and is refused for lack of room for one.
+    ensures placed { (t : Term) (q : Replacement) → RefersTo symbols.now terms.old r t → StandForReplacement symbols.now terms.old bindings.now q →
+        PlacesTerm symbols.now terms.old.pass terms.new.pass (put_in q t) }
+    ensures full { IfErr result (λ e. e ≡ TermStop.PoolFull → (t : Term) (q : Replacement) → RefersTo symbols.now terms.old r t →
+        StandForReplacement symbols.now terms.old bindings.now q → LacksRoomFor symbols.now terms.new.pass (put_in q t)) }
     ensures known { IfOk result (IsKnown terms.new.pass) }
     ensures keeps { KeepsTerms terms.old terms.new }
 {

@@ -21,7 +21,8 @@ pub(crate) struct Walked {
 impl Walked {
     /// Nothing was walked over yet.
     pub(crate) fn new(alloc: Global) -> Result<Walked, Memory>
-        ensures { IfOk result (λ walked. (pass : PassView) (put : Look) (f : ℕ → Tree) → ((k : ℕ) → IsImageAt pass (put k) k (f k)) → IsWalked pass put walked.layers.lists.items walked.memo) }
+        ensures { IfOk result (λ walked. (pass : PassView) (put : Look) (f : ℕ → Tree) → ((k : ℕ) → IsImageAt pass (put k) k (f k)) →
+            IsWalked pass put walked.layers.lists.items walked.memo) }
     {
         let layers = Layers::new(alloc)?;
         Ok(Walked {

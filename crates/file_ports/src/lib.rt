@@ -1,7 +1,7 @@
 //! The outside of the checker: where it asks for files, where it writes, and where it passes from one chunk of work to
 //! the next.
 //!
-//! - `ports`: the traits `Folder`, `Sink` and `Gate`, and what their calls answer.
+//! - `ports`: the traits `Folder`, `Sink` and `Gate`, and what their calls return.
 //! - `whole`: reading a whole file of any folder, and writing a whole text to any sink.
 //! - `memory_folder`, `steady_folder`, `memory_sink`: objects in memory, which tell their bytes. They stand on `pieces`
 //!   (reading bytes piece by piece) and `schedule` (which calls are told to fail).

@@ -1,5 +1,6 @@
 // A folder in memory, which can be told to fail.
-ghost use Rattle.std.specs.Prelude.{◌≡◌, ◌≢◌, ◌⊎◌, ◌↔◌, ◌<◌, ◌≤◌, ◌∷◌, ◌++◌, [], List, ℕ, length, vec_len, min, take, slice_get, All, Some, None, IfOk, IfSome, IfNone, IsErrOf, IsErr, OnOk, OnErr};
+ghost use Rattle.std.specs.Prelude.{◌≡◌, ◌≢◌, ◌⊎◌, ◌↔◌, ◌<◌, ◌≤◌, ◌∷◌, ◌++◌, [], List, ℕ, length, vec_len, min, take, slice_get, All, Some, None, IfOk};
+ghost use Rattle.std.specs.Prelude.{IfSome, IfNone, IsErrOf, IsErr, OnOk, OnErr};
 ghost use Rattle.std.specs.Io.{ReadsAtMost};
 ghost use Rattle.std.specs.Io.KnownBytes.{ReadConsumes, Consumes, IsAtEnd};
 ghost use Rattle.file_ports.specs.Faults.{greatest_count, HasRisen};

@@ -10,7 +10,7 @@ use std::alloc::{AllocError, AllocFailed};
 #[derive(Clone, Copy, Debug, PartialEq, Eq)]
 pub struct Failed;
 
-/// Why a call to the outside gave nothing: a fault of the outside, or want of memory in the object itself.
+/// Why a call to the outside gave nothing: a fault of the outside, or out of memory in the object itself.
 #[derive(Clone, Copy, Debug, PartialEq, Eq)]
 pub enum OutStop {
     Failed,
@@ -49,7 +49,7 @@ pub trait Folder {
     /// What is left to read of the file with this number, where the folder tells it.
     ghost left: { Self → ℕ → Option (List ℕ) };
 
-    /// This folder answered the number to an `open`.
+    /// This folder returned the number to an `open`.
     ghost is_open: { Self → ℕ → Type 0 };
 
     /// The path may be asked for.
@@ -58,7 +58,7 @@ pub trait Folder {
     /// The count of faults.
     ghost faults: { Self → ℕ };
 
-    /// Opens a file at its beginning, and answers its number.
+    /// Opens a file at its beginning, and returns its number.
     fn open(&mut self, path: &str) -> Result<FileNo, OutStop>
         requires { may_ask self.old path.now }
 
@@ -76,7 +76,7 @@ pub trait Folder {
         ensures limit { faults self.new ≤ greatest_count }
         ensures failed { IsErrOf result OutStop.Failed → HasRisen (faults self.old) (faults self.new) };
 
-    /// Reads the next bytes of an open file into the front of a piece, and answers how many they are.
+    /// Reads the next bytes of an open file into the front of a piece, and returns how many they are.
     /// At a piece that is not empty, 0 is the end of the file.
     fn read(&mut self, file: FileNo, into: &mut [u8]) -> Result<usize, Failed>
         requires { is_open self.old file.0 }
@@ -104,7 +104,7 @@ pub trait Sink {
     /// The count of faults.
     ghost faults: { Self → ℕ };
 
-    /// Writes the beginning of a piece, and answers how many bytes it took. An error takes none.
+    /// Writes the beginning of a piece, and returns how many bytes it took. An error takes none.
     /// No byte taken of a piece that is not empty is a failed write, and raises the count as one.
     fn write(&mut self, piece: &[u8]) -> Result<usize, OutStop>
         ensures bound { WritesAtMost result piece.now }

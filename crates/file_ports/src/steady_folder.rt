@@ -1,5 +1,6 @@
 // A folder of two texts in memory, which never fails.
-ghost use Rattle.std.specs.Prelude.{◌≡◌, ◌≢◌, ◌↔◌, ◌<◌, ◌≤◌, ◌+◌, ◌-◌, List, [], ℕ, length, min, take, drop, Ok, Some, None, IfOk, IfSome, IsOk, IsErrOf, OnErr};
+ghost use Rattle.std.specs.Prelude.{◌≡◌, ◌≢◌, ◌↔◌, ◌<◌, ◌≤◌, ◌+◌, ◌-◌, List, [], ℕ, length, min, take, drop, Ok, Some, None, IfOk, IfSome, IsOk, IsErrOf};
+ghost use Rattle.std.specs.Prelude.{OnErr};
 ghost use Rattle.std.specs.Io.{ReadsAtMost};
 ghost use Rattle.std.specs.Io.KnownBytes.{Consumes, ReadConsumes};
 ghost use Rattle.file_ports.specs.Faults.{greatest_count, HasRisen};

@@ -26,7 +26,7 @@ pub enum ReadStop {
     Fault,
     /// The file gave more than `MOST_BYTES` bytes.
     TooLong,
-    /// Want of memory, here or in the folder.
+    /// Out of memory, here or in the folder.
     Memory,
 }
 

@@ -102,6 +102,31 @@ module _ (s : Table) (v : TermsView) where
       let e = one_term s table left.tree t u (rw same_tree at right.stands) left.stands in
       rw e (itself u))
 
+  -- a term stands among the assertions exactly where its reference is one of theirs
+  module _ (same : (p q : ℕ) (t u : Term) → RefersTo s v p t → RefersTo s v q u → (p ≡ q) ↔ (t ≡ u)) (r : ℕ) (t : Term) (right : RefersTo s v r t) where
+    term_stands : (rs : List ℕ) (ts : List Term) → ReferToAll s v rs ts → Contains rs r → Contains ts t
+    term_stands [] ts refer there = absurd (contains_none r there)
+    term_stands (x ∷ rs) [] refer there = absurd refer
+    term_stands (x ∷ rs) (u ∷ ts) refer there =
+        elim (contains_cases x r rs there) [
+          | inl e ↦ subst (Contains (u ∷ ts)) ((same x r u t refer.0 right).0 e) (contains_head u ts)
+          | inr later ↦ contains_later u t ts (term_stands rs ts refer.1 later)
+        ]
+
+    reference_stands : (rs : List ℕ) (ts : List Term) → ReferToAll s v rs ts → Contains ts t → Contains rs r
+    reference_stands [] [] refer there = absurd (contains_none t there)
+    reference_stands [] (u ∷ ts) refer there = absurd refer
+    reference_stands (x ∷ rs) [] refer there = absurd refer
+    reference_stands (x ∷ rs) (u ∷ ts) refer there =
+        elim (contains_cases u t ts there) [
+          | inl e ↦ subst (Contains (x ∷ rs)) ((same x r u t refer.0 right).1 e) (contains_head x rs)
+          | inr later ↦ contains_later x r rs (reference_stands rs ts refer.1 later)
+        ]
+
+    pub as_it_stands : (references placed : List ℕ) → HasJust references placed → (ts : List Term) → ReferToAll s v references ts → Contains placed r ↔ Contains ts t
+    as_it_stands references placed just ts refer =
+        (λ there. term_stands references ts refer (just.only r there), λ h. just.each r (reference_stands references ts refer h))
+
 -- references stay known
 pub all_known_later : (p q : PassView) → Grows p q → (rs : List ℕ) → All (IsKnown p) rs → All (IsKnown q) rs
 all_known_later p q grows = All-weaker (IsKnown p) (IsKnown q) (λ r h. record { tree = h.tree; stands = grows r h.tree h.stands })

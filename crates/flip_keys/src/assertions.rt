@@ -85,7 +85,7 @@ fn number_all(
 impl Assertions {
     /// The assertions that these references stand for.
     ///
-    /// Takes time and memory in proportion to the number of references. It places no cell, and refuses want of memory alone.
+    /// Takes time and memory in proportion to the number of references. It places no cell, and refuses only when out of memory.
     pub fn new(
         alloc: Global,
         terms: &mut Terms<'_>,
@@ -134,7 +134,7 @@ impl Assertions {
     ///
     /// A term that is an assertion as it stands costs one look-up. The first other term costs also time and memory in
     /// proportion to the distinct cells of all assertions, and each other term those of its distinct cells that were in no
-    /// numbered term before it. It places no cell, and refuses want of memory alone.
+    /// numbered term before it. It places no cell, and refuses only when out of memory.
     pub fn is_asserted(
         &mut self,
         symbols: &Symbols,
@@ -157,5 +157,17 @@ impl Assertions {
         self.number_once(terms)?;
         let number = self.keys.number(self.alloc, terms, r)?;
         Ok(self.numbers.contains(&number))
+    }
+    /// Whether a term is an assertion as it stands, where the order of sides counts.
+    ///
+    /// It costs one look-up, takes no memory and places no cell.
+    pub fn has(&self, symbols: &Symbols, terms: &Terms<'_>, r: Ref) -> bool
+        requires { AreAssertionsReady terms.now self.now }
+        ensures { (ts : List Term) (t : Term) → ReferToAll symbols.now terms.now (references_of self.now) ts →
+            RefersTo symbols.now terms.now r t → IsTrue result ↔ Contains ts t }
+    {
+        let _leaves = symbols.count();
+        terms.equal_exactly_where_terms_are();
+        is_placed(&self.placed, r)
     }
 }

@@ -1,9 +1,9 @@
 -- The bound of a sum of lines is one.
 use Rattle.std.proofs.Common.{◌≡◌, inl, inr, ℕ, ℤ, ◌≤ℤ◌, List, [], ◌∷◌, sym, subst, ◌∙◌, arith}
 use Rattle.std.proofs.lemmas.Int.{ints}
-use Rattle.rule_model.specs.Arithmetic.{CoefficientLine, IsRoundedUp, IsScaledBound, IsAddedBound}
+use Rattle.rule_model.specs.Arith.{CoefficientLine, IsRoundedUp, IsScaledBound, IsAddedBound}
 use Rattle.rule_model.proofs.Ring.{mul_le}
-use Rattle.rule_model.proofs.Arithmetic.{no_step}
+use Rattle.rule_model.proofs.Arith.{no_step}
 use Rattle.linear_lines.specs.Lines.{IsAbsurd}
 use Rattle.line_judging.specs.Sums.{AreAbsurd}
 

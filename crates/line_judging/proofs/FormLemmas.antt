@@ -6,7 +6,7 @@ use Rattle.std.proofs.lemmas.List.Kept.{AllPairs-cons}
 use Rattle.sym_table.specs.Table.{Table}
 use Rattle.term_model.specs.Terms.{Term}
 use Rattle.term_pool.specs.Views.{TermsView, IsTerm}
-use Rattle.rule_model.specs.Arithmetic.{Comparison, coefficient_in}
+use Rattle.rule_model.specs.Arith.{Comparison, coefficient_in}
 use Rattle.linear_forms.specs.declared.nodes.Coefficient as found
 use Rattle.linear_forms.specs.declared.forms.Numbers.{Numbers}
 use Rattle.linear_forms.specs.Coefficients as forms

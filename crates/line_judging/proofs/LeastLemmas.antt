@@ -5,7 +5,7 @@ use Rattle.std.proofs.Math.Nat.{div-add-mod, mul-mod_right, mul_assoc, mul_comm,
 use Rattle.std.proofs.lemmas.List.Elements.{All-head, All-tail, All-cons}
 use Rattle.sym_table.specs.Table.{Table}
 use Rattle.term_pool.specs.Views.{TermsView}
-use Rattle.rule_model.specs.Arithmetic.{CoefficientLine, Divides, IsMultipleOfAll, IsLeastMultiple, lines_weight}
+use Rattle.rule_model.specs.Arith.{CoefficientLine, Divides, IsMultipleOfAll, IsLeastMultiple, lines_weight}
 use Rattle.linear_lines.specs.declared.lines.Line.{Line}
 use Rattle.linear_lines.specs.Lines.{StandsForLine, IsMultiple, IsLeast}
 use Rattle.line_judging.specs.Sums.{TellsSum, TellsAbsurdity}

@@ -4,7 +4,7 @@ use Rattle.std.specs.List.{AllZip}
 use Rattle.std.proofs.lemmas.List.Elements.{All-head, All-tail}
 use Rattle.sym_table.specs.Table.{Table}
 use Rattle.term_pool.specs.Views.{TermsView}
-use Rattle.rule_model.specs.Arithmetic.{CoefficientLine}
+use Rattle.rule_model.specs.Arith.{CoefficientLine}
 use Rattle.scaled_sums.specs.Relations.{relation_meant}
 use Rattle.linear_lines.specs.declared.lines.Line.{Line}
 use Rattle.linear_lines.specs.Lines.{StandsForLine}

@@ -3,7 +3,7 @@ use Rattle.std.proofs.Common.{◌≡◌, ◌≤◌, ◌<◌, ℕ, zero, suc, ◌
 use Rattle.std.proofs.Math.Nat.{div-add-mod, mod-lt}
 use Rattle.sym_table.specs.Table.{Table}
 use Rattle.term_pool.specs.Views.{TermsView}
-use Rattle.rule_model.specs.Arithmetic.{CoefficientLine, line_weight, lines_weight}
+use Rattle.rule_model.specs.Arith.{CoefficientLine, line_weight, lines_weight}
 use Rattle.rule_model.specs.Weights.{weight}
 use Rattle.linear_lines.specs.declared.lines.Line.{Line}
 use Rattle.linear_lines.specs.Lines.{StandsForLine, own_weight}

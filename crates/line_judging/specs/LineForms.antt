@@ -2,7 +2,7 @@
 use Rattle.std.specs.Prelude.{◌≤◌, ◌<◌, ◌+◌, List, Option, Some, None, unsigned_abs}
 use Rattle.sym_table.specs.Table.{Table}
 use Rattle.term_pool.specs.Views.{TermsView}
-use Rattle.rule_model.specs.Arithmetic.{Comparison, limit}
+use Rattle.rule_model.specs.Arith.{Comparison, limit}
 use Rattle.rule_model.specs.Weights.{weight}
 use Rattle.linear_forms.specs.declared.nodes.Coefficient as found
 use Rattle.scaled_sums.specs.declared.coefficients.Coefficient.{Coefficient}

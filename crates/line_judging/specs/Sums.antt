@@ -1,6 +1,6 @@
 -- Public. Whether lines are absurd once they are added up.
 use Rattle.std.specs.Prelude.{◌≤◌, ◌<◌, ℕ, ℤ, List}
-use Rattle.rule_model.specs.Arithmetic.{CoefficientLine, IsAddedBound, IsLeastMultiple, lines_weight, limit}
+use Rattle.rule_model.specs.Arith.{CoefficientLine, IsAddedBound, IsLeastMultiple, lines_weight, limit}
 use Rattle.linear_lines.specs.Lines.{IsAbsurd}
 use Rattle.line_judging.specs.declared.judging.Absurdity.{Absurdity}
 

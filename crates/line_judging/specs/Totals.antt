@@ -2,7 +2,7 @@
 use Rattle.std.specs.Prelude.{◌≡◌, ◌≤◌, ◌<◌, ◌+◌, ◌++◌, ◌∷◌, [], ℕ, ℤ, List, Option, Some, None}
 use Rattle.sym_table.specs.Table.{Table}
 use Rattle.term_pool.specs.Views.{TermsView}
-use Rattle.rule_model.specs.Arithmetic.{CoefficientLine, line_weight, lines_weight, limit}
+use Rattle.rule_model.specs.Arith.{CoefficientLine, line_weight, lines_weight, limit}
 use Rattle.scaled_sums.specs.declared.coefficients.Coefficient.{Coefficient}
 use Rattle.linear_lines.specs.Lines.{IsSumOf}
 use Rattle.line_judging.specs.declared.sums.Total.{Total}

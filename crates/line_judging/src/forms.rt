@@ -1,7 +1,7 @@
 //! The linear forms of lines.
 
 ghost use Rattle.std.specs.Prelude.{◌≡◌, map, IfOk, OnOk};
-ghost use Rattle.rule_model.specs.Arithmetic as spec;
+ghost use Rattle.rule_model.specs.Arith as spec;
 ghost use Rattle.linear_lines.specs.Comparisons.{StandsForComparison};
 ghost use Rattle.line_judging.specs.LineForms.{as_sum, IsFormFound};
 ghost use Rattle.term_pool.specs.Views.{IsTerm};
@@ -46,7 +46,8 @@ pub(crate) fn form_of(
 ) -> Result<Option<LineForm>, Memory>
     requires first { IsTerm symbols.now terms.old line.now.comparison.first }
     requires second { IsTerm symbols.now terms.old line.now.comparison.second }
-    ensures form { IfOk result (λ n. (c : spec.Comparison) → StandsForComparison symbols.now terms.old line.now.comparison c → IsFormFound symbols.now terms.old c n form.new.items) }
+    ensures form { IfOk result (λ n. (c : spec.Comparison) → StandsForComparison symbols.now terms.old line.now.comparison c →
+        IsFormFound symbols.now terms.old c n form.new.items) }
     ensures same { terms.new ≡ terms.old }
 {
     found.clear();

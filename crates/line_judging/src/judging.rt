@@ -2,7 +2,7 @@
 
 ghost use Rattle.std.specs.Prelude.{◌≡◌, List, All, IfOk};
 ghost use Rattle.std.specs.List.{AllZip};
-ghost use Rattle.rule_model.specs.Arithmetic.{CoefficientLine};
+ghost use Rattle.rule_model.specs.Arith.{CoefficientLine};
 ghost use Rattle.linear_lines.specs.Lines.{StandsForLine};
 ghost use Rattle.line_judging.specs.Sums.{TellsAbsurdity};
 ghost use Rattle.line_judging.specs.Weights.{IsLineOfTerms};
@@ -29,7 +29,7 @@ pub enum Absurdity {
 /// are added up (Alethe specification, "List of rules": la_generic); or that their weight is over 2^127 - 1.
 ///
 /// Takes time and memory in proportion to the distinct cells of the terms that count in their forms, for each line anew, and
-/// sorts the coefficients of the sum. It places no cell, and refuses want of memory alone.
+/// sorts the coefficients of the sum. It places no cell, and refuses only when out of memory.
 pub fn judge(
     scratch: &mut Scratch,
     symbols: &Symbols,
@@ -37,7 +37,8 @@ pub fn judge(
     lines: &[Line],
 ) -> Result<Absurdity, Memory>
     requires { All (IsLineOfTerms symbols.now terms.old) lines.now }
-    ensures absurdity { IfOk result (λ answer. (ls : List CoefficientLine) → AllZip (StandsForLine symbols.now terms.old) lines.now ls → TellsAbsurdity ls answer) }
+    ensures absurdity { IfOk result (λ answer. (ls : List CoefficientLine) → AllZip (StandsForLine symbols.now terms.old) lines.now ls →
+        TellsAbsurdity ls answer) }
     ensures same { terms.new ≡ terms.old }
 {
     let Some(multiple) = least_multiple(lines) else {

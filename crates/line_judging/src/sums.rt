@@ -2,7 +2,7 @@
 
 ghost use Rattle.std.specs.Prelude.{◌≡◌, ◌≤◌, ◌<◌, ◌+◌, unsigned_abs, List, All, IfOk};
 ghost use Rattle.std.specs.List.{AllZip};
-ghost use Rattle.rule_model.specs.Arithmetic.{CoefficientLine};
+ghost use Rattle.rule_model.specs.Arith.{CoefficientLine};
 ghost use Rattle.scaled_sums.specs.Coefficients.{sizes_of};
 ghost use Rattle.linear_lines.specs.Lines.{StandsForLine};
 ghost use Rattle.line_judging.specs.Totals.{IsTotalWith, IsWholeSum};

@@ -1,7 +1,7 @@
 //! The weight of lines.
 
 ghost use Rattle.std.specs.Prelude.{◌≤◌, ◌<◌, ◌+◌};
-ghost use Rattle.rule_model.specs.Arithmetic.{limit};
+ghost use Rattle.rule_model.specs.Arith.{limit};
 ghost use Rattle.linear_forms.specs.Forms.{IsToldWeight};
 ghost use Rattle.linear_lines.specs.Lines.{own_weight};
 

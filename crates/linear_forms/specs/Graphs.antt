@@ -1,5 +1,6 @@
 -- Private. Terms and lists of terms as numbered nodes: what has been met, and what is known of it.
-use Rattle.std.specs.Prelude.{◌≡◌, ◌≢◌, ◌⊎◌, ℕ, ℤ, ◌+◌, ◌*◌, ◌<◌, ◌≤◌, ◌^◌, ◌+ℤ◌, ◌*ℤ◌, min, unsigned_abs, [], ◌∷◌, ◌++◌, length, slice_index_or, Option, Some, None}
+use Rattle.std.specs.Prelude.{◌≡◌, ◌≢◌, ◌⊎◌, ℕ, ℤ, ◌+◌, ◌*◌, ◌<◌, ◌≤◌, ◌^◌, ◌+ℤ◌, ◌*ℤ◌, min, unsigned_abs, [], ◌∷◌, ◌++◌, length, slice_index_or, Option}
+use Rattle.std.specs.Prelude.{Some, None}
 use Rattle.pair_pool.specs.Trees.{Tree}
 use Rattle.pair_pool.specs.Views.{Knows}
 use Rattle.sym_table.specs.Table.{Table}

@@ -3,7 +3,7 @@ use Rattle.std.specs.Prelude.{◌≡◌, ◌≢◌, ◌⊎◌, [], ℕ, ℤ, pos
 use Rattle.sym_table.specs.Table.{Table}
 use Rattle.term_model.specs.Terms.{Term}
 use Rattle.term_pool.specs.Views.{TermsView}
-use Rattle.rule_model.specs.Arithmetic.{limit}
+use Rattle.rule_model.specs.Arith.{limit}
 use Rattle.rule_model.specs.LinearForms.{constant, coefficient}
 use Rattle.rule_model.specs.Weights.{weight}
 use Rattle.linear_forms.specs.declared.forms.Numbers.{Numbers}

@@ -168,7 +168,7 @@ impl LinearForms {
     /// The weight of a term: None exactly where it is over 2^127 - 1.
     ///
     /// Takes time and memory in proportion to the distinct cells of the term that count in its form, and no stack. It places
-    /// no cell, and refuses want of memory alone.
+    /// no cell, and refuses only when out of memory.
     pub fn weight(
         &mut self,
         symbols: &Symbols,
@@ -213,7 +213,7 @@ impl LinearForms {
     /// The linear form of a term: None exactly where its weight is over 2^127 - 1.
     ///
     /// Takes time and memory in proportion to the distinct cells of the term that count in its form, and no stack. It places
-    /// no cell, and refuses want of memory alone.
+    /// no cell, and refuses only when out of memory.
     pub fn linear(
         &mut self,
         symbols: &Symbols,
@@ -245,7 +245,8 @@ impl LinearForms {
     ) -> Result<Option<Numbers>, Memory>
         requires one { IsTerm symbols.now terms.old one }
         requires other { IsTerm symbols.now terms.old other }
-        ensures difference { IfOk result (λ n. (t u : Term) → RefersTo symbols.now terms.old one t → RefersTo symbols.now terms.old other u → IsDifference symbols.now terms.old t u n self.new.found.items) }
+        ensures difference { IfOk result (λ n. (t u : Term) → RefersTo symbols.now terms.old one t → RefersTo symbols.now terms.old other u →
+            IsDifference symbols.now terms.old t u n self.new.found.items) }
         ensures same { terms.new ≡ terms.old }
     {
         let _leaves = symbols.count();
@@ -269,7 +270,7 @@ impl LinearForms {
     /// weights add up to more than 2^127 - 1, and then nothing is added.
     ///
     /// Takes time and memory in proportion to the distinct cells of both terms that count in their forms, and no stack. It
-    /// places no cell, and refuses want of memory alone.
+    /// places no cell, and refuses only when out of memory.
     pub fn difference(
         &mut self,
         symbols: &Symbols,
@@ -295,7 +296,7 @@ impl LinearForms {
     /// Whether two terms have one linear form, or their weights add up to more than 2^127 - 1.
     ///
     /// Takes time and memory in proportion to the distinct cells of both terms that count in their forms, and no stack. It
-    /// places no cell, and refuses want of memory alone.
+    /// places no cell, and refuses only when out of memory.
     pub fn have_one_form(
         &mut self,
         symbols: &Symbols,

@@ -20,7 +20,7 @@ use Rattle.term_pool.specs.Reading.{arguments_of, IsLet}
 use Rattle.term_pool.specs.Views.{TermsView, RefersTo}
 use Rattle.term_parts.specs.Parts.{IsOver}
 use Rattle.term_parts.proofs.PartLemmas.{over_two}
-use Rattle.rule_model.specs.Arithmetic.{Relation, exceeds, reaches, equals, Comparison, if_true, if_false, denial}
+use Rattle.rule_model.specs.Arith.{Relation, exceeds, reaches, equals, Comparison, if_true, if_false, denial}
 use Rattle.linear_lines.specs.declared.comparisons as code
 use Rattle.linear_lines.specs.Comparisons.{IsOfNumbers}
 use Rattle.linear_lines.specs.ComparisonReads.{said_by, IsComparisonRead, IsFound}

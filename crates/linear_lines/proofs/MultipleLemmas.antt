@@ -2,7 +2,7 @@
 use Rattle.std.proofs.Common.{◌≡◌, ◌≤◌, ◌<◌, ℕ, ◌+◌, ◌*◌, List, [], length, get_or, take, All, Some, sym, ap, subst, arith}
 use Rattle.std.proofs.lemmas.List.{take_more}
 use Rattle.std.proofs.lemmas.List.Elements.{All-push, All-pop, All-take}
-use Rattle.rule_model.specs.Arithmetic.{Divides}
+use Rattle.rule_model.specs.Arith.{Divides}
 use Rattle.scaled_sums.specs.Multiples.{IsLeastMultipleOf}
 use Rattle.linear_lines.specs.declared.lines.Line.{Line}
 use Rattle.linear_lines.specs.Lines.{IsMultiple, IsLeast}

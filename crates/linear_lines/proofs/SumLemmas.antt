@@ -9,7 +9,7 @@ use Rattle.std.proofs.lemmas.List.Elements.{All-append, All-head, All-tail, All-
 use Rattle.sym_table.specs.Table.{Table}
 use Rattle.term_model.specs.Terms.{Term}
 use Rattle.term_pool.specs.Views.{TermsView, IsTerm}
-use Rattle.rule_model.specs.Arithmetic.{Relation, exceeds, reaches, equals, coefficient_in, bound_by, bound_in, CoefficientLine, IsEquation, signed_by, factor, scaled, IsWhole, IsScaledBound, added_coefficient, IsAddedBound, line_weight, lines_weight}
+use Rattle.rule_model.specs.Arith.{Relation, exceeds, reaches, equals, coefficient_in, bound_by, bound_in, CoefficientLine, IsEquation, signed_by, factor, scaled, IsWhole, IsScaledBound, added_coefficient, IsAddedBound, line_weight, lines_weight}
 use Rattle.rule_model.specs.LinearForms.{constant}
 use Rattle.scaled_sums.specs.declared.coefficients.Coefficient.{Coefficient}
 use Rattle.scaled_sums.specs.declared.bounds.Relation as code

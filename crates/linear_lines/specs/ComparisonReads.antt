@@ -3,7 +3,7 @@ use Rattle.std.specs.Prelude.{Bool, true, false, Option, Some, None, ⊤}
 use Rattle.sym_table.specs.Table.{Table}
 use Rattle.term_model.specs.Terms.{Term}
 use Rattle.term_pool.specs.Views.{TermsView}
-use Rattle.rule_model.specs.Arithmetic.{Comparison, if_true, if_false}
+use Rattle.rule_model.specs.Arith.{Comparison, if_true, if_false}
 use Rattle.linear_lines.specs.Comparisons.{StandsForComparison, IsNumberComparison}
 use Rattle.linear_lines.specs.declared.comparisons as code
 

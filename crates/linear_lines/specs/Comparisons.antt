@@ -5,7 +5,7 @@ use Rattle.term_model.specs.declared.symbols.Sort.{Sort}
 use Rattle.term_model.specs.Sorts.{IsOf}
 use Rattle.term_model.specs.Terms.{Term}
 use Rattle.term_pool.specs.Views.{TermsView, RefersTo}
-use Rattle.rule_model.specs.Arithmetic.{Comparison, denial}
+use Rattle.rule_model.specs.Arith.{Comparison, denial}
 use Rattle.scaled_sums.specs.Relations.{relation_meant}
 use Rattle.linear_lines.specs.declared.comparisons as code
 

@@ -3,7 +3,7 @@ use Rattle.std.specs.Prelude.{◌≡◌, ◌≢◌, ◌⊎◌, ◌≤◌, ◌<�
 use Rattle.sym_table.specs.Table.{Table}
 use Rattle.term_model.specs.Terms.{Term}
 use Rattle.term_pool.specs.Views.{TermsView, RefersTo, IsTerm}
-use Rattle.rule_model.specs.Arithmetic.{Comparison, coefficient_in, CoefficientLine, IsEquation, Divides, added_coefficient, IsAddedBound, lines_weight}
+use Rattle.rule_model.specs.Arith.{Comparison, coefficient_in, CoefficientLine, IsEquation, Divides, added_coefficient, IsAddedBound, lines_weight}
 use Rattle.rule_model.specs.LinearForms.{constant}
 use Rattle.rule_model.specs.Weights.{weight}
 use Rattle.scaled_sums.specs.declared.coefficients.Coefficient.{Coefficient}

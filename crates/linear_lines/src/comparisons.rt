@@ -9,7 +9,7 @@ ghost use Rattle.term_model.specs.Terms.{Term, Terms, operation, term, no_terms}
 ghost use Rattle.term_model.specs.declared.symbols.Op.{Op};
 ghost use Rattle.term_parts.specs.Parts.{IsOver};
 ghost use Rattle.term_pool.specs.Views.{TermsView, IsTerm, RefersTo};
-ghost use Rattle.rule_model.specs.Arithmetic.{if_true, if_false};
+ghost use Rattle.rule_model.specs.Arith.{if_true, if_false};
 ghost use Rattle.linear_lines.specs.Comparisons.{IsDenialRead};
 ghost use Rattle.linear_lines.specs.ComparisonReads.{IsFound, IsComparisonRead, said_by};
 ghost use Rattle.linear_lines.specs.Operands.{AreOperands, orders};
@@ -31,7 +31,8 @@ pub struct Comparison {
 
 /// What an application of an operator to two terms says where it is true.
 fn when_true(op: Op, a: Ref, b: Ref) -> Option<Comparison>
-    ensures { (s : Table) (v : TermsView) (t u : Term) → RefersTo s v a t → RefersTo s v b u → IsFound s v result (if_true (operation op (term t (term u no_terms)))) }
+    ensures { (s : Table) (v : TermsView) (t u : Term) → RefersTo s v a t → RefersTo s v b u →
+        IsFound s v result (if_true (operation op (term t (term u no_terms)))) }
 {
     match op {
         Op::LessEq => Some(Comparison {
@@ -65,7 +66,8 @@ fn when_true(op: Op, a: Ref, b: Ref) -> Option<Comparison>
 
 /// What it says where it is false.
 fn when_false(op: Op, a: Ref, b: Ref) -> Option<Comparison>
-    ensures { (s : Table) (v : TermsView) (t u : Term) → RefersTo s v a t → RefersTo s v b u → IsFound s v result (if_false (operation op (term t (term u no_terms)))) }
+    ensures { (s : Table) (v : TermsView) (t u : Term) → RefersTo s v a t → RefersTo s v b u →
+        IsFound s v result (if_false (operation op (term t (term u no_terms)))) }
 {
     match op {
         Op::LessEq => Some(Comparison {
@@ -114,7 +116,8 @@ fn binary_operator(symbols: &Symbols, terms: &mut Terms<'_>, r: Ref) -> Option<O
 
 /// What an application of an operator to two terms says by its truth.
 fn said(op: Op, truth: bool, a: Ref, b: Ref) -> Option<Comparison>
-    ensures { (s : Table) (v : TermsView) (t u : Term) → RefersTo s v a t → RefersTo s v b u → IsFound s v result (said_by truth (operation op (term t (term u no_terms)))) }
+    ensures { (s : Table) (v : TermsView) (t u : Term) → RefersTo s v a t → RefersTo s v b u →
+        IsFound s v result (said_by truth (operation op (term t (term u no_terms)))) }
 {
     if truth {
         when_true(op, a, b)

@@ -1,7 +1,7 @@
 //! The least common multiple of the denominators of lines.
 
 ghost use Rattle.std.specs.Prelude.{ℕ, ◌≤◌, ◌<◌, All, IfNone, IfSome};
-ghost use Rattle.rule_model.specs.Arithmetic.{limit};
+ghost use Rattle.rule_model.specs.Arith.{limit};
 ghost use Rattle.linear_lines.specs.Lines.{IsMultiple, IsLeast};
 
 use crate::lines::Line;

@@ -4,7 +4,7 @@ ghost use Rattle.std.specs.Prelude.{ℕ, ℤ, ◌≡◌, ◌≢◌, ◌↔◌, �
 ghost use Rattle.std.specs.List.{AllZip};
 ghost use Rattle.sym_table.specs.Table.{Table};
 ghost use Rattle.term_pool.specs.Views.{TermsView};
-ghost use Rattle.rule_model.specs.Arithmetic.{CoefficientLine, equals, bound_by, IsWhole, limit};
+ghost use Rattle.rule_model.specs.Arith.{CoefficientLine, equals, bound_by, IsWhole, limit};
 ghost use Rattle.scaled_sums.specs.Coefficients.{AreApart, sum_at, sizes_of};
 ghost use Rattle.scaled_sums.specs.Relations.{relation_meant, IsBoundOf};
 ghost use Rattle.linear_lines.specs.Lines.{own_weight, StandsForLine, IsFormOf, IsSumOf, IsAbsurd};

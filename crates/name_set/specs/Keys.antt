@@ -1,5 +1,6 @@
 -- Private. How the fields of a `NameSet` give the names that contracts see, and what holds of them.
-use Rattle.std.specs.Prelude.{◌≡◌, ℕ, ◌+◌, ◌<◌, ◌≤◌, ◌^◌, List, [], ◌∷◌, length, map, position, slice_get, slice_index, slice_range, nat_le, bytes_eq, if◌then◌else◌, Option, Some, Vec}
+use Rattle.std.specs.Prelude.{◌≡◌, ℕ, ◌+◌, ◌<◌, ◌≤◌, ◌^◌, List, [], ◌∷◌, length, map, position, slice_get, slice_index, slice_range, nat_le, bytes_eq}
+use Rattle.std.specs.Prelude.{if◌then◌else◌, Option, Some, Vec}
 use Rattle.std.specs.declared.alloc.Global.{Global}
 use Rattle.std.specs.Map.{lookup}
 use Rattle.name_set.specs.declared.names.Span.{Span}

@@ -125,7 +125,8 @@ fn key_for(
 ) -> Result<u128, AllocError>
     ensures key { IfOk result (λ key. key ≡ name_key number name.now) }
     ensures short { length name.now ≤ 15 → longer.new.entries ≡ longer.old.entries }
-    ensures long { OnOk result (15 < length name.now → (other : List ℕ) → longer_number longer.new.entries other ≡ (if bytes_eq other name.now then Some number else longer_number longer.old.entries other)) }
+    ensures long { OnOk result (15 < length name.now → (other : List ℕ) →
+        longer_number longer.new.entries other ≡ (if bytes_eq other name.now then Some number else longer_number longer.old.entries other)) }
     ensures refused { OnErr result (longer.new.entries ≡ longer.old.entries) }
 {
     if name.len() <= MOST_PACKED {

@@ -3,7 +3,8 @@
 ghost use Rattle.std.specs.Prelude.{◌≡◌, ◌≢◌, ℕ, ◌+◌, ◌*◌, ◌^◌, ◌<◌, ◌≤◌, [], IfOk, OnOk, OnErr};
 ghost use Rattle.pair_pool.specs.Trees.{Tree, leaf, cell};
 ghost use Rattle.pair_pool.specs.Decoding.{HasTreesWithin};
-ghost use Rattle.pair_pool.specs.Views.{PoolView, PassView, Cell, IsPassOf, IsSeen, HasCell, IsPlaced, Knows, IsKnown, Grows, AddsAtMost, SeesMore, IsUnchanged, IsFullFor, IsOneToOne, HasPartsOfTrees, HasListsInOrder};
+ghost use Rattle.pair_pool.specs.Views.{PoolView, PassView, Cell, IsPassOf, IsSeen, HasCell, IsPlaced, Knows, IsKnown, Grows, AddsAtMost, SeesMore};
+ghost use Rattle.pair_pool.specs.Views.{IsUnchanged, IsFullFor, IsOneToOne, HasPartsOfTrees, HasListsInOrder};
 
 use crate::reference::Ref;
 use crate::stops::{Memory, PoolFull};
@@ -49,7 +50,7 @@ impl Model for Pass {
 impl Pool {
     /// An empty pool of 2^`bits` places, and its first pass, which holds all 65 shares and knows nothing but leaves.
     ///
-    /// `bits` is from 12 to 26. Takes 8 * 2^`bits` bytes, and refuses want of memory alone.
+    /// `bits` is from 12 to 26. Takes 8 * 2^`bits` bytes, and refuses only when out of memory.
     pub fn new(alloc: Global, bits: u32) -> Result<(Pool, Pass), Memory>
         requires least { 12 ≤ bits }
         requires most { bits ≤ 26 }

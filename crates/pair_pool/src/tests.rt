@@ -8,7 +8,7 @@ use super::*;
 use std::process::Abort;
 use std::test::Fail;
 
-/// What could not be stored for want of memory is let go.
+/// What could not be stored when out of memory is let go.
 fn push_one(list: &mut Vec<u32>) -> Result<(), Memory> {
     list.push(1)?;
     Ok(())

@@ -10,3 +10,6 @@ pub mod Growing
 pub mod Agreement
 pub mod ScopedTerms
 pub mod ScopedScripts
+pub mod AlikeForms
+pub mod AlikeTerms
+pub mod ReadAgain

@@ -67,7 +67,8 @@ fault cause place = Some (record { cause = cause; at = place })
 
 -- the first fault of the commands of a text
 unfoldable pub first_fault : Bool → List ℕ → Option Refusal
-unfolding is_white ends_comment is_mark is_word_byte is_number blanks_end string_end token_at next_token items_in form_of script_command_of height replaced free_variables sort_from meaning_of meaning_applied term_from script_performed script_commands
+unfolding is_white ends_comment is_mark is_word_byte is_number blanks_end string_end token_at next_token items_in form_of script_command_of height replaced
+    free_variables sort_from meaning_of meaning_applied term_from script_performed script_commands
 first_fault replaces_lets text = fault_in (problem replaces_lets (items_in text)).result
 
 -- what the assertions of a text stand for, up to its first fault

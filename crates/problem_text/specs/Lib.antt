@@ -11,4 +11,6 @@ pub mod Names
 pub mod Terms
 pub mod Problems
 pub mod Soundness
+pub mod Alike
+pub mod Remembered
 pub mod Examples

@@ -8,7 +8,8 @@ use Rattle.term_model.specs.declared.symbols.Sort.{Sort}
 use Rattle.term_model.specs.Terms.{sort_eq, Fun}
 use Rattle.problem_text.specs.Words.{is_among, is_built_in, logics}
 use Rattle.text_items.specs.ItemShapes.{Name}
-use Rattle.problem_text.specs.Commands.{ScriptCommand, set_logic, without_effect, declare_sort, declare_fun, define_fun, assert_term, check_sat, exit, script_command_of}
+use Rattle.problem_text.specs.Commands.{ScriptCommand, set_logic, without_effect, declare_sort, declare_fun, define_fun, assert_term, check_sat, exit}
+use Rattle.problem_text.specs.Commands.{script_command_of}
 use Rattle.problem_text.specs.Outcomes.{Outcome, done, refuse, given, and_then, going_on}
 use Rattle.problem_text.specs.Scripts.{Script, empty_script, is_taken, with_name, with_sort, with_function, with_macro, with_assertion}
 use Rattle.problem_text.specs.Limits.{limited}

@@ -1,13 +1,17 @@
 //! Laws of the definitions. The functions do nothing: their contracts are the laws.
-ghost use Rattle.std.specs.Prelude.{◌≡◌, ◌⊎◌, List, ℕ, Bool, IfOk};
+ghost use Rattle.std.specs.Prelude.{◌≡◌, ◌⊎◌, List, ℕ, Bool, IfOk, slice_range};
 ghost use Rattle.sexpr.specs.declared.causes.Refusal.{Refusal};
-ghost use Rattle.sexpr.specs.Items.{Item};
+ghost use Rattle.sexpr.specs.Items.{Item, Items};
 ghost use Rattle.sexpr.specs.Form.{HasForm};
 ghost use Rattle.sexpr.specs.Source.{source};
 ghost use Rattle.problem_text.specs.Scripts.{Script};
 ghost use Rattle.problem_text.specs.Problems.{StandsForProblem, IsFirstFault};
 ghost use Rattle.problem_text.specs.Names.{Place};
 ghost use Rattle.problem_text.specs.Soundness.{IsSound, HasNoLets, AreBoundSorted, IsReadWithin, AreThemselves, IsScoped, HasScopedTerms};
+ghost use Rattle.sexpr.specs.Spans.{AreAlike, IsListAt};
+ghost use Rattle.problem_text.specs.Alike.{SayTheSame, EndAlike};
+ghost use Rattle.problem_text.specs.Remembered.{IsReadTo, StandFor};
+ghost use Rattle.problem_text.specs.TypedTerms.{Typed};
 ghost use Rattle.problem_text.specs.Terms.{read_term};
 
 pub use rule_model::laws::replacement::{free_variables_are_listed, replacing_lets_keeps_values};
@@ -48,9 +52,25 @@ pub fn free_variables_are_in_scope()
 pub fn texts_have_one_reading()
     ensures script { (source : List ℕ) (replaces : Bool) (s t : Script) → StandsForProblem source replaces s → StandsForProblem source replaces t → s ≡ t }
     ensures fault { (source : List ℕ) (replaces : Bool) (r q : Refusal) → IsFirstFault source replaces r → IsFirstFault source replaces q → r ≡ q }
-    ensures not_both { (source : List ℕ) (replaces : Bool) (s : Script) (r : Refusal) → StandsForProblem source replaces s → IsFirstFault source replaces r → ⊥ }
-    ensures judged { (source : List ℕ) (replaces : Bool) → HasForm source → ((s : Script) × StandsForProblem source replaces s) ⊎ ((r : Refusal) × IsFirstFault source replaces r) }
+    ensures not_both { (source : List ℕ) (replaces : Bool) (s : Script) (r : Refusal) → StandsForProblem source replaces s →
+        IsFirstFault source replaces r → ⊥ }
+    ensures judged { (source : List ℕ) (replaces : Bool) → HasForm source → ((s : Script) × StandsForProblem source replaces s) ⊎
+        ((r : Refusal) × IsFirstFault source replaces r) }
 {
     items_are_unique();
     faults_are_unique();
 }
+
+/// Items that are alike but for their places are read to one term, or have one cause of a fault, by scripts that say the
+/// same of names; and the scripts behind them say the same of names again.
+pub fn alike_items_are_read_alike()
+    ensures { (i j : Item) (p : Place) (s u : Script) → AreAlike i j → SayTheSame s u → EndAlike (read_term i p s) (read_term j p u) }
+{}
+
+/// What a list that gives no name was read to, each list that stands in the same bytes is read to behind it; and that stays
+/// so as long as names say the same.
+pub fn lists_are_read_again()
+    ensures remembered { (p : Place) (s : Script) (text : List ℕ) (at end : ℕ) (items : Items) (t : Typed) (h : IsReadTo p s at items t) →
+        IsListAt text at end items → StandFor p h.last (slice_range text at end) t }
+    ensures stays { (p : Place) (s u : Script) (bytes : List ℕ) (t : Typed) → SayTheSame s u → StandFor p s bytes t → StandFor p u bytes t }
+{}

@@ -72,8 +72,10 @@ impl OpenScopes {
         requires here { parent_at proof.now k ≡ Some (scope_of self.old) }
         ensures scope { OnOk result (scope_of self.new ≡ k) }
         ensures kept { AreKept symbols.now terms.new proof.now self.new }
-        ensures placed { (of : ProofItems Var Term) → StandForItems symbols.now terms.old proof.now of → PlacesCellsOf symbols.now terms.old.pass terms.new.pass (IsAnchorImage of) }
-        ensures full { IfErr result (λ e. e ≡ TermStop.PoolFull → (of : ProofItems Var Term) → StandForItems symbols.now terms.old proof.now of → LacksCellOf symbols.now terms.new.pass (IsAnchorImage of)) }
+        ensures placed { (of : ProofItems Var Term) → StandForItems symbols.now terms.old proof.now of →
+            PlacesCellsOf symbols.now terms.old.pass terms.new.pass (IsAnchorImage of) }
+        ensures full { IfErr result (λ e. e ≡ TermStop.PoolFull → (of : ProofItems Var Term) → StandForItems symbols.now terms.old proof.now of →
+            LacksCellOf symbols.now terms.new.pass (IsAnchorImage of)) }
         ensures keeps { KeepsTerms terms.old terms.new }
     {
         let _leaves = symbols.count();
@@ -102,7 +104,7 @@ impl OpenScopes {
     ///
     /// In file order a scope is entered once, with those around it. To enter or to leave one costs what its anchor binds,
     /// and what is gone through for its images. Places only cells of images of variables that anchors bind. Refuses where
-    /// the pool had no room for such a cell, and for want of memory.
+    /// the pool had no room for such a cell, and when out of memory.
     pub fn enter(
         &mut self,
         proof: &Proof,
@@ -114,8 +116,10 @@ impl OpenScopes {
         requires kept { AreKept symbols.now terms.old proof.now self.old }
         ensures scope { OnOk result (scope_of self.new ≡ scope) }
         ensures kept { AreKept symbols.now terms.new proof.now self.new }
-        ensures placed { (of : ProofItems Var Term) → StandForItems symbols.now terms.old proof.now of → PlacesCellsOf symbols.now terms.old.pass terms.new.pass (IsAnchorImage of) }
-        ensures full { IfErr result (λ e. e ≡ TermStop.PoolFull → (of : ProofItems Var Term) → StandForItems symbols.now terms.old proof.now of → LacksCellOf symbols.now terms.new.pass (IsAnchorImage of)) }
+        ensures placed { (of : ProofItems Var Term) → StandForItems symbols.now terms.old proof.now of →
+            PlacesCellsOf symbols.now terms.old.pass terms.new.pass (IsAnchorImage of) }
+        ensures full { IfErr result (λ e. e ≡ TermStop.PoolFull → (of : ProofItems Var Term) → StandForItems symbols.now terms.old proof.now of →
+            LacksCellOf symbols.now terms.new.pass (IsAnchorImage of)) }
         ensures keeps { KeepsTerms terms.old terms.new }
     {
         proofs_stay();

@@ -31,11 +31,14 @@ fn image_of(
     requires binding { BindTerms symbols.now terms.old (binding ∷ []) }
     requires outer { AreReplacementBy symbols.now terms.old (all_bindings outer.old) }
     requires right { IsRight terms.old outer.old }
-    ensures image { IfOk result (λ i. (q : Replacement) (b : Var × Term) → StandForReplacement symbols.now terms.old (all_bindings outer.old) q → IsBindingOf symbols.now terms.old binding b →
+    ensures image { IfOk result (λ i. (q : Replacement) (b : Var × Term) → StandForReplacement symbols.now terms.old (all_bindings outer.old) q →
+        IsBindingOf symbols.now terms.old binding b →
         IsBindingOf symbols.now terms.new i (b.0, put_in q b.1)) }
-    ensures placed { (q : Replacement) (b : Var × Term) → StandForReplacement symbols.now terms.old (all_bindings outer.old) q → IsBindingOf symbols.now terms.old binding b →
+    ensures placed { (q : Replacement) (b : Var × Term) → StandForReplacement symbols.now terms.old (all_bindings outer.old) q →
+        IsBindingOf symbols.now terms.old binding b →
         PlacesTerm symbols.now terms.old.pass terms.new.pass (put_in q b.1) }
-    ensures full { IfErr result (λ e. e ≡ TermStop.PoolFull → (q : Replacement) (b : Var × Term) → StandForReplacement symbols.now terms.old (all_bindings outer.old) q → IsBindingOf symbols.now terms.old binding b →
+    ensures full { IfErr result (λ e. e ≡ TermStop.PoolFull → (q : Replacement) (b : Var × Term) →
+        StandForReplacement symbols.now terms.old (all_bindings outer.old) q → IsBindingOf symbols.now terms.old binding b →
         LacksRoomFor symbols.now terms.new.pass (put_in q b.1)) }
     ensures right { IsRight terms.new outer.new }
     ensures same { frames_of outer.new ≡ frames_of outer.old }
@@ -56,11 +59,14 @@ pub(crate) fn images_of(
     requires anchor { BindTerms symbols.now terms.old anchor.now }
     requires outer { AreReplacementBy symbols.now terms.old (all_bindings outer.old) }
     requires right { IsRight terms.old outer.old }
-    ensures images { IfOk result (λ list. (q : Replacement) (bound : List (Var × Term)) → StandForReplacement symbols.now terms.old (all_bindings outer.old) q → AllZip (IsBindingOf symbols.now terms.old) anchor.now bound →
+    ensures images { IfOk result (λ list. (q : Replacement) (bound : List (Var × Term)) →
+        StandForReplacement symbols.now terms.old (all_bindings outer.old) q → AllZip (IsBindingOf symbols.now terms.old) anchor.now bound →
         AllZip (IsBindingOf symbols.now terms.new) list.items (put_in_each q bound)) }
-    ensures placed { (q : Replacement) (bound : List (Var × Term)) → StandForReplacement symbols.now terms.old (all_bindings outer.old) q → AllZip (IsBindingOf symbols.now terms.old) anchor.now bound →
+    ensures placed { (q : Replacement) (bound : List (Var × Term)) → StandForReplacement symbols.now terms.old (all_bindings outer.old) q →
+        AllZip (IsBindingOf symbols.now terms.old) anchor.now bound →
         PlacesCellsOf symbols.now terms.old.pass terms.new.pass (IsImageIn q bound) }
-    ensures full { IfErr result (λ e. e ≡ TermStop.PoolFull → (q : Replacement) (bound : List (Var × Term)) → StandForReplacement symbols.now terms.old (all_bindings outer.old) q → AllZip (IsBindingOf symbols.now terms.old) anchor.now bound →
+    ensures full { IfErr result (λ e. e ≡ TermStop.PoolFull → (q : Replacement) (bound : List (Var × Term)) →
+        StandForReplacement symbols.now terms.old (all_bindings outer.old) q → AllZip (IsBindingOf symbols.now terms.old) anchor.now bound →
         LacksCellOf symbols.now terms.new.pass (IsImageIn q bound)) }
     ensures right { IsRight terms.new outer.new }
     ensures same { frames_of outer.new ≡ frames_of outer.old }

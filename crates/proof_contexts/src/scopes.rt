@@ -69,7 +69,7 @@ impl OpenScopes {
     /// the scope that was entered last (Alethe, contexts).
     ///
     /// Costs what it goes through for the first time in this scope. Refuses where the pool had no room for a cell of the
-    /// answer, and for want of memory.
+    /// answer, and when out of memory.
     pub fn substitute(
         &mut self,
         proof: &Proof,
@@ -79,13 +79,16 @@ impl OpenScopes {
     ) -> Result<Ref, TermStop>
         requires term { IsTerm symbols.now terms.old r }
         requires kept { AreKept symbols.now terms.old proof.now self.old }
-        ensures term { IfOk result (λ i. (of : ProofItems Var Term) (anchors : List (List (Var × Term))) (t : Term) → StandForItems symbols.now terms.old proof.now of → AreOpenIn of (scope_of self.old) anchors →
+        ensures term { IfOk result (λ i. (of : ProofItems Var Term) (anchors : List (List (Var × Term))) (t : Term) →
+            StandForItems symbols.now terms.old proof.now of → AreOpenIn of (scope_of self.old) anchors →
             RefersTo symbols.now terms.old r t → RefersTo symbols.now terms.new i (put_in (images anchors) t)) }
 
-        // It places only cells of its answer, and is refused for want of room for one.
-        ensures placed { (of : ProofItems Var Term) (anchors : List (List (Var × Term))) (t : Term) → StandForItems symbols.now terms.old proof.now of → AreOpenIn of (scope_of self.old) anchors →
+        // It places only cells of its answer, and is refused for lack of room for one.
+        ensures placed { (of : ProofItems Var Term) (anchors : List (List (Var × Term))) (t : Term) → StandForItems symbols.now terms.old proof.now of →
+            AreOpenIn of (scope_of self.old) anchors →
             RefersTo symbols.now terms.old r t → PlacesTerm symbols.now terms.old.pass terms.new.pass (put_in (images anchors) t) }
-        ensures full { IfErr result (λ e. e ≡ TermStop.PoolFull → (of : ProofItems Var Term) (anchors : List (List (Var × Term))) (t : Term) → StandForItems symbols.now terms.old proof.now of → AreOpenIn of (scope_of self.old) anchors →
+        ensures full { IfErr result (λ e. e ≡ TermStop.PoolFull → (of : ProofItems Var Term) (anchors : List (List (Var × Term))) (t : Term) →
+            StandForItems symbols.now terms.old proof.now of → AreOpenIn of (scope_of self.old) anchors →
             RefersTo symbols.now terms.old r t → LacksRoomFor symbols.now terms.new.pass (put_in (images anchors) t)) }
         ensures known { IfOk result (IsKnown terms.new.pass) }
         ensures keeps { KeepsTerms terms.old terms.new }
@@ -114,9 +117,11 @@ impl OpenScopes {
         variable: u32,
     ) -> Option<Ref>
         requires kept { AreKept symbols.now terms.now proof.now self.now }
-        ensures image { (of : ProofItems Var Term) (anchors : List (List (Var × Term))) (x : Var) → StandForItems symbols.now terms.now proof.now of → AreOpenIn of (scope_of self.now) anchors →
+        ensures image { (of : ProofItems Var Term) (anchors : List (List (Var × Term))) (x : Var) → StandForItems symbols.now terms.now proof.now of →
+            AreOpenIn of (scope_of self.now) anchors →
             IsLeaf symbols.now variable (variable_leaf x) → IfSome result (λ r. RefersTo symbols.now terms.now r (replaced_by (images anchors) x)) }
-        ensures bound { (of : ProofItems Var Term) (anchors : List (List (Var × Term))) (x : Var) → StandForItems symbols.now terms.now proof.now of → AreOpenIn of (scope_of self.now) anchors →
+        ensures bound { (of : ProofItems Var Term) (anchors : List (List (Var × Term))) (x : Var) → StandForItems symbols.now terms.now proof.now of →
+            AreOpenIn of (scope_of self.now) anchors →
             IsLeaf symbols.now variable (variable_leaf x) → IsSome result ↔ IsBoundBy anchors x }
     {
         let _ = proof;

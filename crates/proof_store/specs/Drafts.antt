@@ -1,5 +1,6 @@
 -- Private. The proof that the flat arrays stand for, and what holds of them.
-use Rattle.std.specs.Prelude.{◌≡◌, ◌<◌, ◌+◌, ◌-◌, ◌^◌, ℕ, suc, List, [], ◌∷◌, ◌++◌, map, take, drop, length, slice_get, slice_index, Bool, true, false, if◌then◌else◌, Some, None, ⊤}
+use Rattle.std.specs.Prelude.{◌≡◌, ◌<◌, ◌+◌, ◌-◌, ◌^◌, ℕ, suc, List, [], ◌∷◌, ◌++◌, map, take, drop, length, slice_get, slice_index, Bool, true, false}
+use Rattle.std.specs.Prelude.{if◌then◌else◌, Some, None, ⊤}
 use Rattle.std.specs.List.{AllByRecursion}
 use Rattle.std.specs.Option.{option_map}
 use Rattle.rule_model.specs.declared.rules.Rule.{Rule}

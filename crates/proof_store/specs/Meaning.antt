@@ -27,9 +27,13 @@ pub record IsStepOf (s : Table) (v : TermsView) (step : Step ℕ) (of : Step Ter
 -- the items over references stand for those over terms, each in its place
 pub data StandForItems (s : Table) (v : TermsView) : ProofItems ℕ ℕ → ProofItems Var Term → Type 0 where
   no_items_stand : StandForItems s v no_items no_items
-  assume_stands : (is : ProofItems ℕ ℕ) (ps : ProofItems Var Term) (id : List ℕ) (r : ℕ) (t : Term) → StandForItems s v is ps → RefersTo s v r t → StandForItems s v (with_assume is id r) (with_assume ps id t)
-  step_stands : (is : ProofItems ℕ ℕ) (ps : ProofItems Var Term) (step : Step ℕ) (of : Step Term) → StandForItems s v is ps → IsStepOf s v step of → StandForItems s v (with_step is step) (with_step ps of)
-  subproof_stands : (is : ProofItems ℕ ℕ) (ps : ProofItems Var Term) (bindings : List (ℕ × ℕ)) (bound : List (Var × Term)) (inner : ProofItems ℕ ℕ) (proof : ProofItems Var Term) (step : Step ℕ) (of : Step Term) → StandForItems s v is ps → AllZip (IsBindingOf s v) bindings bound → StandForItems s v inner proof → IsStepOf s v step of → StandForItems s v (with_subproof is bindings inner step) (with_subproof ps bound proof of)
+  assume_stands : (is : ProofItems ℕ ℕ) (ps : ProofItems Var Term) (id : List ℕ) (r : ℕ) (t : Term) → StandForItems s v is ps → RefersTo s v r t →
+      StandForItems s v (with_assume is id r) (with_assume ps id t)
+  step_stands : (is : ProofItems ℕ ℕ) (ps : ProofItems Var Term) (step : Step ℕ) (of : Step Term) → StandForItems s v is ps → IsStepOf s v step of →
+      StandForItems s v (with_step is step) (with_step ps of)
+  subproof_stands : (is : ProofItems ℕ ℕ) (ps : ProofItems Var Term) (bindings : List (ℕ × ℕ)) (bound : List (Var × Term)) (inner : ProofItems ℕ ℕ)
+      (proof : ProofItems Var Term) (step : Step ℕ) (of : Step Term) → StandForItems s v is ps → AllZip (IsBindingOf s v) bindings bound →
+      StandForItems s v inner proof → IsStepOf s v step of → StandForItems s v (with_subproof is bindings inner step) (with_subproof ps bound proof of)
 
 -- the leaf of a variable with a reference that stands for a term
 pub record BindsTerm (s : Table) (v : TermsView) (b : ℕ × ℕ) : Type 0 where

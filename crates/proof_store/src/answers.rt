@@ -1,46 +1,4 @@
-//! What is said of a command.
-
-use pair_pool::{Memory, PoolFull};
-
-/// Whether a step meets its rule's condition.
-#[derive(Clone, Copy, Debug, PartialEq, Eq)]
-pub enum Answer {
-    Met,
-    NotMet,
-    /// The weight of the step's numbers is over 2^127 - 1.
-    TooWide,
-}
-
-/// Why a step was not judged.
-#[derive(Clone, Copy, Debug, PartialEq, Eq)]
-pub enum RuleStop {
-    /// The pool has no place for a cell.
-    PoolFull,
-    /// Want of memory.
-    Memory,
-}
-
-impl From<Memory> for RuleStop {
-    ghost use Rattle.std.specs.Prelude.{◌≡◌};
-    ghost use Rattle.proof_store.specs.declared.answers.RuleStop.TheVariants as RuleStop;
-
-    ghost from_gives = { λ _ stop. stop ≡ RuleStop.Memory };
-
-    fn from(_refused: Memory) -> RuleStop {
-        RuleStop::Memory
-    }
-}
-
-impl From<PoolFull> for RuleStop {
-    ghost use Rattle.std.specs.Prelude.{◌≡◌};
-    ghost use Rattle.proof_store.specs.declared.answers.RuleStop.TheVariants as RuleStop;
-
-    ghost from_gives = { λ _ stop. stop ≡ RuleStop.PoolFull };
-
-    fn from(_refused: PoolFull) -> RuleStop {
-        RuleStop::PoolFull
-    }
-}
+//! The numbers of a command.
 
 /// A coefficient of linear arithmetic, in lowest terms, with `den` over 0 and both parts at most 2^127 - 1 in absolute
 /// value.

@@ -51,8 +51,8 @@ impl ProofBuilder {
         }
     }
 
-    /// Adds an assume, and answers its index. Its id is a symbol, which neither a visible command nor an open anchor
-    /// has. Refuses want of memory alone.
+    /// Adds an assume, and returns its index. Its id is a symbol, which neither a visible command nor an open anchor
+    /// has. Refuses only when out of memory.
     #[tactic(auto, using(crate::proofs::WritingLemmas::writes_draft))]
     pub fn assume(&mut self, id: &[u8], term: Ref) -> Result<u32, Memory>
         requires id { IsNewId self.old.nesting self.old.items id.now }
@@ -64,9 +64,9 @@ impl ProofBuilder {
         drafts::assume(&mut self.draft, id, term)
     }
 
-    /// Opens a scope inside the one that is written, and answers its number. The anchor's id is that of the step that is
+    /// Opens a scope inside the one that is written, and returns its number. The anchor's id is that of the step that is
     /// to close it; its bindings are leaves of variables with their terms, and the variables differ from each other and
-    /// from those that open anchors bind. Refuses want of memory alone.
+    /// from those that open anchors bind. Refuses only when out of memory.
     #[tactic(auto, using(crate::proofs::WritingLemmas::writes_draft))]
     pub fn anchor(&mut self, id: &[u8], bindings: &[(u32, Ref)]) -> Result<u32, Memory>
         requires may { MayOpen self.old.nesting self.old.items (anchor_with id.now bindings.now) }
@@ -78,11 +78,11 @@ impl ProofBuilder {
         drafts::open(&mut self.draft, id, bindings)
     }
 
-    /// Adds a step, and answers its index. A step whose id is that of the innermost open anchor closes its scope, and
+    /// Adds a step, and returns its index. A step whose id is that of the innermost open anchor closes its scope, and
     /// belongs to the scope around it. Its premises are indices of visible commands; the assumes that it discharges are
     /// indices of assumes directly in the scope that it closes; its rule is the one that its name spells, and its name
-    /// none of the rules for quantifiers. Only resolution has pivots, and only la_generic has coefficients. Refuses want
-    /// of memory alone.
+    /// none of the rules for quantifiers. Only resolution has pivots, and only la_generic has coefficients. Refuses only
+    /// when out of memory.
     #[tactic(auto, using(crate::proofs::WritingLemmas::writes_draft))]
     pub fn step<'a>(
         &mut self,
@@ -98,7 +98,8 @@ impl ProofBuilder {
         requires may { MayTake self.old (step_with id.now rule rule_name.now clause.now premises.now discharged.now pivots.now ratios) }
         requires few { next_index self.old + 1 < 2 ^ 32 - 1 }
         ensures index { IfOk result (λ i. i ≡ next_index self.old) }
-        ensures written { OnOk result (self.new ≡ take_step self.old (step_with id.now rule rule_name.now clause.now premises.now discharged.now pivots.now ratios.entry)) }
+        ensures written { OnOk result (self.new ≡ take_step self.old
+            (step_with id.now rule rule_name.now clause.now premises.now discharged.now pivots.now ratios.entry)) }
         ensures refused { OnErr result (self.new ≡ self.old) }
     {
         let step = NewCommand {

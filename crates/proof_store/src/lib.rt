@@ -14,9 +14,10 @@ mod scopes;
 mod words;
 
 pub use added::{Added, Link};
-pub use answers::{Answer, Ratio, RuleStop};
+pub use answers::Ratio;
 pub use builder::ProofBuilder;
 pub use laws::{commands_correspond, proofs_stand_for_one, proofs_stay, terms_correspond};
 pub use proof::Proof;
 pub use rule_model::Status;
+pub use term_parts::{Answer, RuleStop};
 pub use words::word;

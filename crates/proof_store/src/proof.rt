@@ -3,7 +3,8 @@
 ghost use Rattle.std.specs.Prelude.{◌≡◌, ◌<◌, ◌≤◌, ◌-◌, ◌^◌, ℕ};
 ghost use Rattle.rule_model.specs.Scopes.{outermost, at, commands_in, subproofs_in};
 ghost use Rattle.rule_model.specs.WellFormed.{IsWellFormed};
-ghost use Rattle.rule_model.specs.Reading.{id_at, rule_at, rule_name_at, clause_at, premises_at, discharged_at, pivots_at, ratios_at, scope_at, closes_at, parent_at, bindings_at, last_inside_at};
+ghost use Rattle.rule_model.specs.Reading.{id_at, rule_at, rule_name_at, clause_at, premises_at, discharged_at, pivots_at, ratios_at, scope_at, closes_at};
+ghost use Rattle.rule_model.specs.Reading.{parent_at, bindings_at, last_inside_at};
 ghost use Rattle.proof_store.specs.Ratios.{fractions};
 ghost use Rattle.proof_store.specs.Drafts.{proof_of, IsDraft};
 

@@ -1,5 +1,5 @@
 -- The condition of each rule keeps truth. A family of rules that has a condition adds its case.
-use Rattle.std.proofs.Common.{inl, inr, List, [], ◌∷◌, subst, arith, refl, All, Any, Contains, Option, Some, None, IsPermutation}
+use Rattle.std.proofs.Common.{◌≡◌, ◌↔◌, inl, inr, List, [], ◌∷◌, subst, arith, refl, All, Any, Contains, Option, Some, None, IsPermutation}
 use Rattle.std.proofs.lemmas.List.Elements.{All-head}
 use Rattle.std.proofs.lemmas.List.Sorted.{Contains-permutation}
 use Rattle.term_model.specs.Terms.{Term}
@@ -7,29 +7,120 @@ use Rattle.term_model.specs.Interpretations.{Interpretation}
 use Rattle.term_model.specs.Meaning.{Valuation, ValuationFits}
 use Rattle.term_model.specs.Unsatisfiable.{MakesTrue}
 use Rattle.term_model.proofs.Basics.{any_here, any_cases}
+use Rattle.rule_model.specs.declared.kinds.Family.{Family}
+use Rattle.rule_model.specs.declared.kinds.Kind.{Kind}
 use Rattle.rule_model.specs.declared.rules.Mode.{Mode}
 use Rattle.rule_model.specs.declared.rules.Rule.{Rule}
 use Rattle.rule_model.specs.Clausal.{schema_of, Begins, IsOnlyPremise, Changes, HasEachOnce, HasEach, IsTautology, MeetsClausal}
 use Rattle.rule_model.specs.Clauses.{MakesClauseTrue}
 use Rattle.rule_model.specs.Conditions.{MeetsRule, Met, LooksAtContext, IsClauseOfTruths, IsWellSortedStep, KeepsTruth}
 use Rattle.rule_model.specs.Contexts.{IsInContext}
-use Rattle.rule_model.specs.Definitions.{choice_schema_of, MeetsChoice}
+use Rattle.rule_model.specs.Ite.{choice_schema_of, MeetsChoice}
 use Rattle.rule_model.specs.Judged.{Judged}
 use Rattle.rule_model.specs.Resolution.{Resolves}
 use Rattle.rule_model.specs.Rewriting.{RewriteRow}
+use Rattle.rule_model.specs.RuleNames.{kind_of}
 use Rattle.rule_model.specs.Schemas.{Schema, IsInstanceOf}
-use Rattle.rule_model.specs.Simplification.{not_simplify, implies_simplify, equiv_simplify, bool_simplify, ite_simplify, eq_simplify, comp_simplify, MeetsSimplification}
+use Rattle.rule_model.specs.Simplify.{not_simplify, implies_simplify, equiv_simplify, bool_simplify, ite_simplify, eq_simplify, comp_simplify, MeetsSimplification}
 use Rattle.rule_model.proofs.ArgumentLists.{and_pos_keeps, and_neg_keeps, or_pos_keeps, or_neg_keeps, and_keeps, or_keeps, not_or_keeps, not_and_keeps}
-use Rattle.rule_model.proofs.Arithmetic.{form_simplify_keeps, la_disequality_keeps, la_totality_keeps, la_rw_eq_keeps, la_generic_keeps}
+use Rattle.rule_model.proofs.Arith.{form_simplify_keeps, la_disequality_keeps, la_totality_keeps, la_rw_eq_keeps, la_generic_keeps}
 use Rattle.rule_model.proofs.ClausalTables.{IsSound, clausal_tables}
 use Rattle.rule_model.proofs.Congruence.{symm_keeps, not_symm_keeps, trans_keeps, cong_keeps, eq_reflexive_keeps, eq_symmetric_keeps, eq_transitive_keeps, eq_congruent_keeps, eq_congruent_pred_keeps}
-use Rattle.rule_model.proofs.Definitions.{choice_tables, instance_keeps, connective_def_keeps, ite_intro_keeps, distinct_elim_keeps}
+use Rattle.rule_model.proofs.Ite.{choice_tables, instance_keeps, connective_def_keeps, ite_intro_keeps, distinct_elim_keeps}
 use Rattle.rule_model.proofs.Instances.{instance_keeps_truth}
-use Rattle.rule_model.proofs.Reflexivity.{refl_keeps}
+use Rattle.rule_model.proofs.Refl.{refl_keeps}
 use Rattle.rule_model.proofs.Joining.{and_simplify_keeps, or_simplify_keeps}
 use Rattle.rule_model.proofs.Resolution.{check_sound}
-use Rattle.rule_model.proofs.Simplification.{AreKept, not_kept, implies_kept, equiv_kept, bool_kept, ite_kept, eq_kept, comp_kept, simplification_keeps}
+use Rattle.rule_model.proofs.Simplify.{AreKept, not_kept, implies_kept, equiv_kept, bool_kept, ite_kept, eq_kept, comp_kept, simplification_keeps}
 use Rattle.rule_model.proofs.StrictResolution.{strict_sound}
+
+-- a clausal rule asks what its row asks
+pub clausal_asks : (rule : Rule) (j : Judged) → kind_of rule ≡ Kind.Judged Family.Clausal → MeetsRule rule j ↔ MeetsClausal rule j.premises j.clause
+clausal_asks Rule.Assume j is = absurd cc
+clausal_asks Rule.Unknown j is = absurd cc
+clausal_asks Rule.Hole j is = absurd cc
+clausal_asks Rule.LiaGeneric j is = absurd cc
+clausal_asks Rule.RareRewrite j is = absurd cc
+clausal_asks Rule.AllSimplify j is = absurd cc
+clausal_asks Rule.True j is = (λ h. h, λ h. h)
+clausal_asks Rule.False j is = (λ h. h, λ h. h)
+clausal_asks Rule.NotNot j is = (λ h. h, λ h. h)
+clausal_asks Rule.AndPos j is = (λ h. h, λ h. h)
+clausal_asks Rule.AndNeg j is = (λ h. h, λ h. h)
+clausal_asks Rule.OrPos j is = (λ h. h, λ h. h)
+clausal_asks Rule.OrNeg j is = (λ h. h, λ h. h)
+clausal_asks Rule.XorPos1 j is = (λ h. h, λ h. h)
+clausal_asks Rule.XorPos2 j is = (λ h. h, λ h. h)
+clausal_asks Rule.XorNeg1 j is = (λ h. h, λ h. h)
+clausal_asks Rule.XorNeg2 j is = (λ h. h, λ h. h)
+clausal_asks Rule.ImpliesPos j is = (λ h. h, λ h. h)
+clausal_asks Rule.ImpliesNeg1 j is = (λ h. h, λ h. h)
+clausal_asks Rule.ImpliesNeg2 j is = (λ h. h, λ h. h)
+clausal_asks Rule.EquivPos1 j is = (λ h. h, λ h. h)
+clausal_asks Rule.EquivPos2 j is = (λ h. h, λ h. h)
+clausal_asks Rule.EquivNeg1 j is = (λ h. h, λ h. h)
+clausal_asks Rule.EquivNeg2 j is = (λ h. h, λ h. h)
+clausal_asks Rule.ItePos1 j is = absurd cc
+clausal_asks Rule.ItePos2 j is = absurd cc
+clausal_asks Rule.IteNeg1 j is = absurd cc
+clausal_asks Rule.IteNeg2 j is = absurd cc
+clausal_asks Rule.And j is = (λ h. h, λ h. h)
+clausal_asks Rule.Or j is = (λ h. h, λ h. h)
+clausal_asks Rule.NotOr j is = (λ h. h, λ h. h)
+clausal_asks Rule.NotAnd j is = (λ h. h, λ h. h)
+clausal_asks Rule.Xor1 j is = (λ h. h, λ h. h)
+clausal_asks Rule.Xor2 j is = (λ h. h, λ h. h)
+clausal_asks Rule.NotXor1 j is = (λ h. h, λ h. h)
+clausal_asks Rule.NotXor2 j is = (λ h. h, λ h. h)
+clausal_asks Rule.Implies j is = (λ h. h, λ h. h)
+clausal_asks Rule.NotImplies1 j is = (λ h. h, λ h. h)
+clausal_asks Rule.NotImplies2 j is = (λ h. h, λ h. h)
+clausal_asks Rule.Equiv1 j is = (λ h. h, λ h. h)
+clausal_asks Rule.Equiv2 j is = (λ h. h, λ h. h)
+clausal_asks Rule.NotEquiv1 j is = (λ h. h, λ h. h)
+clausal_asks Rule.NotEquiv2 j is = (λ h. h, λ h. h)
+clausal_asks Rule.Ite1 j is = absurd cc
+clausal_asks Rule.Ite2 j is = absurd cc
+clausal_asks Rule.NotIte1 j is = absurd cc
+clausal_asks Rule.NotIte2 j is = absurd cc
+clausal_asks Rule.Contraction j is = (λ h. h, λ h. h)
+clausal_asks Rule.Reordering j is = (λ h. h, λ h. h)
+clausal_asks Rule.Weakening j is = (λ h. h, λ h. h)
+clausal_asks Rule.Tautology j is = (λ h. h, λ h. h)
+clausal_asks Rule.Resolution j is = absurd cc
+clausal_asks Rule.ThResolution j is = absurd cc
+clausal_asks Rule.Refl j is = absurd cc
+clausal_asks Rule.Symm j is = absurd cc
+clausal_asks Rule.NotSymm j is = absurd cc
+clausal_asks Rule.Trans j is = absurd cc
+clausal_asks Rule.Cong j is = absurd cc
+clausal_asks Rule.EqReflexive j is = absurd cc
+clausal_asks Rule.EqSymmetric j is = absurd cc
+clausal_asks Rule.EqTransitive j is = absurd cc
+clausal_asks Rule.EqCongruent j is = absurd cc
+clausal_asks Rule.EqCongruentPred j is = absurd cc
+clausal_asks Rule.Subproof j is = absurd cc
+clausal_asks Rule.Let j is = absurd cc
+clausal_asks Rule.ConnectiveDef j is = absurd cc
+clausal_asks Rule.IteIntro j is = absurd cc
+clausal_asks Rule.DistinctElim j is = absurd cc
+clausal_asks Rule.NotSimplify j is = absurd cc
+clausal_asks Rule.ImpliesSimplify j is = absurd cc
+clausal_asks Rule.EquivSimplify j is = absurd cc
+clausal_asks Rule.BoolSimplify j is = absurd cc
+clausal_asks Rule.IteSimplify j is = absurd cc
+clausal_asks Rule.EqSimplify j is = absurd cc
+clausal_asks Rule.CompSimplify j is = absurd cc
+clausal_asks Rule.AndSimplify j is = absurd cc
+clausal_asks Rule.OrSimplify j is = absurd cc
+clausal_asks Rule.LaGeneric j is = absurd cc
+clausal_asks Rule.LaDisequality j is = absurd cc
+clausal_asks Rule.LaTotality j is = absurd cc
+clausal_asks Rule.LaRwEq j is = absurd cc
+clausal_asks Rule.SumSimplify j is = absurd cc
+clausal_asks Rule.ProdSimplify j is = absurd cc
+clausal_asks Rule.MinusSimplify j is = absurd cc
+clausal_asks Rule.UnaryMinusSimplify j is = absurd cc
 
 -- a clause with the literals of one that is true
 any_moved : {X : Type 0} (P : X → Type 0) (xs ys : List X) → ((x : X) → Contains xs x → Contains ys x) → Any P xs → Any P ys
@@ -141,6 +232,14 @@ module _ (I : Interpretation) (r : Valuation) where
   rule_keeps Rule.LaTotality j met sorted context = λ all. la_totality_keeps I r j.premises j.clause met
   rule_keeps Rule.LaRwEq j met sorted context = λ all. la_rw_eq_keeps I r sorted.values j.premises j.clause met sorted.clause
   rule_keeps Rule.LaGeneric j met sorted context = λ all. la_generic_keeps I r j.ratios j.premises j.clause met
+  rule_keeps Rule.Assume j met sorted context = absurd met
+  rule_keeps Rule.Unknown j met sorted context = absurd met
+  rule_keeps Rule.Hole j met sorted context = absurd met
+  rule_keeps Rule.LiaGeneric j met sorted context = absurd met
+  rule_keeps Rule.RareRewrite j met sorted context = absurd met
+  rule_keeps Rule.AllSimplify j met sorted context = absurd met
+  rule_keeps Rule.Subproof j met sorted context = absurd met
+  rule_keeps Rule.Let j met sorted context = absurd met
   rule_keeps rule j met sorted context = clausal_keeps rule j.premises j.clause met sorted.values sorted.premises sorted.clause
 
   pub met_keeps : (j : Judged) → Met j → IsWellSortedStep r j → KeepsTruth I r j

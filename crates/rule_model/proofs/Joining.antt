@@ -14,7 +14,7 @@ use Rattle.term_model.proofs.Tests.{sort_eq_decides}
 use Rattle.term_model.proofs.Basics.{and-left, any_here, any_later, any_cases, same_tests}
 use Rattle.term_model.proofs.Meanings.{is_true, true_is, not_not, equality_is}
 use Rattle.term_model.proofs.Sorting.{value_has_sort, bool_value, when-same, when-true}
-use Rattle.rule_model.specs.Simplification.{negated, AreOpposed, IsWithout, end, drop, keep, IsOnceEach, end_of, repeat, fresh, IsShortened, StandsAs, JoinsTo, MeetsJoining, MeetsAndSimplify, MeetsOrSimplify}
+use Rattle.rule_model.specs.Simplify.{negated, AreOpposed, IsWithout, end, drop, keep, IsOnceEach, end_of, repeat, fresh, IsShortened, StandsAs, JoinsTo, MeetsJoining, MeetsAndSimplify, MeetsOrSimplify}
 use Rattle.rule_model.specs.Clauses.{MakesClauseTrue}
 use Rattle.rule_model.specs.Conditions.{IsClauseOfTruths}
 use Rattle.rule_model.proofs.ArgumentLists.{true_or_not, all_of_and, and_of_all, some_of_or, or_of_some}

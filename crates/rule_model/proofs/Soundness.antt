@@ -1,6 +1,6 @@
 -- Soundness over nesting, by induction on the place in the file. A step that closes a scope leaves it: what was true there
 -- is true outside, where its condition is met.
-use Rattle.std.proofs.Common.{◌≡◌, ◌<◌, ◌⊎◌, inl, inr, ℕ, zero, suc, Bool, true, false, if◌then◌else◌, List, [], ◌∷◌, ◌++◌, map, flat_map, take, slice_get, Option, Some, None, IfSome, All, Contains, refl, sym, ◌∙◌, ap, subst, arith}
+use Rattle.std.proofs.Common.{◌≡◌, ◌<◌, ◌⊎◌, inl, inr, ℕ, zero, suc, Bool, true, false, List, [], ◌∷◌, ◌++◌, map, flat_map, take, slice_get, Option, Some, None, IfSome, All, Contains, refl, sym, ◌∙◌, ap, subst, arith}
 use Rattle.std.specs.List.{AllByRecursion}
 use Rattle.std.proofs.lemmas.List.Elements.{All-contains, All-contains_itself, All-map, All-from_recursion}
 use Rattle.std.proofs.lemmas.Option.{slice_get_within}
@@ -14,26 +14,27 @@ use Rattle.term_model.proofs.Basics.{any_here}
 use Rattle.term_model.proofs.Flips.{flips_value}
 use Rattle.term_model.proofs.Meanings.{equality_is}
 use Rattle.term_model.proofs.Lists.{slice_get-left, all_joined, all_last}
+use Rattle.rule_model.specs.declared.kinds.Kind.{Kind}
 use Rattle.rule_model.specs.declared.rules.Mode.{Mode}
 use Rattle.rule_model.specs.declared.rules.Rule.{Rule}
 use Rattle.rule_model.specs.declared.statuses.Status.{Status}
 use Rattle.rule_model.specs.Clauses.{MakesClauseTrue}
-use Rattle.rule_model.specs.Closings.{AreLinkedTo, IsAssumeIn, IsSubproof, IsLetClosing, MeetsClosing, EndsIn}
+use Rattle.rule_model.specs.Subproof.{AreLinkedTo, IsAssumeIn, IsSubproof, IsLetClosing, MeetsClosing, EndsIn}
 use Rattle.rule_model.specs.Commands.{IndexedCommand, assume, step, closing, Line, lines_in, lines_around, lines_to, own_scope}
 use Rattle.rule_model.specs.Conditions.{Met, MeetsWhere, IsMetAt, IsClauseOfTruths}
 use Rattle.rule_model.specs.Contexts.{context_values, IsInContext}
 use Rattle.rule_model.specs.Judged.{judged_at, open_anchors, anchors_at}
 use Rattle.rule_model.specs.Proofs.{Step, ProofItems, no_items, with_assume, with_step, with_subproof}
 use Rattle.rule_model.specs.Reading.{rule_of, clause_of, premises_of, rule_at, clause_at, premises_at, discharged_at}
-use Rattle.rule_model.specs.RuleNames.{is_assume}
+use Rattle.rule_model.specs.RuleNames.{is_assume, kind_of}
 use Rattle.rule_model.specs.Scopes.{Anchor, Nesting, outermost, inside, Scope, at, inner, scope_number}
 use Rattle.rule_model.specs.Soundness.{IsJustified, AreJustifiedTo}
-use Rattle.rule_model.specs.Statuses.{Checking, IsAsserted, Kind, assumed, hole, unknown, conditional, kind_of_rule, IsStatusBy, IsStatusAt}
+use Rattle.rule_model.specs.Statuses.{Checking, IsAsserted, kind_under, kind_of_rule, IsStatusBy, IsStatusAt}
 use Rattle.rule_model.specs.Truth.{assumed_in, open_assumes, IsTrueWhere, IsTrueCommand, IsTrueAt, FollowsWhere, FollowsAt, IsLiteralIn, AreWellSorted, IsWellSortedProof}
 use Rattle.rule_model.specs.Visibility.{visible}
 use Rattle.rule_model.specs.WellFormed.{HasRule, AreWellFormed, IsWellFormed}
 use Rattle.rule_model.specs.Writing.{add_command, MayAddHere}
-use Rattle.rule_model.proofs.ClosingLaws.{subproof_keeps, let_value, not_replaced, unit_true}
+use Rattle.rule_model.proofs.Subproof.{subproof_keeps, let_value, not_replaced, unit_true}
 use Rattle.rule_model.proofs.ConditionLaws.{met_keeps}
 use Rattle.rule_model.proofs.ContextLaws.{anchor_binds, anchor_keeps_others}
 use Rattle.rule_model.proofs.LineReading.{rule_is, clause_is, premises_are, scope_is, closes_is, anchors_are, bindings_are, last_is}
@@ -61,24 +62,25 @@ lines_good nesting (with_subproof items bindings proof s) good formed sorted =
     (record { around = deep; literals = sorted.3 }, tt)
 
 -- a status Ok of a step is that its condition is met
-not_assumed : (c : Checking) (rule : Rule) → is_assume rule ≡ false → kind_of_rule c rule ≡ assumed → ⊥
-not_assumed c Rule.Assume n e = absurd cc
-not_assumed c Rule.Hole n e = absurd cc
-not_assumed c Rule.LiaGeneric n e = absurd cc
-not_assumed c Rule.RareRewrite n e = absurd cc
-not_assumed c Rule.AllSimplify n e = absurd cc
-not_assumed c rule n e = never (c.is_judged rule) c.unknown_are_holes e
+not_assumed : (c : Checking) (rule : Rule) → is_assume rule ≡ false → kind_of_rule c rule ≡ Kind.Assumed → ⊥
+not_assumed c rule n e = only rule n (never c.unknown_are_holes (kind_of rule) e)
   where
-    never : (x b : Bool) → (if x then conditional else (if b then hole else unknown)) ≡ assumed → ⊥
-    never true b e = cc
-    never false true e = cc
-    never false false e = cc
+    never : (b : Bool) (kind : Kind) → kind_under b kind ≡ Kind.Assumed → kind ≡ Kind.Assumed
+    never b Kind.Assumed e = refl
+    never true Kind.Unknown e = absurd cc
+    never false Kind.Unknown e = absurd cc
+    never b Kind.Hole e = absurd cc
+    never b (Kind.Judged family) e = absurd cc
 
-ok_met : (k : Kind) (c : Checking) (proof : ProofItems Var Term) (i : ℕ) → ¬ (k ≡ assumed) → IsStatusBy k c proof i Status.Ok → IsMetAt c.mode proof i
-ok_met assumed c proof i n h = absurd (n refl)
-ok_met hole c proof i n h = absurd h
-ok_met unknown c proof i n h = absurd h
-ok_met conditional c proof i n h = h.1
+    only : (rule : Rule) → is_assume rule ≡ false → kind_of rule ≡ Kind.Assumed → ⊥
+    only Rule.Assume n e = absurd cc
+    only rule n e = absurd cc
+
+ok_met : (k : Kind) (c : Checking) (proof : ProofItems Var Term) (i : ℕ) → ¬ (k ≡ Kind.Assumed) → IsStatusBy k c proof i Status.Ok → IsMetAt c.mode proof i
+ok_met Kind.Assumed c proof i n h = absurd (n refl)
+ok_met Kind.Hole c proof i n h = absurd h
+ok_met Kind.Unknown c proof i n h = absurd h
+ok_met (Kind.Judged family) c proof i n h = h.1
 
 -- what is asserted is true where the assertions are
 asserted_true : (I : Interpretation) (mode : Mode) (assertions : List Term) (t : Term) → MakesAllTrue I assertions → IsAsserted mode assertions t → MakesTrue I [] t

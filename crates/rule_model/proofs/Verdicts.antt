@@ -3,6 +3,8 @@ use Rattle.std.proofs.Common.{◌≡◌, ◌<◌, ◌⊎◌, inl, inr, ℕ, zero
 use Rattle.std.proofs.lemmas.List.Elements.{All-contains}
 use Rattle.term_model.specs.Terms.{Var, Term}
 use Rattle.term_model.specs.Unsatisfiable.{Unsatisfiable}
+use Rattle.rule_model.specs.declared.kinds.Family.{Family}
+use Rattle.rule_model.specs.declared.kinds.Kind.{Kind}
 use Rattle.rule_model.specs.declared.rules.StepCause.{StepCause}
 use Rattle.rule_model.specs.declared.statuses.Status.{Status}
 use Rattle.rule_model.specs.declared.statuses.Verdict.{Verdict}
@@ -12,7 +14,7 @@ use Rattle.rule_model.specs.Proofs.{ProofItems}
 use Rattle.rule_model.specs.Reading.{clause_of, clause_at, scope_at}
 use Rattle.rule_model.specs.Scopes.{Nesting, outermost, inside, Scope, at, commands_in, scope_number}
 use Rattle.rule_model.specs.Soundness.{IsJustified, AreJustifiedTo}
-use Rattle.rule_model.specs.Statuses.{Checking, MayAssume, Kind, assumed, hole, unknown, conditional, kind_of_rule, IsStatusBy, IsStatusAt, AreStatuses, Passes, IsFirstAt, IsVerdict}
+use Rattle.rule_model.specs.Statuses.{Checking, MayAssume, kind_of_rule, IsStatusBy, IsStatusAt, AreStatuses, Passes, IsFirstAt, IsVerdict}
 use Rattle.rule_model.specs.Truth.{IsTrueWhere, IsTrueCommand, IsWellSortedProof}
 use Rattle.rule_model.specs.WellFormed.{IsWellFormed}
 use Rattle.rule_model.specs.Writing.{add_command}
@@ -24,13 +26,13 @@ use Rattle.rule_model.proofs.Standing.{own_number}
 
 -- what is said by a status of each kind of command
 module _ (c : Checking) (proof : ProofItems Var Term) (i : ℕ) where
-  hole_status : (s : Status) → IsStatusBy hole c proof i s → s ≡ Status.Hole
+  hole_status : (s : Status) → IsStatusBy Kind.Hole c proof i s → s ≡ Status.Hole
   hole_status Status.Ok h = absurd h
   hole_status Status.Hole h = refl
   hole_status (Status.Faulty cause) h = absurd h
   hole_status Status.Wide h = absurd h
 
-  unknown_status : (s : Status) → IsStatusBy unknown c proof i s → s ≡ Status.Faulty StepCause.UnknownRule
+  unknown_status : (s : Status) → IsStatusBy Kind.Unknown c proof i s → s ≡ Status.Faulty StepCause.UnknownRule
   unknown_status Status.Ok h = absurd h
   unknown_status Status.Hole h = absurd h
   unknown_status (Status.Faulty StepCause.UnknownRule) h = refl
@@ -38,7 +40,7 @@ module _ (c : Checking) (proof : ProofItems Var Term) (i : ℕ) where
   unknown_status (Status.Faulty StepCause.NotAsserted) h = absurd h
   unknown_status Status.Wide h = absurd h
 
-  assumed_status : (s : Status) → IsStatusBy assumed c proof i s → ((s ≡ Status.Ok) × MayAssume c proof i) ⊎ ((s ≡ Status.Faulty StepCause.NotAsserted) × ¬ MayAssume c proof i)
+  assumed_status : (s : Status) → IsStatusBy Kind.Assumed c proof i s → ((s ≡ Status.Ok) × MayAssume c proof i) ⊎ ((s ≡ Status.Faulty StepCause.NotAsserted) × ¬ MayAssume c proof i)
   assumed_status Status.Ok h = inl (refl, h)
   assumed_status Status.Hole h = absurd h
   assumed_status (Status.Faulty StepCause.UnknownRule) h = absurd h
@@ -47,13 +49,13 @@ module _ (c : Checking) (proof : ProofItems Var Term) (i : ℕ) where
   assumed_status Status.Wide h = absurd h
 
   -- a step that is judged is too wide, or it is not, and then it is met or not
-  judged_status : (s : Status) → IsStatusBy conditional c proof i s → ((s ≡ Status.Wide) × IsTooWideAt c.mode proof i) ⊎ ((¬ IsTooWideAt c.mode proof i) × (((s ≡ Status.Ok) × IsMetAt c.mode proof i) ⊎ ((s ≡ Status.Faulty StepCause.NotMet) × ¬ IsMetAt c.mode proof i)))
-  judged_status Status.Ok h = inr (h.0, inl (refl, h.1))
-  judged_status Status.Hole h = absurd h
-  judged_status (Status.Faulty StepCause.UnknownRule) h = absurd h
-  judged_status (Status.Faulty StepCause.NotMet) h = inr (h.0, inr (refl, h.1))
-  judged_status (Status.Faulty StepCause.NotAsserted) h = absurd h
-  judged_status Status.Wide h = inl (refl, h)
+  judged_status : (family : Family) (s : Status) → IsStatusBy (Kind.Judged family) c proof i s → ((s ≡ Status.Wide) × IsTooWideAt c.mode proof i) ⊎ ((¬ IsTooWideAt c.mode proof i) × (((s ≡ Status.Ok) × IsMetAt c.mode proof i) ⊎ ((s ≡ Status.Faulty StepCause.NotMet) × ¬ IsMetAt c.mode proof i)))
+  judged_status family Status.Ok h = inr (h.0, inl (refl, h.1))
+  judged_status family Status.Hole h = absurd h
+  judged_status family (Status.Faulty StepCause.UnknownRule) h = absurd h
+  judged_status family (Status.Faulty StepCause.NotMet) h = inr (h.0, inr (refl, h.1))
+  judged_status family (Status.Faulty StepCause.NotAsserted) h = absurd h
+  judged_status family Status.Wide h = inl (refl, h)
 
   one_of_two : {P : Type 0} (a b s z : Status) → ((s ≡ a) × P) ⊎ ((s ≡ b) × ¬ P) → ((z ≡ a) × P) ⊎ ((z ≡ b) × ¬ P) → s ≡ z
   one_of_two a b s z (inl (e, p)) (inl (f, q)) = e ∙ sym f
@@ -68,10 +70,10 @@ module _ (c : Checking) (proof : ProofItems Var Term) (i : ℕ) where
   one_of_three s z (inr (n, h)) (inr (m, k)) = one_of_two Status.Ok (Status.Faulty StepCause.NotMet) s z h k
 
   status_by : (k : Kind) (s z : Status) → IsStatusBy k c proof i s → IsStatusBy k c proof i z → s ≡ z
-  status_by assumed s z h k = one_of_two Status.Ok (Status.Faulty StepCause.NotAsserted) s z (assumed_status s h) (assumed_status z k)
-  status_by hole s z h k = hole_status s h ∙ sym (hole_status z k)
-  status_by unknown s z h k = unknown_status s h ∙ sym (unknown_status z k)
-  status_by conditional s z h k = one_of_three s z (judged_status s h) (judged_status z k)
+  status_by Kind.Assumed s z h k = one_of_two Status.Ok (Status.Faulty StepCause.NotAsserted) s z (assumed_status s h) (assumed_status z k)
+  status_by Kind.Hole s z h k = hole_status s h ∙ sym (hole_status z k)
+  status_by Kind.Unknown s z h k = unknown_status s h ∙ sym (unknown_status z k)
+  status_by (Kind.Judged family) s z h k = one_of_three s z (judged_status family s h) (judged_status family z k)
 
   pub one_status : (s z : Status) → IsStatusAt c proof i s → IsStatusAt c proof i z → s ≡ z
   one_status s z h k = status_by (kind_of_rule c _) s z h k

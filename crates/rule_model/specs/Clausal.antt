@@ -1,7 +1,7 @@
 -- Public. The clausal rules (Alethe specification, "List of rules"), but those over `ite`: tautologies of the connectives,
 -- which have no premise; what follows from one premise that is a connective; and clauses that have the literals of another
 -- one. Both modes ask the same. A premise with a pattern is a unit clause.
-use Rattle.std.specs.Prelude.{◌≡◌, ◌≢◌, ◌↔◌, Bool, true, false, ◌||◌, List, [], ◌∷◌, map, AllPairs, Contains, IsPermutation, Option, None, is_some, IsTrue}
+use Rattle.std.specs.Prelude.{◌≡◌, ◌≢◌, ◌↔◌, List, [], ◌∷◌, map, AllPairs, Contains, IsPermutation, Option, None}
 use Rattle.term_model.specs.declared.symbols.Op.{Op}
 use Rattle.term_model.specs.Terms.{Term, operation, no_terms, terms_of, not_of}
 use Rattle.rule_model.specs.declared.rules.Rule.{Rule}
@@ -107,22 +107,3 @@ MeetsClausal Rule.Reordering = Changes (λ old new. IsPermutation old new)  -- r
 MeetsClausal Rule.Weakening = Changes HasEach  -- weakening
 MeetsClausal Rule.Tautology = Changes IsTautology  -- tautology
 MeetsClausal rule = IsInstanceOf (schema_of rule)
-
--- the rules over lists, and the rules of this family
-abbrev pub is_over_list : Rule → Bool
-is_over_list Rule.AndPos = true
-is_over_list Rule.AndNeg = true
-is_over_list Rule.OrPos = true
-is_over_list Rule.OrNeg = true
-is_over_list Rule.And = true
-is_over_list Rule.Or = true
-is_over_list Rule.NotOr = true
-is_over_list Rule.NotAnd = true
-is_over_list Rule.Contraction = true
-is_over_list Rule.Reordering = true
-is_over_list Rule.Weakening = true
-is_over_list Rule.Tautology = true
-is_over_list _ = false
-
-abbrev pub IsClausal : Rule → Type 0
-IsClausal rule = IsTrue (is_some (schema_of rule) || is_over_list rule)

@@ -1,6 +1,6 @@
 -- Public. The condition of each rule (Alethe specification, "List of rules"), and what is asked of a step's terms and of
 -- the values of variables for a condition to keep truth. Each family of rules has a file of its own. Those of the rules
--- whose steps close a scope are in `Closings`.
+-- whose steps close a scope are in `Subproof`.
 use Rattle.std.specs.Prelude.{ℕ, List, All, Option, Some, None}
 use Rattle.term_model.specs.declared.symbols.Sort.{Sort}
 use Rattle.term_model.specs.Interpretations.{Interpretation}
@@ -9,22 +9,25 @@ use Rattle.term_model.specs.Sorts.{IsOf}
 use Rattle.term_model.specs.Terms.{Var, Term}
 use Rattle.rule_model.specs.declared.rules.Mode.{Mode}
 use Rattle.rule_model.specs.declared.rules.Rule.{Rule}
-use Rattle.rule_model.specs.Arithmetic.{MeetsFormSimplification, IsWideFormSimplification, MeetsLaDisequality, MeetsLaTotality, MeetsLaRwEq, MeetsLaGeneric, IsWideLaGeneric}
+use Rattle.rule_model.specs.Arith.{MeetsFormSimplification, IsWideFormSimplification, MeetsLaDisequality, MeetsLaTotality}
+use Rattle.rule_model.specs.Arith.{MeetsLaRwEq, MeetsLaGeneric, IsWideLaGeneric}
 use Rattle.rule_model.specs.Clausal.{MeetsClausal}
 use Rattle.rule_model.specs.Clauses.{MakesClauseTrue}
-use Rattle.rule_model.specs.Closings.{MeetsClosing}
-use Rattle.rule_model.specs.Congruence.{MeetsSymm, MeetsNotSymm, MeetsTrans, MeetsCong, MeetsEqReflexive, MeetsEqSymmetric, MeetsEqTransitive, MeetsEqCongruent, MeetsEqCongruentPred}
+use Rattle.rule_model.specs.Subproof.{MeetsClosing}
+use Rattle.rule_model.specs.Congruence.{MeetsSymm, MeetsNotSymm, MeetsTrans, MeetsCong, MeetsEqReflexive, MeetsEqSymmetric}
+use Rattle.rule_model.specs.Congruence.{MeetsEqTransitive, MeetsEqCongruent, MeetsEqCongruentPred}
 use Rattle.rule_model.specs.Contexts.{IsInContext}
-use Rattle.rule_model.specs.Definitions.{MeetsChoice, MeetsConnectiveDef, MeetsIteIntro, MeetsDistinctElim}
+use Rattle.rule_model.specs.Ite.{MeetsChoice, MeetsConnectiveDef, MeetsIteIntro, MeetsDistinctElim}
 use Rattle.rule_model.specs.Judged.{Judged, judged_at}
 use Rattle.rule_model.specs.Proofs.{ProofItems}
 use Rattle.rule_model.specs.Reading.{rule_at, closes_at}
-use Rattle.rule_model.specs.Reflexivity.{MeetsRefl}
+use Rattle.rule_model.specs.Refl.{MeetsRefl}
 use Rattle.rule_model.specs.Resolution.{Resolves}
-use Rattle.rule_model.specs.Simplification.{not_simplify, implies_simplify, equiv_simplify, bool_simplify, ite_simplify, eq_simplify, comp_simplify, MeetsSimplification, MeetsAndSimplify, MeetsOrSimplify}
+use Rattle.rule_model.specs.Simplify.{not_simplify, implies_simplify, equiv_simplify, bool_simplify, ite_simplify, eq_simplify}
+use Rattle.rule_model.specs.Simplify.{comp_simplify, MeetsSimplification, MeetsAndSimplify, MeetsOrSimplify}
 
--- What a step that closes nothing meets under a rule. Rules that have no condition here yet are met by no step: they have no
--- schema.
+-- What a step that closes nothing meets under a rule. Assumes, unknown rules and holes are met by no step, and the last two
+-- rules only by steps that close a scope.
 abbrev pub MeetsRule : Rule → Judged → Type 0
 MeetsRule Rule.Resolution j = Resolves j.mode j.pivots j.premises j.clause
 MeetsRule Rule.ThResolution j = Resolves j.mode j.pivots j.premises j.clause
@@ -66,7 +69,51 @@ MeetsRule Rule.LaDisequality j = MeetsLaDisequality j.premises j.clause
 MeetsRule Rule.LaTotality j = MeetsLaTotality j.premises j.clause
 MeetsRule Rule.LaRwEq j = MeetsLaRwEq j.premises j.clause
 MeetsRule Rule.LaGeneric j = MeetsLaGeneric j.ratios j.premises j.clause
-MeetsRule rule j = MeetsClausal rule j.premises j.clause
+MeetsRule Rule.True j = MeetsClausal Rule.True j.premises j.clause
+MeetsRule Rule.False j = MeetsClausal Rule.False j.premises j.clause
+MeetsRule Rule.NotNot j = MeetsClausal Rule.NotNot j.premises j.clause
+MeetsRule Rule.AndPos j = MeetsClausal Rule.AndPos j.premises j.clause
+MeetsRule Rule.AndNeg j = MeetsClausal Rule.AndNeg j.premises j.clause
+MeetsRule Rule.OrPos j = MeetsClausal Rule.OrPos j.premises j.clause
+MeetsRule Rule.OrNeg j = MeetsClausal Rule.OrNeg j.premises j.clause
+MeetsRule Rule.XorPos1 j = MeetsClausal Rule.XorPos1 j.premises j.clause
+MeetsRule Rule.XorPos2 j = MeetsClausal Rule.XorPos2 j.premises j.clause
+MeetsRule Rule.XorNeg1 j = MeetsClausal Rule.XorNeg1 j.premises j.clause
+MeetsRule Rule.XorNeg2 j = MeetsClausal Rule.XorNeg2 j.premises j.clause
+MeetsRule Rule.ImpliesPos j = MeetsClausal Rule.ImpliesPos j.premises j.clause
+MeetsRule Rule.ImpliesNeg1 j = MeetsClausal Rule.ImpliesNeg1 j.premises j.clause
+MeetsRule Rule.ImpliesNeg2 j = MeetsClausal Rule.ImpliesNeg2 j.premises j.clause
+MeetsRule Rule.EquivPos1 j = MeetsClausal Rule.EquivPos1 j.premises j.clause
+MeetsRule Rule.EquivPos2 j = MeetsClausal Rule.EquivPos2 j.premises j.clause
+MeetsRule Rule.EquivNeg1 j = MeetsClausal Rule.EquivNeg1 j.premises j.clause
+MeetsRule Rule.EquivNeg2 j = MeetsClausal Rule.EquivNeg2 j.premises j.clause
+MeetsRule Rule.And j = MeetsClausal Rule.And j.premises j.clause
+MeetsRule Rule.Or j = MeetsClausal Rule.Or j.premises j.clause
+MeetsRule Rule.NotOr j = MeetsClausal Rule.NotOr j.premises j.clause
+MeetsRule Rule.NotAnd j = MeetsClausal Rule.NotAnd j.premises j.clause
+MeetsRule Rule.Xor1 j = MeetsClausal Rule.Xor1 j.premises j.clause
+MeetsRule Rule.Xor2 j = MeetsClausal Rule.Xor2 j.premises j.clause
+MeetsRule Rule.NotXor1 j = MeetsClausal Rule.NotXor1 j.premises j.clause
+MeetsRule Rule.NotXor2 j = MeetsClausal Rule.NotXor2 j.premises j.clause
+MeetsRule Rule.Implies j = MeetsClausal Rule.Implies j.premises j.clause
+MeetsRule Rule.NotImplies1 j = MeetsClausal Rule.NotImplies1 j.premises j.clause
+MeetsRule Rule.NotImplies2 j = MeetsClausal Rule.NotImplies2 j.premises j.clause
+MeetsRule Rule.Equiv1 j = MeetsClausal Rule.Equiv1 j.premises j.clause
+MeetsRule Rule.Equiv2 j = MeetsClausal Rule.Equiv2 j.premises j.clause
+MeetsRule Rule.NotEquiv1 j = MeetsClausal Rule.NotEquiv1 j.premises j.clause
+MeetsRule Rule.NotEquiv2 j = MeetsClausal Rule.NotEquiv2 j.premises j.clause
+MeetsRule Rule.Contraction j = MeetsClausal Rule.Contraction j.premises j.clause
+MeetsRule Rule.Reordering j = MeetsClausal Rule.Reordering j.premises j.clause
+MeetsRule Rule.Weakening j = MeetsClausal Rule.Weakening j.premises j.clause
+MeetsRule Rule.Tautology j = MeetsClausal Rule.Tautology j.premises j.clause
+MeetsRule Rule.Assume j = ⊥
+MeetsRule Rule.Unknown j = ⊥
+MeetsRule Rule.Hole j = ⊥
+MeetsRule Rule.LiaGeneric j = ⊥
+MeetsRule Rule.RareRewrite j = ⊥
+MeetsRule Rule.AllSimplify j = ⊥
+MeetsRule Rule.Subproof j = ⊥
+MeetsRule Rule.Let j = ⊥
 
 -- the step meets the condition of its rule
 abbrev pub Met : Judged → Type 0
@@ -120,3 +167,7 @@ pub record IsWellSortedStep (r : Valuation) (j : Judged) : Type 0 where
 abbrev pub KeepsTruth : Interpretation → Valuation → Judged → Type 0
 KeepsTruth I r j =
     (LooksAtContext j.rule → IsInContext I r j.anchors) → All (MakesClauseTrue I r) j.premises → MakesClauseTrue I r j.clause
+
+-- the same under every interpretation, and under values of variables of their sorts; the literals are terms of Bool
+abbrev pub AlwaysKeepsTruth : Judged → Type 0
+AlwaysKeepsTruth j = (I : Interpretation) (r : Valuation) → IsWellSortedStep r j → KeepsTruth I r j

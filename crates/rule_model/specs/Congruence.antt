@@ -1,7 +1,7 @@
 -- Public. The rules of equality (Alethe specification, "List of rules") but `refl`: an equality turned round, a way over
 -- equalities, and applications whose arguments equalities link. The equalities are premises, each a unit clause, or they
 -- stand denied in the clause, before what they give.
-use Rattle.std.specs.Prelude.{◌≡◌, ◌≢◌, ◌⊎◌, Bool, true, false, List, [], ◌∷◌, ◌++◌, map, Contains, IsTrue}
+use Rattle.std.specs.Prelude.{◌≡◌, ◌≢◌, ◌⊎◌, List, [], ◌∷◌, ◌++◌, map, Contains}
 use Rattle.std.specs.List.{AllZip}
 use Rattle.term_model.specs.declared.symbols.Op.{Op}
 use Rattle.term_model.specs.declared.symbols.Sort.{Sort}
@@ -9,7 +9,6 @@ use Rattle.term_model.specs.Flips.{equality, EqualUpToFlips}
 use Rattle.term_model.specs.Sorts.{IsOf}
 use Rattle.term_model.specs.Terms.{Fun, Term, operation, call, terms_of, not_of}
 use Rattle.rule_model.specs.declared.rules.Mode.{Mode}
-use Rattle.rule_model.specs.declared.rules.Rule.{Rule}
 use Rattle.rule_model.specs.Clausal.{as_it_stands}
 
 -- the one premise is an equality, or its negation, and the clause is the same with the sides exchanged
@@ -155,7 +154,8 @@ pub record AreCongruent (together : Head → List (List Term) → List Term → 
   pub arguments : together head premises ts us
 
 -- the same of terms of Bool
-pub record AreCongruentTruths (together : Head → List (List Term) → List Term → List Term → Type 0) (premises : List (List Term)) (left right : Term) : Type 0 where
+pub record AreCongruentTruths (together : Head → List (List Term) → List Term → List Term → Type 0)
+    (premises : List (List Term)) (left right : Term) : Type 0 where
   pub left_sort : IsOf left Sort.Bool
   pub right_sort : IsOf right Sort.Bool
   pub congruent : AreCongruent together premises left right
@@ -197,19 +197,3 @@ MeetsEqCongruent mode premises clause = Denies (Equates (AreCongruent (HangToget
 
 abbrev pub MeetsEqCongruentPred : Mode → List (List Term) → List Term → Type 0
 MeetsEqCongruentPred mode premises clause = Denies (GivesPredicates mode) premises clause
-
--- the rules of this family
-abbrev pub is_of_equality : Rule → Bool
-is_of_equality Rule.Symm = true
-is_of_equality Rule.NotSymm = true
-is_of_equality Rule.Trans = true
-is_of_equality Rule.Cong = true
-is_of_equality Rule.EqReflexive = true
-is_of_equality Rule.EqSymmetric = true
-is_of_equality Rule.EqTransitive = true
-is_of_equality Rule.EqCongruent = true
-is_of_equality Rule.EqCongruentPred = true
-is_of_equality _ = false
-
-abbrev pub IsOfEquality : Rule → Type 0
-IsOfEquality rule = IsTrue (is_of_equality rule)

@@ -27,34 +27,38 @@ as_clause terms = map as_literal terms
 abbrev pub ResolvesInCheck : List (List Term) → List Term → Type 0
 ResolvesInCheck premises clause = Follows (map as_clause premises) (as_clause clause)
 
--- the list is what is left of another where every occurrence of a term is removed
-abbrev pub LeavesWithout : Term → List Term → List Term → Type 0
+-- the list is what is left of another where every occurrence of an item is removed
+abbrev pub LeavesWithout : {X : Type 0} → X → List X → List X → Type 0
 LeavesWithout p [] rest = rest ≡ []
-LeavesWithout p (t ∷ ts) rest =
-    ((t ≡ p) × LeavesWithout p ts rest) ⊎ ((t ≢ p) × ((us : List Term) × (rest ≡ t ∷ us) × LeavesWithout p ts us))
+LeavesWithout {X} p (t ∷ ts) rest =
+    ((t ≡ p) × LeavesWithout p ts rest) ⊎ ((t ≢ p) × ((us : List X) × (rest ≡ t ∷ us) × LeavesWithout p ts us))
 
--- the list is what is left of another where each term is dropped that stands before it, or is one of those seen
-abbrev pub IsFirstsOf : List Term → List Term → List Term → Type 0
+-- the list is what is left of another where each item is dropped that stands before it, or is one of those seen
+abbrev pub IsFirstsOf : {X : Type 0} → List X → List X → List X → Type 0
 IsFirstsOf seen [] rest = rest ≡ []
-IsFirstsOf seen (t ∷ ts) rest =
+IsFirstsOf {X} seen (t ∷ ts) rest =
     (Contains seen t × IsFirstsOf seen ts rest)
-    ⊎ ((Contains seen t → ⊥) × ((us : List Term) × (rest ≡ t ∷ us) × IsFirstsOf (seen ++ t ∷ []) ts us))
+    ⊎ ((Contains seen t → ⊥) × ((us : List X) × (rest ≡ t ∷ us) × IsFirstsOf (seen ++ t ∷ []) ts us))
+
+-- One item stands on the left, and another on the right. All occurrences of each are removed from their side, what is left
+-- is joined, and later repeats are dropped.
+pub record IsJoined {X : Type 0} (left right : List X) (here there : X) (result : List X) : Type 0 where
+  pub on_left : Contains left here
+  pub on_right : Contains right there
+  pub left_rest : List X
+  pub left_is : LeavesWithout here left left_rest
+  pub right_rest : List X
+  pub right_is : LeavesWithout there right right_rest
+  pub firsts : IsFirstsOf [] (left_rest ++ right_rest) result
 
 -- a pivot where it is true, and its negation where it is false
 abbrev pub with_sign : Term → Bool → Term
 with_sign p true = p
 with_sign p false = not_of p
 
--- One step of a chain. The pivot stands with its sign on the left, and with the other on the right. All occurrences
--- of each are removed from their side, what is left is joined, and later repeats are dropped.
-pub record IsResolvent (left right : List Term) (pivot : Term) (sign : Bool) (result : List Term) : Type 0 where
-  pub on_left : Contains left (with_sign pivot sign)
-  pub on_right : Contains right (with_sign pivot (not sign))
-  pub left_rest : List Term
-  pub left_is : LeavesWithout (with_sign pivot sign) left left_rest
-  pub right_rest : List Term
-  pub right_is : LeavesWithout (with_sign pivot (not sign)) right right_rest
-  pub firsts : IsFirstsOf [] (left_rest ++ right_rest) result
+-- one step of a chain: the clauses are joined on the pivot with its sign on the left, and with the other on the right
+abbrev pub IsResolvent : List Term → List Term → Term → Bool → List Term → Type 0
+IsResolvent left right pivot sign result = IsJoined left right (with_sign pivot sign) (with_sign pivot (not sign)) result
 
 -- a chain from a clause through others, with a pivot for each, to its result
 abbrev pub Chains : List Term → List (List Term) → List (Term × Bool) → List Term → Type 0

@@ -3,6 +3,7 @@
 use Rattle.std.specs.Prelude.{◌≡◌, ◌<◌, ℕ, Bool, List, [], slice_get, length, Some, All, Any, Contains, if◌then◌else◌, ⊤}
 use Rattle.term_model.specs.Flips.{EqualUpToFlips}
 use Rattle.term_model.specs.Terms.{Var, Term}
+use Rattle.rule_model.specs.declared.kinds.Kind.{Kind}
 use Rattle.rule_model.specs.declared.rules.Mode.{Mode}
 use Rattle.rule_model.specs.declared.rules.Rule.{Rule}
 use Rattle.rule_model.specs.declared.rules.StepCause.{StepCause}
@@ -11,13 +12,13 @@ use Rattle.rule_model.specs.declared.statuses.Verdict.{Verdict}
 use Rattle.rule_model.specs.Conditions.{IsMetAt, IsTooWideAt}
 use Rattle.rule_model.specs.Proofs.{ProofItems}
 use Rattle.rule_model.specs.Reading.{rule_at, clause_at, scope_at}
+use Rattle.rule_model.specs.RuleNames.{kind_of}
 use Rattle.rule_model.specs.Scopes.{commands_in}
 
--- by what a proof is checked: the column of the conditions, the rules by whose condition a step is judged, whether a step of
--- another rule counts as a hole, and the assertions of the problem
+-- by what a proof is checked: the column of the conditions, whether a step of an unknown rule counts as a hole, and the
+-- assertions of the problem
 pub record Checking : Type 0 where
   pub mode : Mode
-  pub is_judged : Rule → Bool
   pub unknown_are_holes : Bool
   pub assertions : List Term
 
@@ -30,30 +31,24 @@ IsAsserted Mode.Strict assertions t = Contains assertions t
 abbrev pub MayAssume : Checking → ProofItems Var Term → ℕ → Type 0
 MayAssume c proof i = scope_at proof i ≡ 0 → All (IsAsserted c.mode c.assertions) (clause_at proof i)
 
--- how the command of a rule is judged: as an assume, as a hole, not at all, or by the rule's condition
-pub data Kind : Type 0 where
-  assumed : Kind
-  hole : Kind
-  unknown : Kind
-  conditional : Kind
+-- an unknown rule leaves a hole where it is asked so
+abbrev pub kind_under : Bool → Kind → Kind
+kind_under ignored Kind.Unknown = if ignored then Kind.Hole else Kind.Unknown
+kind_under ignored kind = kind
 
+-- how the command of a rule is judged
 abbrev pub kind_of_rule : Checking → Rule → Kind
-kind_of_rule c Rule.Assume = assumed
-kind_of_rule c Rule.Hole = hole
-kind_of_rule c Rule.LiaGeneric = hole
-kind_of_rule c Rule.RareRewrite = hole
-kind_of_rule c Rule.AllSimplify = hole
-kind_of_rule c rule = if c.is_judged rule then conditional else (if c.unknown_are_holes then hole else unknown)
+kind_of_rule c rule = kind_under c.unknown_are_holes (kind_of rule)
 
 -- the statuses that a command of each kind may have
 abbrev pub IsStatusBy : Kind → Checking → ProofItems Var Term → ℕ → Status → Type 0
-IsStatusBy assumed c proof i Status.Ok = MayAssume c proof i
-IsStatusBy assumed c proof i (Status.Faulty StepCause.NotAsserted) = ¬ MayAssume c proof i
-IsStatusBy hole c proof i Status.Hole = ⊤
-IsStatusBy unknown c proof i (Status.Faulty StepCause.UnknownRule) = ⊤
-IsStatusBy conditional c proof i Status.Ok = (¬ IsTooWideAt c.mode proof i) × IsMetAt c.mode proof i
-IsStatusBy conditional c proof i (Status.Faulty StepCause.NotMet) = (¬ IsTooWideAt c.mode proof i) × (¬ IsMetAt c.mode proof i)
-IsStatusBy conditional c proof i Status.Wide = IsTooWideAt c.mode proof i
+IsStatusBy Kind.Assumed c proof i Status.Ok = MayAssume c proof i
+IsStatusBy Kind.Assumed c proof i (Status.Faulty StepCause.NotAsserted) = ¬ MayAssume c proof i
+IsStatusBy Kind.Hole c proof i Status.Hole = ⊤
+IsStatusBy Kind.Unknown c proof i (Status.Faulty StepCause.UnknownRule) = ⊤
+IsStatusBy (Kind.Judged family) c proof i Status.Ok = (¬ IsTooWideAt c.mode proof i) × IsMetAt c.mode proof i
+IsStatusBy (Kind.Judged family) c proof i (Status.Faulty StepCause.NotMet) = (¬ IsTooWideAt c.mode proof i) × (¬ IsMetAt c.mode proof i)
+IsStatusBy (Kind.Judged family) c proof i Status.Wide = IsTooWideAt c.mode proof i
 IsStatusBy kind c proof i status = ⊥
 
 -- the status of the command at an index

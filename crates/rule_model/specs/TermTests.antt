@@ -1,7 +1,8 @@
 -- Public. Whether two terms are one, as a test.
 use Rattle.std.specs.Prelude.{Bool, true, false, ◌==◌, ◌&&◌, bytes_eq}
 use Rattle.term_model.specs.declared.symbols.Op.{Op}
-use Rattle.term_model.specs.Terms.{sort_eq, var_eq, Fun, Term, numeral, variable, operation, call, let_in, Terms, no_terms, term, Bindings, no_bindings, binding}
+use Rattle.term_model.specs.Terms.{sort_eq, var_eq, Fun, Term, numeral, variable, operation, call, let_in, Terms, no_terms, term}
+use Rattle.term_model.specs.Terms.{Bindings, no_bindings, binding}
 use Rattle.term_model.specs.Sorts.{sorts_eq}
 
 abbrev pub op_eq : Op → Op → Bool

@@ -11,5 +11,6 @@ pub mod resolution;
 pub mod rules;
 pub mod scopes;
 pub mod soundness;
+pub mod strict;
 pub mod substitution;
 pub mod worked;

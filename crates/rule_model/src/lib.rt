@@ -4,12 +4,14 @@
 //! contracts are laws of the definitions, which whoever reads them can hold them against.
 #![tactic(auto)]
 
+mod kinds;
 pub mod laws;
 mod letter;
 mod literal;
 mod rules;
 mod statuses;
 
+pub use kinds::{Family, Kind};
 pub use letter::Letter;
 pub use literal::Literal;
 pub use rules::{Mode, Rule, StepCause};

@@ -1,4 +1,4 @@
-//! The rules of proofs, and what a check of them may answer.
+//! The rules of proofs, and what a check of them may return.
 
 /// The column of a rule's condition that a check takes.
 #[derive(Clone, Copy, Debug, PartialEq, Eq)]

@@ -1,21 +1,27 @@
--- What the rules of this family ask of the step at an index.
-use Rattle.std.proofs.Common.{◌≡◌, ◌≢◌, ◌↔◌, ℕ, List, [], map, Bool, true, false, IsTrue, Option, Some, None, refl, sym, ap, subst}
-use Rattle.std.specs.Option.{is_some}
-use Rattle.proof_store.specs.declared.answers.Answer.{Answer}
-use Rattle.term_model.specs.Terms.{Var, Term}
-use Rattle.rule_model.specs.declared.rules.Mode.{Mode}
+-- What the rules of this family ask of a step.
+use Rattle.std.proofs.Common.{◌≡◌, ◌≢◌, ◌↔◌, ℕ, List, [], length, Bool, true, false, IsTrue, Option, Some, None, refl, sym, subst}
+use Rattle.std.specs.Borrow.{Bor}
+use Rattle.sym_table.specs.Table.{Table}
+use Rattle.term_model.specs.Terms.{Term}
+use Rattle.term_parts.specs.declared.answers.Answer.{Answer}
+use Rattle.term_pool.specs.Views.{TermsView, ReferToAll}
+use Rattle.rule_model.specs.declared.kinds.Family.{Family}
+use Rattle.rule_model.specs.declared.kinds.Kind.{Kind}
 use Rattle.rule_model.specs.declared.rules.Rule.{Rule}
-use Rattle.rule_model.specs.Arithmetic.{MeetsFormSimplification, IsWideFormSimplification}
-use Rattle.rule_model.specs.Conditions.{MeetsRule, IsTooWideBy, MeetsWhere, IsTooWideWhere, IsMetAt, IsTooWideAt}
-use Rattle.rule_model.specs.Judged.{Judged, judged_at}
-use Rattle.rule_model.specs.Proofs.{Fraction, ProofItems}
-use Rattle.rule_model.specs.Reading.{rule_at, clause_at, premises_at, ratios_at, closes_at}
+use Rattle.rule_model.specs.Arith.{MeetsFormSimplification, IsWideFormSimplification}
+use Rattle.rule_model.specs.Conditions.{MeetsRule, Met, IsTooWide, IsTooWideBy}
+use Rattle.rule_model.specs.Judged.{Judged}
+use Rattle.rule_model.specs.Proofs.{Fraction}
+use Rattle.rule_model.specs.RuleNames.{kind_of}
 use Rattle.rule_model.specs.Schemas.{Schema, IsInstance}
 use Rattle.schema_match.specs.declared.instances.SchemaParts.{SchemaParts}
 use Rattle.schema_match.specs.Schemas.{AreSchemaParts, HasParts}
-use Rattle.rules_arith.specs.Answers.{Tells}
-use Rattle.rules_arith.specs.Families.{IsOfArithmetic}
+use Rattle.schema_match.proofs.PremiseLemmas.{no_premises, some_premises}
+use Rattle.rules_arith.specs.Answers.{StandsWithRatios, Tells}
 use Rattle.rules_arith.specs.Steps.{arithmetic_schema_of, MeetsArithmetic, IsWideArithmetic, met_if}
+
+abbrev pub IsArith : Rule → Type 0
+IsArith rule = kind_of rule ≡ Kind.Judged Family.Arith
 
 -- an answer says the same of what is the same
 pub tells_same : {W V M N : Type 0} (a : Answer) → (W ↔ V) → (M ↔ N) → Tells a W M → Tells a V N
@@ -34,7 +40,10 @@ schema_tells Rule.LaTotality ratios parts ts b are test = met_tells b (λ h. h) 
 schema_tells Rule.LaRwEq ratios parts ts b are test = met_tells b (λ h. h) (test _ are)
 schema_tells _ ratios parts ts b are test = absurd are
 
-pub form_rule_tells : (rule : Rule) (ratios : Option (List Fraction)) (ts : List Term) (a : Answer) → IsOfArithmetic rule → rule ≢ Rule.LaGeneric → AreSchemaParts (arithmetic_schema_of rule) None → Tells a (IsWideFormSimplification [] ts) (MeetsFormSimplification [] ts) → Tells a (IsWideArithmetic rule ratios ts) (MeetsArithmetic rule ratios ts)
+pub form_rule_tells : (rule : Rule) (ratios : Option (List Fraction)) (ts : List Term) (a : Answer) →
+    IsArith rule → rule ≢ Rule.LaGeneric → AreSchemaParts (arithmetic_schema_of rule) None →
+    Tells a (IsWideFormSimplification [] ts) (MeetsFormSimplification [] ts) →
+    Tells a (IsWideArithmetic rule ratios ts) (MeetsArithmetic rule ratios ts)
 form_rule_tells Rule.SumSimplify ratios ts a is other are tells = tells
 form_rule_tells Rule.ProdSimplify ratios ts a is other are tells = tells
 form_rule_tells Rule.MinusSimplify ratios ts a is other are tells = tells
@@ -46,7 +55,7 @@ form_rule_tells Rule.LaGeneric ratios ts a is other are tells = absurd (other re
 form_rule_tells _ ratios ts a is other are tells = absurd cc
 
 -- a rule of this family asks what its case asks, and that there is no premise
-rule_meets : (rule : Rule) (j : Judged) → IsOfArithmetic rule → j.premises ≡ [] → MeetsArithmetic rule j.ratios j.clause ↔ MeetsRule rule j
+rule_meets : (rule : Rule) (j : Judged) → IsArith rule → j.premises ≡ [] → MeetsArithmetic rule j.ratios j.clause ↔ MeetsRule rule j
 rule_meets Rule.LaDisequality j is none = rw none (λ h. h, λ h. h)
 rule_meets Rule.LaTotality j is none = rw none (λ h. h, λ h. h)
 rule_meets Rule.LaRwEq j is none = rw none (λ h. h, λ h. h)
@@ -57,7 +66,7 @@ rule_meets Rule.MinusSimplify j is none = rw none (λ h. h, λ h. h)
 rule_meets Rule.UnaryMinusSimplify j is none = rw none (λ h. h, λ h. h)
 rule_meets _ j is none = absurd cc
 
-rule_wide : (rule : Rule) (j : Judged) → IsOfArithmetic rule → j.premises ≡ [] → IsWideArithmetic rule j.ratios j.clause ↔ IsTooWideBy rule j
+rule_wide : (rule : Rule) (j : Judged) → IsArith rule → j.premises ≡ [] → IsWideArithmetic rule j.ratios j.clause ↔ IsTooWideBy rule j
 rule_wide Rule.LaDisequality j is none = (λ h. h, λ h. h)
 rule_wide Rule.LaTotality j is none = (λ h. h, λ h. h)
 rule_wide Rule.LaRwEq j is none = (λ h. h, λ h. h)
@@ -68,15 +77,38 @@ rule_wide Rule.MinusSimplify j is none = rw none (λ h. h, λ h. h)
 rule_wide Rule.UnaryMinusSimplify j is none = rw none (λ h. h, λ h. h)
 rule_wide _ j is none = absurd cc
 
-module _ (of : ProofItems Var Term) (i : ℕ) (mode : Mode) (is : IsOfArithmetic (rule_at of i)) where
-  -- a step that closes no scope and has no premise
-  pub plain_tells : (a : Answer) → None ≡ closes_at of i → [] ≡ premises_at of i → Tells a (IsWideArithmetic (rule_at of i) (ratios_at of i) (clause_at of i)) (MeetsArithmetic (rule_at of i) (ratios_at of i) (clause_at of i)) → Tells a (IsTooWideAt mode of i) (IsMetAt mode of i)
-  plain_tells a same premises_are tells =
-      let j = judged_at mode of i in
-      let none : map (clause_at of) (premises_at of i) ≡ [] = sym (ap (map (clause_at of)) premises_are) in
-      subst (λ o. Tells a (IsTooWideWhere mode of i o) (MeetsWhere mode of i o)) same
-      (tells_same a (rule_wide (rule_at of i) j is none) (rule_meets (rule_at of i) j is none) tells)
+-- no rule of this family takes a premise
+premised_meets_none : (rule : Rule) (j : Judged) → IsArith rule → j.premises ≢ [] → Tells Answer.NotMet (IsTooWideBy rule j) (MeetsRule rule j)
+premised_meets_none Rule.LaDisequality j is some = (λ h. h, λ h. some h.units)
+premised_meets_none Rule.LaTotality j is some = (λ h. h, λ h. some h.units)
+premised_meets_none Rule.LaRwEq j is some = (λ h. h, λ h. some h.units)
+premised_meets_none Rule.LaGeneric j is some = (λ h. some h.form.none, λ h. some h.form.none)
+premised_meets_none Rule.SumSimplify j is some = (λ h. some h.sides.none, λ h. some h.sides.none)
+premised_meets_none Rule.ProdSimplify j is some = (λ h. some h.sides.none, λ h. some h.sides.none)
+premised_meets_none Rule.MinusSimplify j is some = (λ h. some h.sides.none, λ h. some h.sides.none)
+premised_meets_none Rule.UnaryMinusSimplify j is some = (λ h. some h.sides.none, λ h. some h.sides.none)
+premised_meets_none _ j is some = absurd cc
 
-pub none_is : (o : Option ℕ) → is_some o ≡ false → None ≡ o
-none_is None e = refl
-none_is (Some k) e = absurd cc
+module _ (s : Table) (v : TermsView) (rule : Rule) (qs : Option (List Fraction)) (premises : List (Bor (List ℕ))) (clause : List ℕ) (is : IsArith rule) where
+  abbrev pub TellsBy : Answer → Judged → Type 0
+  TellsBy a j = Tells a (IsTooWide j) (Met j)
+
+  by_rule : (a : Answer) (j : Judged) → StandsWithRatios s v rule qs premises clause j → Tells a (IsTooWideBy rule j) (MeetsRule rule j) → TellsBy a j
+  by_rule a j stands tells = subst (λ r. Tells a (IsTooWideBy r j) (MeetsRule r j)) (sym stands.step.rule) tells
+
+  pub premised_tells : length premises ≢ 0 → (j : Judged) → StandsWithRatios s v rule qs premises clause j → TellsBy Answer.NotMet j
+  premised_tells some j stands =
+      by_rule Answer.NotMet j stands (premised_meets_none rule j is (some_premises s v premises j.premises some stands.step.premises))
+
+  -- what is told of all terms of its clause is told of a step that has no premise
+  pub plain_tells : (a : Answer) → length premises ≡ 0 →
+      ((ts : List Term) → ReferToAll s v clause ts → Tells a (IsWideArithmetic rule qs ts) (MeetsArithmetic rule qs ts)) →
+      (j : Judged) → StandsWithRatios s v rule qs premises clause j → TellsBy a j
+  plain_tells a none told j stands =
+      let no_premise = no_premises s v premises j.premises none stands.step.premises in
+      let here = subst (λ x. Tells a (IsWideArithmetic rule x j.clause) (MeetsArithmetic rule x j.clause)) (sym stands.ratios)
+      (told j.clause stands.step.clause) in
+      by_rule a j stands (tells_same a (rule_wide rule j is no_premise) (rule_meets rule j is no_premise) here)
+
+pub met_of : (j : Judged) (a : Answer) → a ≡ Answer.Met → Tells a (IsTooWide j) (Met j) → Met j
+met_of j a e tells = (subst (λ b. Tells b (IsTooWide j) (Met j)) e tells).1

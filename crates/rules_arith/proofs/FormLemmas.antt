@@ -3,7 +3,7 @@ use Rattle.std.proofs.Common.{◌≡◌, ◌≢◌, ◌<◌, ℕ, ◌+◌, ◌^�
 use Rattle.std.proofs.lemmas.List.Elements.{All-cons, All-head, All-tail}
 use Rattle.linear_forms.specs.declared.forms.OneForm.{OneForm}
 use Rattle.linear_forms.specs.Forms.{TellsOneForm}
-use Rattle.proof_store.specs.declared.answers.Answer.{Answer}
+use Rattle.term_parts.specs.declared.answers.Answer.{Answer}
 use Rattle.sort_check.specs.WellSorted.{IsWellSortedTerm}
 use Rattle.sym_table.specs.Table.{Table}
 use Rattle.term_model.specs.declared.symbols.Op.{Op}
@@ -12,31 +12,22 @@ use Rattle.term_model.specs.Flips.{equality}
 use Rattle.term_model.specs.Sorts.{IsOf, IsWellSorted}
 use Rattle.term_model.specs.Terms.{Term}
 use Rattle.term_pool.specs.Views.{TermsView, ReferToAll, IsTerm}
-use Rattle.rule_model.specs.Arithmetic.{EquatesNumbers, MeetsFormSimplification, IsWideFormSimplification}
+use Rattle.rule_model.specs.Arith.{EquatesNumbers, MeetsFormSimplification, IsWideFormSimplification}
 use Rattle.rule_model.specs.LinearForms.{HaveOneForm}
 use Rattle.rule_model.specs.Weights.{weight}
-use Rattle.rule_model.specs.Conditions.{IsClauseOfTruths}
 use Rattle.rule_model.proofs.ArgumentLists.{same_sides}
 use Rattle.schema_match.specs.Equations.{StatesEquality}
 use Rattle.linear_lines.proofs.ComparisonLemmas.{both_sorted}
 use Rattle.rules_arith.specs.Answers.{Tells}
 use Rattle.rules_arith.specs.Steps.{form_answer}
 
--- well-sorted literals are terms, and terms of Bool are well sorted
+-- well-sorted literals are terms
 module _ (s : Table) (v : TermsView) where
   pub sorted_are_terms : (rs : List ℕ) → All (IsWellSortedTerm s v) rs → All (IsTerm s v) rs
   sorted_are_terms [] all = λ k d below. absurd (omega (arith, below))
   sorted_are_terms (r ∷ rs) all =
       let first = All-head (IsWellSortedTerm s v) r rs all in
       All-cons (IsTerm s v) r rs (record { means = first.means; refers = first.refers }) (sorted_are_terms rs (All-tail (IsWellSortedTerm s v) r rs all))
-
-  pub truths_are_sorted : (rs : List ℕ) (ts : List Term) → ReferToAll s v rs ts → IsClauseOfTruths ts → All (IsWellSortedTerm s v) rs
-  truths_are_sorted [] ts refer truths = λ k d below. absurd (omega (arith, below))
-  truths_are_sorted (r ∷ rs) [] refer truths = absurd refer
-  truths_are_sorted (r ∷ rs) (t ∷ ts) refer truths =
-      All-cons (IsWellSortedTerm s v) r rs
-      (record { means = t; refers = refer.0; sorted = record { sort = Sort.Bool; of = All-head (λ x. IsOf x Sort.Bool) t ts truths } })
-      (truths_are_sorted rs ts refer.1 (All-tail (λ x. IsOf x Sort.Bool) t ts truths))
 
   terms_there : (rs : List ℕ) → All (IsWellSortedTerm s v) rs → (ts : List Term) × ReferToAll s v rs ts × All IsWellSorted ts
   terms_there [] all = ([], tt, λ k d below. absurd (omega (arith, below)))

@@ -1,4 +1,3 @@
 pub mod CheckLemmas
 pub mod FormLemmas
-pub mod RatioLemmas
 pub mod LineLemmas

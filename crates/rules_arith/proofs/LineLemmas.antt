@@ -10,10 +10,10 @@ use Rattle.line_judging.specs.declared.judging.Absurdity.{Absurdity}
 use Rattle.line_judging.specs.Sums.{AreAbsurd, TellsSum, TellsAbsurdity}
 use Rattle.linear_lines.specs.declared.lines.Line.{Line}
 use Rattle.linear_lines.specs.Lines.{StandsForLine}
-use Rattle.proof_store.specs.declared.answers.Answer.{Answer}
+use Rattle.term_parts.specs.declared.answers.Answer.{Answer}
 use Rattle.proof_store.specs.declared.answers.Ratio.{Ratio}
 use Rattle.proof_store.specs.Ratios.{fraction_of_ratio}
-use Rattle.rule_model.specs.Arithmetic.{Comparison, CoefficientLine, AreLines, IsLinearStep, IsLeastMultiple, MeetsLaGeneric, IsWideLaGeneric, denial, lines_weight, limit}
+use Rattle.rule_model.specs.Arith.{Comparison, CoefficientLine, AreLines, IsLinearStep, IsLeastMultiple, MeetsLaGeneric, IsWideLaGeneric, denial, lines_weight, limit}
 use Rattle.rule_model.specs.Proofs.{Fraction}
 use Rattle.rule_model.specs.WellFormed.{IsLowest}
 use Rattle.rules_arith.specs.Answers.{Tells}

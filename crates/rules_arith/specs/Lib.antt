@@ -1,4 +1,3 @@
-pub mod Families
 pub mod Answers
 pub mod Steps
 pub mod Lines

@@ -4,7 +4,7 @@ use Rattle.std.specs.List.{AllZip}
 use Rattle.sym_table.specs.Table.{Table}
 use Rattle.term_model.specs.Terms.{Term}
 use Rattle.term_pool.specs.Views.{TermsView}
-use Rattle.rule_model.specs.Arithmetic.{CoefficientLine, denial, AreLines}
+use Rattle.rule_model.specs.Arith.{CoefficientLine, denial, AreLines}
 use Rattle.rule_model.specs.Proofs.{Fraction}
 use Rattle.linear_lines.specs.declared.lines.Line.{Line}
 use Rattle.linear_lines.specs.Comparisons.{IsOfNumbers}

@@ -2,11 +2,11 @@
 use Rattle.std.specs.Prelude.{List, [], ◌∷◌, Bool, true, false, Option, None}
 use Rattle.line_judging.specs.declared.judging.Absurdity.{Absurdity}
 use Rattle.linear_forms.specs.declared.forms.OneForm.{OneForm}
-use Rattle.proof_store.specs.declared.answers.Answer.{Answer}
+use Rattle.term_parts.specs.declared.answers.Answer.{Answer}
 use Rattle.term_model.specs.declared.symbols.Op.{Op}
 use Rattle.term_model.specs.Terms.{Term}
 use Rattle.rule_model.specs.declared.rules.Rule.{Rule}
-use Rattle.rule_model.specs.Arithmetic.{MeetsFormSimplification, IsWideFormSimplification, MeetsLaGeneric, IsWideLaGeneric}
+use Rattle.rule_model.specs.Arith.{MeetsFormSimplification, IsWideFormSimplification, MeetsLaGeneric, IsWideLaGeneric}
 use Rattle.rule_model.specs.Patterns.{a, b, no, conj, disj, equal, less_eq}
 use Rattle.rule_model.specs.Proofs.{Fraction}
 use Rattle.rule_model.specs.Schemas.{Schema, ternary, tautology, IsInstanceOf}

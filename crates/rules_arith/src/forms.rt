@@ -4,7 +4,7 @@ ghost use Rattle.std.specs.Prelude.{◌≡◌, [], List, All, IfOk};
 ghost use Rattle.sort_check.specs.WellSorted.{IsWellSortedTerm};
 ghost use Rattle.term_model.specs.Terms.{Term};
 ghost use Rattle.term_pool.specs.Views.{ReferToAll};
-ghost use Rattle.rule_model.specs.Arithmetic.{MeetsFormSimplification, IsWideFormSimplification};
+ghost use Rattle.rule_model.specs.Arith.{MeetsFormSimplification, IsWideFormSimplification};
 ghost use Rattle.rules_arith.specs.Answers.{Tells};
 ghost use Rattle.rules_arith.specs.Steps.{form_answer};
 

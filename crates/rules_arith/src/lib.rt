@@ -11,5 +11,5 @@ mod lines;
 mod schemas;
 mod scratch;
 
-pub use checks::check;
+pub use checks::meets;
 pub use scratch::Scratch;

@@ -3,7 +3,7 @@
 ghost use Rattle.std.specs.Prelude.{◌≡◌, [], List, map, unsigned_abs, All, IfOk, IfSome, OnOk};
 ghost use Rattle.line_judging.specs.Weights.{IsLineOfTerms};
 ghost use Rattle.proof_store.specs.Ratios.{fraction_of_ratio, fractions};
-ghost use Rattle.rule_model.specs.Arithmetic.{MeetsLaGeneric, IsWideLaGeneric};
+ghost use Rattle.rule_model.specs.Arith.{MeetsLaGeneric, IsWideLaGeneric};
 ghost use Rattle.rule_model.specs.WellFormed.{IsLowest};
 ghost use Rattle.rules_arith.specs.Answers.{Tells};
 ghost use Rattle.rules_arith.specs.Lines.{IsLineFound, AreLinesFound};

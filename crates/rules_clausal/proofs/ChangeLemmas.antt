@@ -11,7 +11,7 @@ use Rattle.term_pool.specs.Views.{TermsView, RefersTo, ReferToAll}
 use Rattle.term_pool.proofs.References.{AreOne}
 use Rattle.rule_model.specs.Clausal.{Changes, HasEach, HasEachOnce}
 use Rattle.rules_clausal.specs.Sorting.{HasAllOnce}
-use Rattle.schema_match.specs.Steps.{ReferToClauses}
+use Rattle.term_parts.specs.Judging.{ReferToClauses}
 use Rattle.schema_match.proofs.ReferLemmas.{contains_terms, contains_references, refer_length, refer_at}
 
 abbrev some_term : Term

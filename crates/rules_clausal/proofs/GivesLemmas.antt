@@ -14,7 +14,7 @@ use Rattle.rules_clausal.specs.ArgumentRules.{Gives, IsOneOf}
 use Rattle.schema_match.specs.Arguments.{HasArguments, HasNoArguments}
 use Rattle.schema_match.specs.Premises.{IsOneUnit, IsNoUnit}
 use Rattle.schema_match.specs.Signs.{sign_of}
-use Rattle.schema_match.specs.Steps.{ReferToClauses}
+use Rattle.term_parts.specs.Judging.{ReferToClauses}
 use Rattle.schema_match.proofs.ArgumentLemmas.{one_term}
 use Rattle.schema_match.proofs.PremiseLemmas.{no_premises, some_premises, unit_term, no_unit}
 use Rattle.schema_match.proofs.ReferLemmas.{refer_length}

@@ -1,7 +1,5 @@
 pub mod SortingLemmas
 pub mod ChangeLemmas
-pub mod CheckLemmas
-pub mod CheckAnswers
 pub mod OppositeLemmas
 pub mod ArgumentAnswers
 pub mod GivesLemmas

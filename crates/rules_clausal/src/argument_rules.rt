@@ -5,7 +5,7 @@ ghost use Rattle.term_model.specs.Terms.{Term};
 ghost use Rattle.term_pool.specs.Views.{IsTerm, RefersTo, ReferToAll};
 ghost use Rattle.rules_clausal.specs.ArgumentRules.{Asks, Gives, HasCondition, IsOneOf};
 ghost use Rattle.schema_match.specs.Signs.{sign_of};
-ghost use Rattle.schema_match.specs.Steps.{ReferToClauses};
+ghost use Rattle.term_parts.specs.Judging.{ReferToClauses};
 
 use crate::argument_rules::Place::{Begins, Given};
 use crate::argument_rules::Which::{All, One};
@@ -118,8 +118,8 @@ fn gives(
 ) -> Result<bool, Memory>
     requires whole { IsTerm symbols.now terms.old whole }
     requires literals { All (IsTerm symbols.now terms.old) literals.now }
-    ensures gives { IfOk result (λ yes. (t : Term) (ts : List Term) → RefersTo symbols.now terms.old whole t → ReferToAll symbols.now terms.old literals.now ts →
-        IsTrue yes ↔ Gives row.1 row.2 row.3 row.4 t ts) }
+    ensures gives { IfOk result (λ yes. (t : Term) (ts : List Term) → RefersTo symbols.now terms.old whole t →
+        ReferToAll symbols.now terms.old literals.now ts → IsTrue yes ↔ Gives row.1 row.2 row.3 row.4 t ts) }
     ensures same { terms.new ≡ terms.old }
 {
     let ArgumentRule(_, which, op, sign, each) = row;

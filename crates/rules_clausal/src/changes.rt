@@ -7,7 +7,7 @@ ghost use Rattle.term_pool.specs.Views.{IsTerm, RefersTo, ReferToAll};
 ghost use Rattle.rule_model.specs.Clausal.{Changes, IsTautology};
 ghost use Rattle.rules_clausal.specs.Changes.{HasOpposites, IsChangeOf, NegatesOne, relation_of};
 ghost use Rattle.rules_clausal.specs.Sorting.{HasAllOnce, IsInOrder};
-ghost use Rattle.schema_match.specs.Steps.{ReferToClauses};
+ghost use Rattle.term_parts.specs.Judging.{ReferToClauses};
 
 use crate::sorting::{has, has_each, has_no_repeat, sorted};
 use pair_pool::{Memory, Ref};
@@ -118,8 +118,8 @@ fn is_tautology(
 ) -> Result<bool, Memory>
     requires premise { All (IsTerm symbols.now terms.old) premise.now }
     requires clause { All (IsTerm symbols.now terms.old) clause.now }
-    ensures tautology { IfOk result (λ yes. (ps ts : List Term) → ReferToAll symbols.now terms.old premise.now ps → ReferToAll symbols.now terms.old clause.now ts →
-        IsTrue yes ↔ IsTautology ps ts) }
+    ensures tautology { IfOk result (λ yes. (ps ts : List Term) → ReferToAll symbols.now terms.old premise.now ps →
+        ReferToAll symbols.now terms.old clause.now ts → IsTrue yes ↔ IsTautology ps ts) }
     ensures same { terms.new ≡ terms.old }
 {
     let [literal] = clause else {

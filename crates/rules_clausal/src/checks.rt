@@ -1,34 +1,31 @@
 //! Whether a step meets the condition of its rule.
 
-ghost use Rattle.std.specs.Prelude.{◌≡◌, ◌≢◌, ◌↔◌, ◌<◌, List, All, IsTrue, IfErr, IfOk};
-ghost use Rattle.rule_model.specs.Clausal.{IsClausal, MeetsClausal};
-ghost use Rattle.rule_model.specs.Proofs.{ProofItems};
-ghost use Rattle.rule_model.specs.Reading.{rule_at};
-ghost use Rattle.rule_model.specs.Scopes.{commands_in};
-ghost use Rattle.term_model.specs.Terms.{Var, Term};
+ghost use Rattle.std.specs.Prelude.{◌≡◌, ◌↔◌, List, All, IsTrue, IfOk};
+ghost use Rattle.rule_model.specs.Clausal.{MeetsClausal};
+ghost use Rattle.rule_model.specs.Conditions.{AlwaysKeepsTruth, Met};
+ghost use Rattle.rule_model.specs.Judged.{Judged};
+ghost use Rattle.rule_model.specs.RuleNames.{kind_of};
+ghost use Rattle.rule_model.specs.declared.kinds.Family.{Family};
+ghost use Rattle.rule_model.specs.declared.kinds.Kind.{Kind};
+ghost use Rattle.rule_model.specs.declared.rules.Mode.{Mode};
+ghost use Rattle.term_model.specs.Terms.{Term};
+ghost use Rattle.term_parts.specs.Judging.{ReferToClauses, StandsForStep};
 ghost use Rattle.term_pool.specs.Views.{IsTerm, ReferToAll};
-ghost use Rattle.rule_model.specs.Conditions.{IsMetAt};
-ghost use Rattle.proof_store.specs.Checks.{KeepsTruthAt, StandForSome};
-ghost use Rattle.proof_store.specs.Meaning.{StandForItems};
-ghost use Rattle.proof_store.specs.declared.answers.Answer.TheVariants as Answer;
-ghost use Rattle.proof_store.specs.declared.answers.RuleStop.TheVariants as RuleStop;
-ghost use Rattle.schema_match.specs.Steps.{MeetAt, ReferToClauses};
 
 use crate::argument_rules::{argument_rule, meets_argument_rule};
 use crate::changes::{change_of, meets_change};
 use crate::schemas::schema;
 use pair_pool::{Memory, Ref};
-use proof_store::{Answer, Proof, RuleStop, commands_correspond, terms_correspond};
-use rule_model::laws::conditions::conditions_keep_truth;
-use rule_model::{Mode, Rule};
+use rule_model::Rule;
+use rule_model::laws::conditions::{clausal_rules_ask_by_rows, conditions_keep_truth};
 use schema_match::{Scratch, is_instance};
 use smallvec::SmallVec;
 use std::alloc::Global;
 use sym_table::Symbols;
 use term_pool::Terms;
 
-/// Whether the clauses of premises and of a step meet a rule.
-fn meets(
+/// Whether the clauses of premises and of a step are what a rule asks.
+fn meets_clausal(
     alloc: Global,
     symbols: &Symbols,
     terms: &mut Terms<'_>,
@@ -55,71 +52,32 @@ fn meets(
     }
 }
 
-/// Whether the clauses of the step at an index meet its rule, whatever scope it closes. No clausal rule has two premises
-/// or more.
-fn meets_at(
-    alloc: Global,
-    proof: &Proof,
-    i: u32,
-    symbols: &Symbols,
-    terms: &mut Terms<'_>,
-) -> Result<bool, Memory>
-    requires index { i < commands_in proof.now }
-    requires stand { StandForSome symbols.now terms.old proof.now }
-    ensures meets { IfOk result (λ yes. (of : ProofItems Var Term) → StandForItems symbols.now terms.old proof.now of → IsTrue yes ↔ MeetAt MeetsClausal of i) }
-    ensures same { terms.new ≡ terms.old }
-{
-    commands_correspond();
-    terms_correspond();
-    let _commands = proof.count();
-    let rule = proof.rule(i);
-    let clause = proof.clause(i);
-    match proof.premises(i) {
-        [] => meets(alloc, symbols, terms, rule, &[], clause),
-        [premise] => meets(
-            alloc,
-            symbols,
-            terms,
-            rule,
-            &[proof.clause(*premise)],
-            clause,
-        ),
-        _ => Ok(false),
-    }
-}
-
-/// Whether the step at an index meets the condition of its rule (Alethe specification, "List of rules"). The rule is a
-/// tautology of a connective, one that takes a premise apart, or contraction, reordering, weakening or tautology; those
-/// over `ite` are of another family. Both modes ask the same. A step that closes a scope meets none of these rules.
+/// Whether a step with this rule, these premises' clauses and this clause meets the condition of its rule (Alethe
+/// specification, "List of rules"), given as references of literals. The rule is a tautology of a connective, one that
+/// takes a premise apart, or contraction, reordering, weakening or tautology; those over `ite` are of another family. Both
+/// modes ask the same, and the step's own arguments are not looked at.
 ///
-/// The step's own arguments are not looked at. Lists of up to 16 references take no memory, so a step of few literals
-/// takes none. Places no cell, and refuses want of memory alone.
-pub fn check(
+/// Lists of up to 16 references take no memory, so a step of few literals takes none. Places no cell, and refuses out of
+/// memory alone.
+pub fn meets(
     alloc: Global,
-    proof: &Proof,
-    i: u32,
-    mode: Mode,
     symbols: &Symbols,
     terms: &mut Terms<'_>,
-) -> Result<Answer, RuleStop>
-    requires index { i < commands_in proof.now }
-    requires clausal { IsClausal (rule_at proof.now i) }
-    requires stand { StandForSome symbols.now terms.old proof.now }
-    ensures met { IfOk result (λ answer. (of : ProofItems Var Term) → StandForItems symbols.now terms.old proof.now of → (answer ≡ Answer.Met) ↔ IsMetAt mode of i) }
-    ensures narrow { IfOk result (λ answer. answer ≢ Answer.TooWide) }
+    rule: Rule,
+    premises: &[&[Ref]],
+    clause: &[Ref],
+) -> Result<bool, Memory>
+    requires family { kind_of rule ≡ Kind.Judged Family.Clausal }
+    requires premises { All (λ p. All (IsTerm symbols.now terms.old) p.now) premises.now }
+    requires clause { All (IsTerm symbols.now terms.old) clause.now }
+    ensures met { IfOk result (λ yes. (mode : Mode) (j : Judged) →
+        StandsForStep symbols.now terms.old mode rule premises.now clause.now j → IsTrue yes ↔ Met j) }
     // under every interpretation and values of variables that make the premises true, the clause of a step that is met is
-    ensures sound { IfOk result (λ answer. answer ≡ Answer.Met → (of : ProofItems Var Term) → StandForItems symbols.now terms.old proof.now of → KeepsTruthAt mode of i) }
-    ensures stop { IfErr result (λ stop. stop ≡ RuleStop.Memory) }
+    ensures sound { IfOk result (λ yes. IsTrue yes → (mode : Mode) (j : Judged) →
+        StandsForStep symbols.now terms.old mode rule premises.now clause.now j → AlwaysKeepsTruth j) }
     ensures same { terms.new ≡ terms.old }
 {
     conditions_keep_truth();
-    commands_correspond();
-    if proof.closes(i).is_some() {
-        return Ok(Answer::NotMet);
-    }
-    if meets_at(alloc, proof, i, symbols, terms)? {
-        Ok(Answer::Met)
-    } else {
-        Ok(Answer::NotMet)
-    }
+    clausal_rules_ask_by_rows();
+    meets_clausal(alloc, symbols, terms, rule, premises, clause)
 }

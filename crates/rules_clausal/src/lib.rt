@@ -10,4 +10,4 @@ mod checks;
 mod schemas;
 mod sorting;
 
-pub use checks::check;
+pub use checks::meets;

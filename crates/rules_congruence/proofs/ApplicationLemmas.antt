@@ -9,7 +9,6 @@ use Rattle.term_model.proofs.Lists.{list_of-terms_of, terms_of-list_of}
 use Rattle.term_pool.specs.Reading.{arguments_of, IsLet}
 use Rattle.term_pool.specs.Views.{TermsView, RefersTo, ReferToAll, IsTerm}
 use Rattle.rules_congruence.specs.Applications.{leaf_of, HasHead, IsNoLetTerm, AreApplied}
-use Rattle.rules_congruence.specs.Steps.{ReferTo}
 use Rattle.rules_congruence.proofs.Referring.{zip_none, none_zip}
 
 pub no_let : (head : Head) (ts : List Term) (t : Term) → t ≡ applied head ts → IsLet t → ⊥
@@ -66,13 +65,13 @@ same_head s k (function g) (call f ts) leaf h =
     same_fun n m a b t u e f g = rw (e, f, g) refl
 same_head s k (function g) (let_in bs u) leaf h = absurd h
 
-pub refer_all : (s : Table) (v : TermsView) (rs : List ℕ) (ts : List Term) → ReferToAll s v rs ts → ReferTo s v rs ts
+pub refer_all : (s : Table) (v : TermsView) (rs : List ℕ) (ts : List Term) → ReferToAll s v rs ts → ReferToAll s v rs ts
 refer_all s v [] [] h = tt
 refer_all s v [] (t ∷ ts) h = absurd h
 refer_all s v (r ∷ rs) [] h = absurd h
 refer_all s v (r ∷ rs) (t ∷ ts) h = (h.0, refer_all s v rs ts h.1)
 
-pub refer_none : (s : Table) (v : TermsView) (rs : List ℕ) (ts : List Term) → rs ≡ [] → length ts ≡ 0 → ReferTo s v rs ts
+pub refer_none : (s : Table) (v : TermsView) (rs : List ℕ) (ts : List Term) → rs ≡ [] → length ts ≡ 0 → ReferToAll s v rs ts
 refer_none s v rs [] empty none = rw empty tt
 refer_none s v rs (t ∷ ts) empty none = absurd (omega (arith, none))
 
@@ -95,13 +94,13 @@ head_is_no_let s k (let_in bs u) h is = h
 pub no_let_term : (s : Table) (v : TermsView) (r k : ℕ) → (is : IsTerm s v r) → HasHead s k is.means → IsNoLetTerm s v r
 no_let_term s v r k is head = record { means = is.means; refers = is.refers; no_let = head_is_no_let s k is.means head }
 
-pub no_argument : (s : Table) (v : TermsView) (rs : List ℕ) (head : Head) (ts : List Term) (t : Term) → length rs ≡ 0 → t ≡ applied head ts → ReferTo s v rs (arguments_of t) → ts ≡ []
+pub no_argument : (s : Table) (v : TermsView) (rs : List ℕ) (head : Head) (ts : List Term) (t : Term) → length rs ≡ 0 → t ≡ applied head ts → ReferToAll s v rs (arguments_of t) → ts ≡ []
 no_argument s v [] head ts t empty e refer = sym (arguments_are head ts t e) ∙ none_zip (RefersTo s v) (arguments_of t) refer
 no_argument s v (r ∷ rs) head ts t empty e refer = absurd (omega (arith, empty))
 
-pub are_applied : (s : Table) (v : TermsView) (k : ℕ) (ps qs : List ℕ) (t u : Term) → ¬ (length ps ≡ 0) → HasHead s k t → HasHead s k u → ReferTo s v ps (arguments_of t) → ReferTo s v qs (arguments_of u) → AreApplied s v k ps qs t u
+pub are_applied : (s : Table) (v : TermsView) (k : ℕ) (ps qs : List ℕ) (t u : Term) → ¬ (length ps ≡ 0) → HasHead s k t → HasHead s k u → ReferToAll s v ps (arguments_of t) → ReferToAll s v qs (arguments_of u) → AreApplied s v k ps qs t u
 are_applied s v k ps qs t u some left right lefts rights =
-    let arguments : arguments_of t ≢ [] = λ e. some (ap length (zip_none (RefersTo s v) ps (subst (ReferTo s v ps) e lefts))) in
+    let arguments : arguments_of t ≢ [] = λ e. some (ap length (zip_none (RefersTo s v) ps (subst (ReferToAll s v ps) e lefts))) in
     let is = has_applied s k t left arguments in
     record {
       head = is.head;

@@ -8,17 +8,17 @@ use Rattle.sym_table.specs.Leaf.{Leaf}
 use Rattle.sym_table.specs.Table.{Table, IsLeaf}
 use Rattle.term_model.specs.declared.symbols.Op.{Op}
 use Rattle.term_model.specs.Terms.{Term, numeral}
-use Rattle.term_pool.specs.Views.{TermsView, RefersTo, IsTerm}
+use Rattle.term_pool.specs.Views.{TermsView, RefersTo, IsTerm, ReferToAll}
 use Rattle.rules_congruence.specs.Applications.{leaf_of, AreApplied}
-use Rattle.rules_congruence.specs.Steps.{ReferTo, AreTerms}
+use Rattle.rules_congruence.specs.Steps.{AreTerms}
 use Rattle.rules_congruence.specs.Uses.{ArePairs}
 use Rattle.term_model.proofs.Zips.{zip_at, zip_length}
 
-pub not_as_long : (s : Table) (v : TermsView) (P : Term → Term → Type 0) (ls rs : List ℕ) (ts us : List Term) → length ls ≢ length rs → ReferTo s v ls ts → ReferTo s v rs us → ¬ AllZip P ts us
+pub not_as_long : (s : Table) (v : TermsView) (P : Term → Term → Type 0) (ls rs : List ℕ) (ts us : List Term) → length ls ≢ length rs → ReferToAll s v ls ts → ReferToAll s v rs us → ¬ AllZip P ts us
 not_as_long s v P ls rs ts us apart left right zip =
     apart (zip_length (RefersTo s v) ls ts left ∙ zip_length P ts us zip ∙ sym (zip_length (RefersTo s v) rs us right))
 
-pub not_linked_at : (s : Table) (v : TermsView) (P : Term → Term → Type 0) (ls rs : List ℕ) (ts us : List Term) (place l r : ℕ) (b : Bool) → place < length ls → length ls ≡ length rs → ((d : ℕ) → get_or ls place d ≡ l) → ((d : ℕ) → get_or rs place d ≡ r) → ReferTo s v ls ts → ReferTo s v rs us → ((t u : Term) → RefersTo s v l t → RefersTo s v r u → IsTrue b ↔ P t u) → b ≡ false → ¬ AllZip P ts us
+pub not_linked_at : (s : Table) (v : TermsView) (P : Term → Term → Type 0) (ls rs : List ℕ) (ts us : List Term) (place l r : ℕ) (b : Bool) → place < length ls → length ls ≡ length rs → ((d : ℕ) → get_or ls place d ≡ l) → ((d : ℕ) → get_or rs place d ≡ r) → ReferToAll s v ls ts → ReferToAll s v rs us → ((t u : Term) → RefersTo s v l t → RefersTo s v r u → IsTrue b ↔ P t u) → b ≡ false → ¬ AllZip P ts us
 not_linked_at s v P ls rs ts us place l r b below long is at left right linked e zip =
     let same = zip_length (RefersTo s v) ls ts left in
     let d = numeral 0 in
@@ -36,7 +36,7 @@ linked_more s v P ls rs place l r k t u is at below before here left right =
           here t u (subst (λ x. RefersTo s v x t) (ap (λ j. get_or ls j 0) same ∙ is 0) left) (subst (λ x. RefersTo s v x u) (ap (λ j. get_or rs j 0) same ∙ at 0) right))
     ]
 
-pub linked_all : (s : Table) (v : TermsView) (P : Term → Term → Type 0) (ls rs : List ℕ) (ts us : List Term) → length ls ≡ length rs → ReferTo s v ls ts → ReferTo s v rs us → ((k : ℕ) (t u : Term) → k < length ls → RefersTo s v (get_or ls k 0) t → RefersTo s v (get_or rs k 0) u → P t u) → AllZip P ts us
+pub linked_all : (s : Table) (v : TermsView) (P : Term → Term → Type 0) (ls rs : List ℕ) (ts us : List Term) → length ls ≡ length rs → ReferToAll s v ls ts → ReferToAll s v rs us → ((k : ℕ) (t u : Term) → k < length ls → RefersTo s v (get_or ls k 0) t → RefersTo s v (get_or rs k 0) u → P t u) → AllZip P ts us
 linked_all s v P [] [] [] [] long left right each = tt
 linked_all s v P [] [] [] (u ∷ us) long left right each = absurd right
 linked_all s v P [] [] (t ∷ ts) us long left right each = absurd left
@@ -65,16 +65,16 @@ pub record IsTwo (s : Table) (v : TermsView) (p : ℕ × ℕ) (ts : List Term) :
   pub one_refers : RefersTo s v p.0 one
   pub two_refers : RefersTo s v p.1 two
 
-pub two_terms : (s : Table) (v : TermsView) (rs : List ℕ) (p : ℕ × ℕ) (ts : List Term) → rs ≡ p.0 ∷ p.1 ∷ [] → ReferTo s v rs ts → IsTwo s v p ts
-two_terms s v rs p ts is refer = go ts (subst (λ xs. ReferTo s v xs ts) is refer)
+pub two_terms : (s : Table) (v : TermsView) (rs : List ℕ) (p : ℕ × ℕ) (ts : List Term) → rs ≡ p.0 ∷ p.1 ∷ [] → ReferToAll s v rs ts → IsTwo s v p ts
+two_terms s v rs p ts is refer = go ts (subst (λ xs. ReferToAll s v xs ts) is refer)
   where
-    go : (ts : List Term) → ReferTo s v (p.0 ∷ p.1 ∷ []) ts → IsTwo s v p ts
+    go : (ts : List Term) → ReferToAll s v (p.0 ∷ p.1 ∷ []) ts → IsTwo s v p ts
     go [] h = absurd h
     go (t ∷ []) h = absurd h.1
     go (t ∷ (u ∷ [])) h = record { one = t; two = u; is = refl; one_refers = h.0; two_refers = h.1.0 }
     go (t ∷ (u ∷ (w ∷ ts))) h = absurd h.1.1
 
-two_references : (s : Table) (v : TermsView) (rs : List ℕ) (a b : Term) → ReferTo s v rs (a ∷ b ∷ []) → (p : ℕ) × (q : ℕ) × (rs ≡ p ∷ q ∷ [])
+two_references : (s : Table) (v : TermsView) (rs : List ℕ) (a b : Term) → ReferToAll s v rs (a ∷ b ∷ []) → (p : ℕ) × (q : ℕ) × (rs ≡ p ∷ q ∷ [])
 two_references s v [] a b h = absurd h
 two_references s v (p ∷ []) a b h = absurd h.1
 two_references s v (p ∷ (q ∷ [])) a b h = (p, q, refl)
@@ -82,8 +82,8 @@ two_references s v (p ∷ (q ∷ (r ∷ rs))) a b h = absurd h.1.1
 
 pub not_crossed : (s : Table) (v : TermsView) (k : ℕ) (ls rs : List ℕ) (t u : Term) (ps : List (List Term)) (a : AreApplied s v k ls rs t u) → ((pairs : (ℕ × ℕ) × (ℕ × ℕ)) → ¬ ArePairs s k ls rs pairs) → ¬ AreCrossed a.head ps a.ts a.us
 not_crossed s v k ls rs t u ps a none h =
-    let left = two_references s v ls h.a h.b (subst (ReferTo s v ls) h.one a.left) in
-    let right = two_references s v rs h.c h.d (subst (ReferTo s v rs) h.other a.right) in
+    let left = two_references s v ls h.a h.b (subst (ReferToAll s v ls) h.one a.left) in
+    let right = two_references s v rs h.c h.d (subst (ReferToAll s v rs) h.other a.right) in
     none ((left.0, left.1), (right.0, right.1))
     (record { equal = subst (λ x. IsLeaf s k (leaf_of x)) h.equal a.leaf; left = left.2; right = right.2 })
 

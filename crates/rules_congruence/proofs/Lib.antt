@@ -13,5 +13,4 @@ pub mod CongruenceLemmas
 pub mod TogetherLemmas
 pub mod PredicateLemmas
 pub mod StepLemmas
-pub mod CheckAnswers
 pub mod StrictLemmas

@@ -7,11 +7,12 @@ use Rattle.rule_model.specs.Congruence.{Equates, units, denials, Denies}
 use Rattle.sym_table.specs.Table.{Table}
 use Rattle.term_model.specs.Flips.{equality}
 use Rattle.term_model.specs.Terms.{Term, not_of}
-use Rattle.term_pool.specs.Views.{TermsView, RefersTo, IsTerm}
+use Rattle.term_pool.specs.Views.{TermsView, RefersTo, IsTerm, ReferToAll}
 use Rattle.rules_congruence.specs.Clauses.{clauses_of}
 use Rattle.term_parts.specs.Parts.{AreSidesOf}
 use Rattle.rules_congruence.specs.Sides.{AreEqualitiesOf, nothing, one, IsGiven, AreDenied}
-use Rattle.rules_congruence.specs.Steps.{ReferTo, ReferToClauses, AreTerms}
+use Rattle.rules_congruence.specs.Steps.{AreTerms}
+use Rattle.term_parts.specs.Judging.{ReferToClauses}
 use Rattle.rules_congruence.proofs.Referring.{IsOneMore, zip_split}
 use Rattle.rules_congruence.proofs.TurningLemmas.{premised_none}
 
@@ -73,8 +74,8 @@ front_terms s v clause front r is all = go front (subst (AreTerms s v) is all)
         let rest = go rs (All-tail (IsTerm s v) q (rs ++ r ∷ []) h) in
         (All-cons (IsTerm s v) q rs (All-head (IsTerm s v) q (rs ++ r ∷ []) h) rest.0, rest.1)
 
-pub split_refers : (s : Table) (v : TermsView) (clause front : List ℕ) (r : ℕ) (ts : List Term) → clause ≡ front ++ r ∷ [] → ReferTo s v clause ts → IsOneMore (RefersTo s v) front r ts
-split_refers s v clause front r ts is refer = zip_split (RefersTo s v) front r ts (subst (λ rs. ReferTo s v rs ts) is refer)
+pub split_refers : (s : Table) (v : TermsView) (clause front : List ℕ) (r : ℕ) (ts : List Term) → clause ≡ front ++ r ∷ [] → ReferToAll s v clause ts → IsOneMore (RefersTo s v) front r ts
+split_refers s v clause front r ts is refer = zip_split (RefersTo s v) front r ts (subst (λ rs. ReferToAll s v rs ts) is refer)
 
 -- a condition that holds of clauses of one literal alone
 abbrev pub IsOfOne : (List (List Term) → List Term → Type 0) → Type 0
@@ -112,14 +113,14 @@ denies_none condition of_one ps ts front t is fails h =
     fails h.sides (same_last front (denials h.sides) t last.0 e).0
 
 -- a step that has a premise or no literal
-pub not_denying : (s : Table) (v : TermsView) (condition : List (List Term) → List Term → Type 0) → IsOfOne condition → (premises : List (Bor (List ℕ))) (clause : List ℕ) (ps : List (List Term)) (ts : List Term) → ((front : List ℕ) (r : ℕ) → clauses_of premises ≡ [] → clause ≢ front ++ r ∷ []) → ReferToClauses s v premises ps → ReferTo s v clause ts → ¬ Denies condition ps ts
+pub not_denying : (s : Table) (v : TermsView) (condition : List (List Term) → List Term → Type 0) → IsOfOne condition → (premises : List (Bor (List ℕ))) (clause : List ℕ) (ps : List (List Term)) (ts : List Term) → ((front : List ℕ) (r : ℕ) → clauses_of premises ≡ [] → clause ≢ front ++ r ∷ []) → ReferToClauses s v premises ps → ReferToAll s v clause ts → ¬ Denies condition ps ts
 not_denying s v condition of_one premises clause ps ts fails refer_ps refer_ts h =
     let last = of_one (units h.sides) h.rest h.given in
     let e : ts ≡ denials h.sides ++ last.0 ∷ [] = h.literals ∙ ap (λ xs. denials h.sides ++ xs) last.1 in
-    let found = last_of clause (denials h.sides) last.0 (subst (ReferTo s v clause) e refer_ts) in
+    let found = last_of clause (denials h.sides) last.0 (subst (ReferToAll s v clause) e refer_ts) in
     fails found.0 found.1 (premised_none s v premises ps h.none refer_ps) found.2
   where
-    last_of : (rs : List ℕ) (us : List Term) (u : Term) → ReferTo s v rs (us ++ u ∷ []) → (front : List ℕ) × (r : ℕ) × (rs ≡ front ++ r ∷ [])
+    last_of : (rs : List ℕ) (us : List Term) (u : Term) → ReferToAll s v rs (us ++ u ∷ []) → (front : List ℕ) × (r : ℕ) × (rs ≡ front ++ r ∷ [])
     last_of [] [] u z = absurd z
     last_of [] (w ∷ us) u z = absurd z
     last_of (r ∷ []) [] u z = ([], r, refl)

@@ -1,66 +1,61 @@
 -- Literals of Bool, and clauses that deny equalities before their last two literals.
-use Rattle.std.proofs.Common.{◌≡◌, ◌≢◌, ◌↔◌, ◌⊎◌, inl, inr, ℕ, Bool, true, List, [], ◌∷◌, ◌++◌, refl, sym, ap, ◌∙◌, subst, IsTrue}
+use Rattle.std.proofs.Common.{◌≡◌, ◌≢◌, ◌↔◌, ◌⊎◌, inl, inr, ℕ, Bool, true, List, All, [], ◌∷◌, ◌++◌, refl, sym, ap, ◌∙◌, subst, IsTrue}
 use Rattle.std.specs.Borrow.{Bor}
 use Rattle.std.proofs.lemmas.List.Elements.{All-nil, All-cons, All-head, All-tail}
 use Rattle.rule_model.specs.Clausal.{as_it_stands}
-use Rattle.rule_model.specs.Conditions.{IsClauseOfTruths}
 use Rattle.rule_model.specs.Congruence.{Equates, Implies, IsImplied, AreCongruent, AreCongruentTruths, units, denials, Denies, Head}
 use Rattle.rule_model.proofs.Joining.{equal_sorts}
 use Rattle.sort_check.specs.WellSorted.{IsWellSortedTerm}
+use Rattle.sort_check.proofs.Leaves.{sorted_is_term}
 use Rattle.sym_table.specs.Table.{Table}
 use Rattle.term_model.specs.declared.symbols.Sort.{Sort}
 use Rattle.term_model.specs.Flips.{equality}
-use Rattle.term_model.specs.Sorts.{IsOf}
+use Rattle.term_model.specs.Sorts.{IsOf, IsWellSorted}
 use Rattle.term_model.specs.Terms.{Term, not_of}
-use Rattle.term_model.proofs.Sorting.{one_sort}
+use Rattle.term_model.proofs.Sorting.{one_sort, when-same}
 use Rattle.term_parts.specs.Parts.{AreSidesOf}
-use Rattle.term_pool.specs.Views.{TermsView, RefersTo, IsTerm}
+use Rattle.term_pool.specs.Views.{TermsView, RefersTo, IsTerm, ReferToAll}
 use Rattle.term_pool.proofs.References.{AreOne}
 use Rattle.rules_congruence.specs.Clauses.{clauses_of}
-use Rattle.rules_congruence.specs.Predicates.{IsTruth, AreTruths, GivesOther, GivesPredicate}
+use Rattle.rules_congruence.specs.Predicates.{GivesOther, GivesPredicate}
 use Rattle.rules_congruence.specs.declared.uses.Uses.{Uses}
 use Rattle.rules_congruence.specs.Sides.{IsGiven, AreDenied}
-use Rattle.rules_congruence.specs.Steps.{ReferTo, ReferToClauses, AreTerms}
+use Rattle.rules_congruence.specs.Steps.{AreTerms}
 use Rattle.rules_congruence.specs.Uses.{Together}
+use Rattle.term_parts.specs.Judging.{ReferToClauses}
 use Rattle.rules_congruence.proofs.Literals.{same_last, same_denials, denied_equalities}
 use Rattle.rules_congruence.proofs.Referring.{zip_split}
 use Rattle.rules_congruence.proofs.TurningLemmas.{premised_none}
 
--- references that stand for terms of Bool
+-- a well-sorted equality is of Bool
+equality_sort : (t u : Term) → IsWellSorted (equality t u) → IsOf (equality t u) Sort.Bool
+equality_sort t u h = subst (IsOf (equality t u)) (when-same _ Sort.Bool h.sort h.of.is) h.of
+
+-- references that stand for well-sorted terms
 module _ (s : Table) (v : TermsView) where
-  pub truth_is_term : (r : ℕ) → IsTruth s v r → IsTerm s v r
-  truth_is_term r h = record { means = h.means; refers = h.refers }
+  pub sorted_are_terms : (rs : List ℕ) → All (IsWellSortedTerm s v) rs → AreTerms s v rs
+  sorted_are_terms [] h = All-nil (IsTerm s v)
+  sorted_are_terms (r ∷ rs) h =
+      All-cons (IsTerm s v) r rs
+      (sorted_is_term s v r (All-head (IsWellSortedTerm s v) r rs h))
+      (sorted_are_terms rs (All-tail (IsWellSortedTerm s v) r rs h))
 
-  pub truths_are_terms : (rs : List ℕ) → AreTruths s v rs → AreTerms s v rs
-  truths_are_terms [] h = All-nil (IsTerm s v)
-  truths_are_terms (r ∷ rs) h =
-      All-cons (IsTerm s v) r rs (truth_is_term r (All-head (IsTruth s v) r rs h)) (truths_are_terms rs (All-tail (IsTruth s v) r rs h))
-
-  pub are_truths : (rs : List ℕ) (ts : List Term) → ReferTo s v rs ts → IsClauseOfTruths ts → AreTruths s v rs
-  are_truths [] [] h k = All-nil (IsTruth s v)
-  are_truths [] (t ∷ ts) h k = absurd h
-  are_truths (r ∷ rs) [] h k = absurd h
-  are_truths (r ∷ rs) (t ∷ ts) h k =
-      All-cons (IsTruth s v) r rs
-      (record { means = t; refers = h.0; of = All-head (λ u. IsOf u Sort.Bool) t ts k })
-      (are_truths rs ts h.1 (All-tail (λ u. IsOf u Sort.Bool) t ts k))
-
-  pub last_truth : (clause front : List ℕ) (r : ℕ) → clause ≡ front ++ r ∷ [] → AreTruths s v clause → IsTruth s v r
-  last_truth clause front r is all = go front (subst (AreTruths s v) is all)
+  pub last_sorted : (clause front : List ℕ) (r : ℕ) → clause ≡ front ++ r ∷ [] → All (IsWellSortedTerm s v) clause → IsWellSortedTerm s v r
+  last_sorted clause front r is all = go front (subst (All (IsWellSortedTerm s v)) is all)
     where
-      go : (front : List ℕ) → AreTruths s v (front ++ r ∷ []) → IsTruth s v r
-      go [] h = All-head (IsTruth s v) r [] h
-      go (q ∷ rs) h = go rs (All-tail (IsTruth s v) q (rs ++ r ∷ []) h)
+      go : (front : List ℕ) → All (IsWellSortedTerm s v) (front ++ r ∷ []) → IsWellSortedTerm s v r
+      go [] h = All-head (IsWellSortedTerm s v) r [] h
+      go (q ∷ rs) h = go rs (All-tail (IsWellSortedTerm s v) q (rs ++ r ∷ []) h)
 
   -- the sides of a literal
-  pub left_sorted : (r : ℕ) (p : ℕ × ℕ) → IsTruth s v r → ((t : Term) → RefersTo s v r t → AreSidesOf s v as_it_stands p t) → IsWellSortedTerm s v p.0
+  pub left_sorted : (r : ℕ) (p : ℕ × ℕ) → IsWellSortedTerm s v r → ((t : Term) → RefersTo s v r t → AreSidesOf s v as_it_stands p t) → IsWellSortedTerm s v p.0
   left_sorted r p h sides =
       let both = sides h.means h.refers in
-      let sorts = equal_sorts both.left both.right (subst (λ t. IsOf t Sort.Bool) both.is h.of) in
+      let sorts = equal_sorts both.left both.right (equality_sort both.left both.right (subst IsWellSorted both.is h.sorted)) in
       record { means = both.left; refers = both.left_refers; sorted = record { sort = sorts.sort; of = sorts.first } }
 
-  pub truth_of : AreOne s v → (r : ℕ) → IsTruth s v r → (t : Term) → RefersTo s v r t → IsOf t Sort.Bool
-  truth_of same r h t refers = subst (λ u. IsOf u Sort.Bool) ((same r r h.means t h.refers refers).0 refl) h.of
+  pub equality_of : AreOne s v → (r : ℕ) → IsWellSortedTerm s v r → (t a b : Term) → RefersTo s v r t → t ≡ equality a b → IsOf (equality a b) Sort.Bool
+  equality_of same r h t a b refers is = equality_sort a b (subst IsWellSorted ((same r r h.means t h.refers refers).0 refl ∙ is) h.sorted)
 
 -- two sides of Bool
 pub right_sort : (t u : Term) → IsOf (equality t u) Sort.Bool → IsOf t Sort.Bool → IsOf u Sort.Bool
@@ -149,13 +144,13 @@ pub record IsTwoMore (s : Table) (v : TermsView) (front : List ℕ) (q r : ℕ) 
   pub first : Term
   pub second : Term
   pub is : ts ≡ (before ++ first ∷ []) ++ second ∷ []
-  pub before_zip : ReferTo s v front before
+  pub before_zip : ReferToAll s v front before
   pub first_zip : RefersTo s v q first
   pub second_zip : RefersTo s v r second
 
-pub split_two : (s : Table) (v : TermsView) (clause front : List ℕ) (q r : ℕ) (ts : List Term) → clause ≡ (front ++ q ∷ []) ++ r ∷ [] → ReferTo s v clause ts → IsTwoMore s v front q r ts
+pub split_two : (s : Table) (v : TermsView) (clause front : List ℕ) (q r : ℕ) (ts : List Term) → clause ≡ (front ++ q ∷ []) ++ r ∷ [] → ReferToAll s v clause ts → IsTwoMore s v front q r ts
 split_two s v clause front q r ts is refer =
-    let last = zip_split (RefersTo s v) (front ++ q ∷ []) r ts (subst (λ rs. ReferTo s v rs ts) is refer) in
+    let last = zip_split (RefersTo s v) (front ++ q ∷ []) r ts (subst (λ rs. ReferToAll s v rs ts) is refer) in
     let first = zip_split (RefersTo s v) front q last.front last.front_zip in
     record {
       before = first.front;
@@ -204,14 +199,14 @@ denies_two_none condition of_two ps ts before t u is fails h =
     let second = same_last (before ++ t ∷ []) (denials h.sides ++ last.0 ∷ []) u last.1 (sym is ∙ last.3) in
     fails h.sides (same_last before (denials h.sides) t last.0 second.0).0
 
-pub not_denying_two : (s : Table) (v : TermsView) (condition : List (List Term) → List Term → Type 0) → IsOfTwo condition → (premises : List (Bor (List ℕ))) (clause : List ℕ) (ps : List (List Term)) (ts : List Term) → ((front : List ℕ) (q r : ℕ) → clauses_of premises ≡ [] → clause ≢ (front ++ q ∷ []) ++ r ∷ []) → ReferToClauses s v premises ps → ReferTo s v clause ts → ¬ Denies condition ps ts
+pub not_denying_two : (s : Table) (v : TermsView) (condition : List (List Term) → List Term → Type 0) → IsOfTwo condition → (premises : List (Bor (List ℕ))) (clause : List ℕ) (ps : List (List Term)) (ts : List Term) → ((front : List ℕ) (q r : ℕ) → clauses_of premises ≡ [] → clause ≢ (front ++ q ∷ []) ++ r ∷ []) → ReferToClauses s v premises ps → ReferToAll s v clause ts → ¬ Denies condition ps ts
 not_denying_two s v condition of_two premises clause ps ts fails refer_ps refer_ts h =
     let last = rest_of condition of_two ps ts h in
-    let second = last_of clause (denials h.sides ++ last.0 ∷ []) last.1 (subst (ReferTo s v clause) last.3 refer_ts) in
+    let second = last_of clause (denials h.sides ++ last.0 ∷ []) last.1 (subst (ReferToAll s v clause) last.3 refer_ts) in
     let first = last_of second.0 (denials h.sides) last.0 second.3 in
     fails first.0 first.1 second.1 (premised_none s v premises ps h.none refer_ps) (second.2 ∙ ap (λ xs. xs ++ second.1 ∷ []) first.2)
   where
-    last_of : (rs : List ℕ) (us : List Term) (u : Term) → ReferTo s v rs (us ++ u ∷ []) → (front : List ℕ) × (r : ℕ) × (rs ≡ front ++ r ∷ []) × ReferTo s v front us
+    last_of : (rs : List ℕ) (us : List Term) (u : Term) → ReferToAll s v rs (us ++ u ∷ []) → (front : List ℕ) × (r : ℕ) × (rs ≡ front ++ r ∷ []) × ReferToAll s v front us
     last_of [] [] u z = absurd z
     last_of [] (w ∷ us) u z = absurd z
     last_of (r ∷ []) [] u z = ([], r, refl, tt)

@@ -6,14 +6,14 @@ use Rattle.rule_model.specs.Congruence.{Head, operator, function, applied, AreDi
 use Rattle.sym_table.specs.Table.{Table}
 use Rattle.term_model.specs.Flips.{equality}
 use Rattle.term_model.specs.Terms.{Term}
-use Rattle.term_pool.specs.Views.{TermsView, RefersTo, IsTerm}
+use Rattle.term_pool.specs.Views.{TermsView, RefersTo, IsTerm, ReferToAll}
 use Rattle.term_pool.proofs.References.{AreOne}
 use Rattle.rules_congruence.specs.Applications.{AreApplied}
 use Rattle.rules_congruence.specs.Links.{IsTableOf, TellsSides}
 use Rattle.rules_congruence.specs.declared.links.Link.{Link}
 use Rattle.rules_congruence.specs.Pairs.{AreUsed}
 use Rattle.rules_congruence.specs.Sides.{ReferToPair, ReferToPairs, AreEqualitiesOf, nothing, one, other, IsGiven}
-use Rattle.rules_congruence.specs.Steps.{ReferTo, AreTerms}
+use Rattle.rules_congruence.specs.Steps.{AreTerms}
 use Rattle.rules_congruence.proofs.ApplicationLemmas.{arguments_are}
 use Rattle.rules_congruence.proofs.Carrying.{sides_both, ends_told}
 use Rattle.rules_congruence.proofs.TurningLemmas.{iff_trans}
@@ -25,7 +25,7 @@ sides_told s v same pairs only ps links given table a b t u left right =
     (iff_trans (ends_told s v same pairs given.equalities given.refer a b t u left right) (sides_both ps given.equalities only given.gathered t u))
 
 -- references of a list stand for terms
-pub zip_are_terms : (s : Table) (v : TermsView) (rs : List ℕ) (ts : List Term) → ReferTo s v rs ts → AreTerms s v rs
+pub zip_are_terms : (s : Table) (v : TermsView) (rs : List ℕ) (ts : List Term) → ReferToAll s v rs ts → AreTerms s v rs
 zip_are_terms s v [] [] h = All-nil (IsTerm s v)
 zip_are_terms s v [] (t ∷ ts) h = absurd h
 zip_are_terms s v (r ∷ rs) [] h = absurd h
@@ -73,7 +73,7 @@ zip_flip R [] (y ∷ ys) z = absurd z
 zip_flip R (x ∷ xs) [] z = absurd z
 zip_flip R (x ∷ xs) (y ∷ ys) z = (z.0, zip_flip R xs ys z.1)
 
-used_terms : (s : Table) (v : TermsView) → AreOne s v → (all : Bool) (pairs : List (ℕ × ℕ)) (es : List (Term × Term)) (xs ys : List ℕ) (ts us : List Term) → ReferToPairs s v pairs es → ReferTo s v xs ts → ReferTo s v ys us → AreUsed all pairs xs ys ↔ AreUsed all es ts us
+used_terms : (s : Table) (v : TermsView) → AreOne s v → (all : Bool) (pairs : List (ℕ × ℕ)) (es : List (Term × Term)) (xs ys : List ℕ) (ts us : List Term) → ReferToPairs s v pairs es → ReferToAll s v xs ts → ReferToAll s v ys us → AreUsed all pairs xs ys ↔ AreUsed all es ts us
 used_terms s v same all pairs es xs ys ts us refer left right = (
   used_carried (RefersTo s v) same all pairs es xs ys ts us refer left right,
   used_carried (λ (t : Term) (r : ℕ). RefersTo s v r t) (λ t u p q one other. ((same p q t u one other).1, (same p q t u one other).0)) all es pairs ts us xs ys
@@ -157,14 +157,14 @@ used_places ps es only (t ∷ ts) (u ∷ us) all g (inr (apart, (rest, is, more)
     (first.0, first.1, used_places first.0 rest only ts us all first.2 more)
 
 -- strict mode, over references
-pub differing_by : (s : Table) (v : TermsView) → AreOne s v → (pairs : List (ℕ × ℕ)) (only : Bool) (ps : List (List Term)) (xs ys : List ℕ) (ts us : List Term) → IsGiven s v pairs only ps → ReferTo s v xs ts → ReferTo s v ys us → ((only ≡ true) × AreUsed false pairs xs ys) ↔ AreDifferences ps ts us
+pub differing_by : (s : Table) (v : TermsView) → AreOne s v → (pairs : List (ℕ × ℕ)) (only : Bool) (ps : List (List Term)) (xs ys : List ℕ) (ts us : List Term) → IsGiven s v pairs only ps → ReferToAll s v xs ts → ReferToAll s v ys us → ((only ≡ true) × AreUsed false pairs xs ys) ↔ AreDifferences ps ts us
 differing_by s v same pairs only ps xs ys ts us given left right =
     let used = used_terms s v same false pairs given.equalities xs ys ts us given.refer left right in (
       λ h. used_differences ps given.equalities only ts us h.0 given.gathered (used.0 h.1),
       λ h. let found = differences_used ps given.equalities only ts us given.gathered h in (found.0, used.1 found.1),
     )
 
-pub each_by : (s : Table) (v : TermsView) → AreOne s v → (pairs : List (ℕ × ℕ)) (only : Bool) (ps : List (List Term)) (xs ys : List ℕ) (ts us : List Term) → IsGiven s v pairs only ps → ReferTo s v xs ts → ReferTo s v ys us → ((only ≡ true) × AreUsed true pairs xs ys) ↔ ArePlaces ps ts us
+pub each_by : (s : Table) (v : TermsView) → AreOne s v → (pairs : List (ℕ × ℕ)) (only : Bool) (ps : List (List Term)) (xs ys : List ℕ) (ts us : List Term) → IsGiven s v pairs only ps → ReferToAll s v xs ts → ReferToAll s v ys us → ((only ≡ true) × AreUsed true pairs xs ys) ↔ ArePlaces ps ts us
 each_by s v same pairs only ps xs ys ts us given left right =
     let used = used_terms s v same true pairs given.equalities xs ys ts us given.refer left right in (
       λ h. used_places ps given.equalities only ts us h.0 given.gathered (used.0 h.1),

@@ -6,15 +6,16 @@ use Rattle.std.specs.List.{AllZip}
 use Rattle.sym_table.specs.Table.{Table}
 use Rattle.term_model.specs.Flips.{equality}
 use Rattle.term_model.specs.Terms.{Term}
-use Rattle.term_pool.specs.Views.{TermsView, RefersTo, IsTerm}
+use Rattle.term_pool.specs.Views.{TermsView, RefersTo, IsTerm, ReferToAll}
 use Rattle.term_pool.proofs.References.{AreOne}
 use Rattle.rule_model.specs.Clausal.{as_it_stands}
 use Rattle.rule_model.specs.Congruence.{TurnsRound, IsReflexive, IsSymmetric}
 use Rattle.rules_congruence.specs.Clauses.{IsOneUnit, IsLone, clauses_of}
 use Rattle.rules_congruence.specs.Signs.{sign_of}
 use Rattle.term_parts.specs.Parts.{AreSidesOf}
-use Rattle.rules_congruence.specs.Steps.{ReferTo, ReferToClauses, AreTerms, AreClauses}
+use Rattle.rules_congruence.specs.Steps.{AreTerms, AreClauses}
 use Rattle.rules_congruence.specs.Turning.{AreTurned, HasEqualSides, HasTurnedSides}
+use Rattle.term_parts.specs.Judging.{ReferToClauses}
 use Rattle.rules_congruence.proofs.Referring.{one_zip, zip_one, zip_none, none_zip, IsBeside}
 
 -- the sides of an equality, as it stands or denied, are its own
@@ -64,7 +65,7 @@ turned_sides_by s v p b t sides turned = (
 )
 
 -- the clauses of the premises, in both forms
-pub clauses_refer : (s : Table) (v : TermsView) (premises : List (Bor (List ℕ))) (ps : List (List Term)) → ReferToClauses s v premises ps → AllZip (ReferTo s v) (clauses_of premises) ps
+pub clauses_refer : (s : Table) (v : TermsView) (premises : List (Bor (List ℕ))) (ps : List (List Term)) → ReferToClauses s v premises ps → AllZip (ReferToAll s v) (clauses_of premises) ps
 clauses_refer s v [] [] h = tt
 clauses_refer s v [] (p ∷ ps) h = absurd h
 clauses_refer s v (r ∷ premises) [] h = absurd h
@@ -78,25 +79,25 @@ pub record IsUnitTerm (s : Table) (v : TermsView) (r : ℕ) (ps : List (List Ter
 
 pub unit_term : (s : Table) (v : TermsView) (premises : List (Bor (List ℕ))) (r : ℕ) (ps : List (List Term)) → IsOneUnit premises r → ReferToClauses s v premises ps → IsUnitTerm s v r ps
 unit_term s v premises r ps unit refer =
-    let first = one_zip (ReferTo s v) (r ∷ []) ps (rw unit at (clauses_refer s v premises ps refer)) in
+    let first = one_zip (ReferToAll s v) (r ∷ []) ps (rw unit at (clauses_refer s v premises ps refer)) in
     let here = one_zip (RefersTo s v) r first.item first.zip in
     record { literal = here.item; is = first.is ∙ ap (λ c. c ∷ []) here.is; refers = here.zip }
 
-pub no_literal_term : (s : Table) (v : TermsView) (rs : List ℕ) (ts : List Term) (t : Term) → ((r : ℕ) → rs ≢ r ∷ []) → ReferTo s v rs ts → ts ≢ t ∷ []
+pub no_literal_term : (s : Table) (v : TermsView) (rs : List ℕ) (ts : List Term) (t : Term) → ((r : ℕ) → rs ≢ r ∷ []) → ReferToAll s v rs ts → ts ≢ t ∷ []
 no_literal_term s v rs ts t none refer e =
     let here = zip_one (RefersTo s v) rs t (rw e at refer) in none here.0 here.1
 
-pub literal_term : (s : Table) (v : TermsView) (rs : List ℕ) (r : ℕ) (ts : List Term) → rs ≡ r ∷ [] → ReferTo s v rs ts → IsBeside (RefersTo s v) r ts
+pub literal_term : (s : Table) (v : TermsView) (rs : List ℕ) (r : ℕ) (ts : List Term) → rs ≡ r ∷ [] → ReferToAll s v rs ts → IsBeside (RefersTo s v) r ts
 literal_term s v rs r ts is refer = one_zip (RefersTo s v) r ts (rw is at refer)
 
 pub none_premised : (s : Table) (v : TermsView) (premises : List (Bor (List ℕ))) (ps : List (List Term)) → clauses_of premises ≡ [] → ReferToClauses s v premises ps → ps ≡ []
-none_premised s v premises ps e refer = none_zip (ReferTo s v) ps (rw e at (clauses_refer s v premises ps refer))
+none_premised s v premises ps e refer = none_zip (ReferToAll s v) ps (rw e at (clauses_refer s v premises ps refer))
 
 pub premised_none : (s : Table) (v : TermsView) (premises : List (Bor (List ℕ))) (ps : List (List Term)) → ps ≡ [] → ReferToClauses s v premises ps → clauses_of premises ≡ []
-premised_none s v premises ps e refer = zip_none (ReferTo s v) (clauses_of premises) (rw e at (clauses_refer s v premises ps refer))
+premised_none s v premises ps e refer = zip_none (ReferToAll s v) (clauses_of premises) (rw e at (clauses_refer s v premises ps refer))
 
 -- symm and not_symm
-pub turns_by : (s : Table) (v : TermsView) (denied b : Bool) (premises : List (Bor (List ℕ))) (clause : List ℕ) (old new : ℕ) (ps : List (List Term)) (ts : List Term) → IsOneUnit premises old → clause ≡ new ∷ [] → ReferToClauses s v premises ps → ReferTo s v clause ts → ((t u : Term) → RefersTo s v old t → RefersTo s v new u → IsTrue b ↔ AreTurned (sign_of denied) t u) → IsTrue b ↔ TurnsRound (sign_of denied) ps ts
+pub turns_by : (s : Table) (v : TermsView) (denied b : Bool) (premises : List (Bor (List ℕ))) (clause : List ℕ) (old new : ℕ) (ps : List (List Term)) (ts : List Term) → IsOneUnit premises old → clause ≡ new ∷ [] → ReferToClauses s v premises ps → ReferToAll s v clause ts → ((t u : Term) → RefersTo s v old t → RefersTo s v new u → IsTrue b ↔ AreTurned (sign_of denied) t u) → IsTrue b ↔ TurnsRound (sign_of denied) ps ts
 turns_by s v denied b premises clause old new ps ts unit is refer_ps refer_ts turned =
     let one = unit_term s v premises old ps unit refer_ps in
     let here = literal_term s v clause new ts is refer_ts in
@@ -113,12 +114,12 @@ turns_by s v denied b premises clause old new ps ts unit is refer_ps refer_ts tu
           }),
     )
 
-pub not_lone : (s : Table) (v : TermsView) (premises : List (Bor (List ℕ))) (clause : List ℕ) (ps : List (List Term)) (ts : List Term) (t : Term) → ((r : ℕ) → ¬ IsLone premises clause r) → ReferToClauses s v premises ps → ReferTo s v clause ts → ps ≡ [] → ts ≢ t ∷ []
+pub not_lone : (s : Table) (v : TermsView) (premises : List (Bor (List ℕ))) (clause : List ℕ) (ps : List (List Term)) (ts : List Term) (t : Term) → ((r : ℕ) → ¬ IsLone premises clause r) → ReferToClauses s v premises ps → ReferToAll s v clause ts → ps ≡ [] → ts ≢ t ∷ []
 not_lone s v premises clause ps ts t none refer_ps refer_ts empty e =
     let here = zip_one (RefersTo s v) clause t (rw e at refer_ts) in
     none here.0 (premised_none s v premises ps empty refer_ps, here.1)
 
-pub reflexive_by : (s : Table) (v : TermsView) (b : Bool) (premises : List (Bor (List ℕ))) (clause : List ℕ) (r : ℕ) (ps : List (List Term)) (ts : List Term) → IsLone premises clause r → ReferToClauses s v premises ps → ReferTo s v clause ts → ((t : Term) → RefersTo s v r t → IsTrue b ↔ HasEqualSides t) → IsTrue b ↔ IsReflexive ps ts
+pub reflexive_by : (s : Table) (v : TermsView) (b : Bool) (premises : List (Bor (List ℕ))) (clause : List ℕ) (r : ℕ) (ps : List (List Term)) (ts : List Term) → IsLone premises clause r → ReferToClauses s v premises ps → ReferToAll s v clause ts → ((t : Term) → RefersTo s v r t → IsTrue b ↔ HasEqualSides t) → IsTrue b ↔ IsReflexive ps ts
 reflexive_by s v b premises clause r ps ts lone refer_ps refer_ts equal =
     let here = literal_term s v clause r ts lone.1 refer_ts in
     let by = equal here.item here.zip in (
@@ -132,7 +133,7 @@ reflexive_by s v b premises clause r ps ts lone refer_ps refer_ts equal =
           }),
     )
 
-pub symmetric_by : (s : Table) (v : TermsView) (b : Bool) (premises : List (Bor (List ℕ))) (clause : List ℕ) (r : ℕ) (ps : List (List Term)) (ts : List Term) → IsLone premises clause r → ReferToClauses s v premises ps → ReferTo s v clause ts → ((t : Term) → RefersTo s v r t → IsTrue b ↔ HasTurnedSides t) → IsTrue b ↔ IsSymmetric ps ts
+pub symmetric_by : (s : Table) (v : TermsView) (b : Bool) (premises : List (Bor (List ℕ))) (clause : List ℕ) (r : ℕ) (ps : List (List Term)) (ts : List Term) → IsLone premises clause r → ReferToClauses s v premises ps → ReferToAll s v clause ts → ((t : Term) → RefersTo s v r t → IsTrue b ↔ HasTurnedSides t) → IsTrue b ↔ IsSymmetric ps ts
 symmetric_by s v b premises clause r ps ts lone refer_ps refer_ts turned =
     let here = literal_term s v clause r ts lone.1 refer_ts in
     let by = turned here.item here.zip in (

@@ -7,8 +7,7 @@ use Rattle.term_model.specs.Terms.{Term}
 use Rattle.term_pool.specs.Building.{IsAppliedLeaf}
 use Rattle.term_pool.specs.Reading.{arguments_of, IsLet}
 use Rattle.term_pool.specs.StandsFor.{function_leaf}
-use Rattle.term_pool.specs.Views.{TermsView, RefersTo}
-use Rattle.rules_congruence.specs.Steps.{ReferTo}
+use Rattle.term_pool.specs.Views.{TermsView, RefersTo, ReferToAll}
 
 -- the symbol of a head
 abbrev pub leaf_of : Head → Leaf
@@ -35,5 +34,5 @@ pub record AreApplied (s : Table) (v : TermsView) (k : ℕ) (ps qs : List ℕ) (
   pub some : ts ≢ []
   pub left_is : t ≡ applied head ts
   pub right_is : u ≡ applied head us
-  pub left : ReferTo s v ps ts
-  pub right : ReferTo s v qs us
+  pub left : ReferToAll s v ps ts
+  pub right : ReferToAll s v qs us

@@ -1,22 +1,9 @@
--- Private. Terms of Bool by references, and what eq_congruent_pred asks behind the equalities that it denies.
-use Rattle.std.specs.Prelude.{◌⊎◌, ℕ, List, All}
-use Rattle.sym_table.specs.Table.{Table}
-use Rattle.term_model.specs.declared.symbols.Sort.{Sort}
-use Rattle.term_model.specs.Sorts.{IsOf}
+-- Private. What eq_congruent_pred asks behind the equalities that it denies.
+use Rattle.std.specs.Prelude.{◌⊎◌, List}
 use Rattle.term_model.specs.Terms.{Term}
-use Rattle.term_pool.specs.Views.{TermsView, RefersTo}
 use Rattle.rule_model.specs.Congruence.{AreCongruent, AreCongruentTruths, Equates, Implies, IsImplied}
 use Rattle.rules_congruence.specs.declared.uses.Uses.{Uses}
 use Rattle.rules_congruence.specs.Uses.{Together}
-
--- the reference stands for a term of Bool
-pub record IsTruth (s : Table) (v : TermsView) (r : ℕ) : Type 0 where
-  pub means : Term
-  pub refers : RefersTo s v r means
-  pub of : IsOf means Sort.Bool
-
-abbrev pub AreTruths : Table → TermsView → List ℕ → Type 0
-AreTruths s v references = All (IsTruth s v) references
 
 -- one predicate is denied and the other stands: in this order, and where the equalities are used in any order also in the
 -- other one

@@ -22,8 +22,10 @@ IsNoEquation clause = (t u : Term) → clause ≢ equality t u ∷ []
 -- the sides of those premises that are equalities as unit clauses, in order, and whether all are
 pub data AreEqualitiesOf : List (List Term) → List (Term × Term) → Bool → Type 0 where
   nothing : AreEqualitiesOf [] [] true
-  one : (t u : Term) (premises : List (List Term)) (equalities : List (Term × Term)) (only : Bool) → AreEqualitiesOf premises equalities only → AreEqualitiesOf ((equality t u ∷ []) ∷ premises) ((t, u) ∷ equalities) only
-  other : (clause : List Term) (premises : List (List Term)) (equalities : List (Term × Term)) (only : Bool) → IsNoEquation clause → AreEqualitiesOf premises equalities only → AreEqualitiesOf (clause ∷ premises) equalities false
+  one : (t u : Term) (premises : List (List Term)) (equalities : List (Term × Term)) (only : Bool) →
+      AreEqualitiesOf premises equalities only → AreEqualitiesOf ((equality t u ∷ []) ∷ premises) ((t, u) ∷ equalities) only
+  other : (clause : List Term) (premises : List (List Term)) (equalities : List (Term × Term)) (only : Bool) →
+      IsNoEquation clause → AreEqualitiesOf premises equalities only → AreEqualitiesOf (clause ∷ premises) equalities false
 
 -- the references are those of the premises' equalities
 pub record IsGiven (s : Table) (v : TermsView) (pairs : List (ℕ × ℕ)) (only : Bool) (premises : List (List Term)) : Type 0 where

@@ -4,10 +4,9 @@ ghost use Rattle.std.specs.Prelude.{◌≡◌, ◌≢◌, [], List, IfOk, OnOk, 
 ghost use Rattle.std.specs.Bool.{OnTrue, OnFalse};
 ghost use Rattle.rule_model.specs.Congruence.{Head, applied};
 ghost use Rattle.term_model.specs.Terms.{Term};
-ghost use Rattle.term_pool.specs.Views.{IsTerm, RefersTo};
+ghost use Rattle.term_pool.specs.Views.{IsTerm, RefersTo, ReferToAll};
 ghost use Rattle.term_pool.specs.Reading.{arguments_of, IsLet};
 ghost use Rattle.rules_congruence.specs.Applications.{AreApplied, HasHead, IsNoLetTerm};
-ghost use Rattle.rules_congruence.specs.Steps.{ReferTo};
 
 use pair_pool::{Memory, Ref};
 use schema_match::{Scratch, read_arguments};
@@ -29,7 +28,8 @@ pub(crate) struct Applications {
 fn common_head(symbols: &Symbols, terms: &mut Terms<'_>, left: Ref, right: Ref) -> Option<u32>
     requires left { IsTerm symbols.now terms.old left }
     requires right { IsTerm symbols.now terms.old right }
-    ensures head { IfSome result (λ k. (t u : Term) → RefersTo symbols.now terms.old left t → RefersTo symbols.now terms.old right u → HasHead symbols.now k t × HasHead symbols.now k u) }
+    ensures head { IfSome result (λ k. (t u : Term) → RefersTo symbols.now terms.old left t → RefersTo symbols.now terms.old right u →
+        HasHead symbols.now k t × HasHead symbols.now k u) }
     ensures other { IfNone result ((t u : Term) → RefersTo symbols.now terms.old left t → RefersTo symbols.now terms.old right u →
         (head : Head) (ts us : List Term) → t ≡ applied head ts → u ≢ applied head us) }
     ensures same { terms.new ≡ terms.old }
@@ -50,7 +50,8 @@ fn common_head(symbols: &Symbols, terms: &mut Terms<'_>, left: Ref, right: Ref) 
 /// Puts the arguments of an application alone in a list, in order.
 fn load(symbols: &Symbols, terms: &mut Terms<'_>, r: Ref, into: &mut Scratch) -> Result<(), Memory>
     requires { IsNoLetTerm symbols.now terms.old r }
-    ensures arguments { OnOk result ((t : Term) → RefersTo symbols.now terms.old r t → (IsLet t → ⊥) → ReferTo symbols.now terms.old into.new.items (arguments_of t)) }
+    ensures arguments { OnOk result ((t : Term) → RefersTo symbols.now terms.old r t → (IsLet t → ⊥) →
+        ReferToAll symbols.now terms.old into.new.items (arguments_of t)) }
     ensures same { terms.new ≡ terms.old }
 {
     let _leaves = symbols.count();
@@ -72,7 +73,7 @@ impl Applications {
         }
     }
 
-    /// Reads two terms as applications of one head to one argument or more, and answers whether they are. They are read in
+    /// Reads two terms as applications of one head to one argument or more, and returns whether they are. They are read in
     /// place, since lists with room of their own are dear to move.
     pub(crate) fn read(
         &mut self,

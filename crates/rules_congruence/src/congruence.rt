@@ -5,10 +5,10 @@ ghost use Rattle.std.specs.List.{AllZip};
 ghost use Rattle.std.specs.List.Sorted.{IsNonDecreasingBy};
 ghost use Rattle.rule_model.specs.Congruence.{IsLinked, AreLinked};
 ghost use Rattle.term_model.specs.Terms.{Term};
-ghost use Rattle.term_pool.specs.Views.{IsTerm, RefersTo};
+ghost use Rattle.term_pool.specs.Views.{IsTerm, RefersTo, ReferToAll};
 ghost use Rattle.rules_congruence.specs.Applications.{AreApplied};
 ghost use Rattle.rules_congruence.specs.Links.{link_rank, AreSmall, TellsSides};
-ghost use Rattle.rules_congruence.specs.Steps.{ReferTo, AreTerms};
+ghost use Rattle.rules_congruence.specs.Steps.{AreTerms};
 ghost use Rattle.rules_congruence.specs.Uses.{ArePairs};
 
 use crate::applications::Applications;
@@ -58,7 +58,7 @@ fn are_linked(
     requires lefts { AreTerms symbols.now terms.old lefts.now }
     requires rights { AreTerms symbols.now terms.old rights.now }
     ensures linked { IfOk result (λ yes. (ps : List (List Term)) (ts us : List Term) → TellsSides symbols.now terms.old links.now ps →
-        ReferTo symbols.now terms.old lefts.now ts → ReferTo symbols.now terms.old rights.now us → IsTrue yes ↔ AllZip (IsLinked ps) ts us) }
+        ReferToAll symbols.now terms.old lefts.now ts → ReferToAll symbols.now terms.old rights.now us → IsTrue yes ↔ AllZip (IsLinked ps) ts us) }
     ensures same { terms.new ≡ terms.old }
 {
     if lefts.len() != rights.len() {

@@ -22,4 +22,4 @@ mod uses;
 mod using;
 mod ways;
 
-pub use checks::check;
+pub use checks::meets;

@@ -1,16 +1,17 @@
 //! eq_congruent_pred: whether equalities make two applications of Bool equal, or one give the other.
 
-ghost use Rattle.std.specs.Prelude.{◌≡◌, ◌↔◌, [], ◌∷◌, List, IsTrue, IfOk};
+ghost use Rattle.std.specs.Prelude.{◌≡◌, ◌↔◌, [], ◌∷◌, List, All, IsTrue, IfOk};
 ghost use Rattle.rule_model.specs.Congruence.{AreCongruent, AreCongruentTruths, Denies, Equates, Implies};
 ghost use Rattle.sort_check.specs.WellSorted.{IsWellSortedTerm};
 ghost use Rattle.term_model.specs.declared.symbols.Sort.TheVariants as Sort;
 ghost use Rattle.term_model.specs.Sorts.{IsOf};
 ghost use Rattle.term_model.specs.Terms.{Term};
-ghost use Rattle.term_pool.specs.Views.{IsTerm, RefersTo};
-ghost use Rattle.rules_congruence.specs.Predicates.{IsTruth, AreTruths, GivesOther, GivesPredicate};
+ghost use Rattle.term_pool.specs.Views.{IsTerm, RefersTo, ReferToAll};
+ghost use Rattle.rules_congruence.specs.Predicates.{GivesOther, GivesPredicate};
 ghost use Rattle.rules_congruence.specs.Sides.{IsGiven};
-ghost use Rattle.rules_congruence.specs.Steps.{ReferTo, ReferToClauses, AreTerms};
+ghost use Rattle.rules_congruence.specs.Steps.{AreTerms};
 ghost use Rattle.rules_congruence.specs.Uses.{Together};
+ghost use Rattle.term_parts.specs.Judging.{ReferToClauses};
 
 use crate::clauses::{denying, denying_two};
 use crate::sides::{Given, denied};
@@ -45,7 +46,7 @@ fn equates_truths(
     given: &Given,
     literal: Ref,
 ) -> Result<bool, Memory>
-    requires { IsTruth symbols.now terms.old literal }
+    requires { IsWellSortedTerm symbols.now terms.old literal }
     ensures equates { IfOk result (λ yes. (ps : List (List Term)) (t : Term) → IsGiven symbols.now terms.old given.now.pairs.items given.now.only ps →
         RefersTo symbols.now terms.old literal t → IsTrue yes ↔ Equates (AreCongruentTruths (Together uses)) ps (t ∷ [])) }
     ensures same { terms.new ≡ terms.old }
@@ -70,9 +71,9 @@ fn meets_equated(
     premises: &[&[Ref]],
     clause: &[Ref],
 ) -> Result<bool, Memory>
-    requires clause { AreTruths symbols.now terms.old clause.now }
+    requires clause { All (IsWellSortedTerm symbols.now terms.old) clause.now }
     ensures met { IfOk result (λ yes. (ps : List (List Term)) (ts : List Term) → ReferToClauses symbols.now terms.old premises.now ps →
-        ReferTo symbols.now terms.old clause.now ts → IsTrue yes ↔ Denies (Equates (AreCongruentTruths (Together uses))) ps ts) }
+        ReferToAll symbols.now terms.old clause.now ts → IsTrue yes ↔ Denies (Equates (AreCongruentTruths (Together uses))) ps ts) }
     ensures same { terms.new ≡ terms.old }
 {
     let Some(split) = denying(premises, clause) else {
@@ -97,7 +98,8 @@ fn implies(
     requires first { IsTerm symbols.now terms.old literals.0 }
     requires second { IsTerm symbols.now terms.old literals.1 }
     ensures implies { IfOk result (λ yes. (ps : List (List Term)) (t u : Term) → IsGiven symbols.now terms.old given.now.pairs.items given.now.only ps →
-        RefersTo symbols.now terms.old literals.0 t → RefersTo symbols.now terms.old literals.1 u → IsTrue yes ↔ Implies (AreCongruent (Together uses)) ps (t ∷ u ∷ [])) }
+        RefersTo symbols.now terms.old literals.0 t → RefersTo symbols.now terms.old literals.1 u →
+        IsTrue yes ↔ Implies (AreCongruent (Together uses)) ps (t ∷ u ∷ [])) }
     ensures same { terms.new ≡ terms.old }
 {
     let Some(inner) = under_not(symbols, terms, literals.0) else {
@@ -143,7 +145,7 @@ fn meets_given(
 ) -> Result<bool, Memory>
     requires clause { AreTerms symbols.now terms.old clause.now }
     ensures met { IfOk result (λ yes. (ps : List (List Term)) (ts : List Term) → ReferToClauses symbols.now terms.old premises.now ps →
-        ReferTo symbols.now terms.old clause.now ts → IsTrue yes ↔ Denies (GivesOther uses) ps ts) }
+        ReferToAll symbols.now terms.old clause.now ts → IsTrue yes ↔ Denies (GivesOther uses) ps ts) }
     ensures same { terms.new ≡ terms.old }
 {
     let Some(split) = denying_two(premises, clause) else {
@@ -165,9 +167,9 @@ pub(crate) fn meets_eq_congruent_pred(
     premises: &[&[Ref]],
     clause: &[Ref],
 ) -> Result<bool, Memory>
-    requires clause { AreTruths symbols.now terms.old clause.now }
+    requires clause { All (IsWellSortedTerm symbols.now terms.old) clause.now }
     ensures met { IfOk result (λ yes. (ps : List (List Term)) (ts : List Term) → ReferToClauses symbols.now terms.old premises.now ps →
-        ReferTo symbols.now terms.old clause.now ts → IsTrue yes ↔ Denies (GivesPredicate uses) ps ts) }
+        ReferToAll symbols.now terms.old clause.now ts → IsTrue yes ↔ Denies (GivesPredicate uses) ps ts) }
     ensures same { terms.new ≡ terms.old }
 {
     if meets_equated(alloc, uses, symbols, terms, premises, clause)? {

@@ -4,7 +4,9 @@ ghost use Rattle.std.specs.Prelude.{◌≡◌, ◌≢◌, ◌++◌, [], ◌∷�
 ghost use Rattle.rule_model.specs.Congruence.{denials};
 ghost use Rattle.term_model.specs.Terms.{Term};
 ghost use Rattle.rules_congruence.specs.Sides.{IsNoEquation, IsGiven, IsUnitOf, AreDenied};
-ghost use Rattle.rules_congruence.specs.Steps.{ReferTo, ReferToClauses, AreTerms, AreClauses};
+ghost use Rattle.rules_congruence.specs.Steps.{AreTerms, AreClauses};
+ghost use Rattle.term_pool.specs.Views.{ReferToAll};
+ghost use Rattle.term_parts.specs.Judging.{ReferToClauses};
 
 use crate::clauses::literal;
 use pair_pool::{Memory, Ref};
@@ -71,8 +73,8 @@ pub(crate) struct Given {
 /// The sides of a clause that is one equality.
 fn unit_sides(symbols: &Symbols, terms: &mut Terms<'_>, clause: &[Ref]) -> Option<(Ref, Ref)>
     requires { AreTerms symbols.now terms.old clause.now }
-    ensures unit { IfSome result (λ p. (c : List Term) → ReferTo symbols.now terms.old clause.now c → IsUnitOf symbols.now terms.old p c) }
-    ensures other { IfNone result ((c : List Term) → ReferTo symbols.now terms.old clause.now c → IsNoEquation c) }
+    ensures unit { IfSome result (λ p. (c : List Term) → ReferToAll symbols.now terms.old clause.now c → IsUnitOf symbols.now terms.old p c) }
+    ensures other { IfNone result ((c : List Term) → ReferToAll symbols.now terms.old clause.now c → IsNoEquation c) }
     ensures same { terms.new ≡ terms.old }
 {
     let Some(literal) = literal(clause) else {
@@ -101,7 +103,7 @@ impl Given {
         premise: &[Ref],
     ) -> Result<(), Memory>
         requires { AreTerms symbols.now terms.old premise.now }
-        ensures added { OnOk result ((premises : List (List Term)) (c : List Term) → ReferTo symbols.now terms.old premise.now c →
+        ensures added { OnOk result ((premises : List (List Term)) (c : List Term) → ReferToAll symbols.now terms.old premise.now c →
             IsGiven symbols.now terms.old self.old.pairs.items self.old.only premises →
             IsGiven symbols.now terms.old self.new.pairs.items self.new.only (premises ++ c ∷ [])) }
         ensures same { terms.new ≡ terms.old }
@@ -141,10 +143,10 @@ pub(crate) fn denied(
     literals: &[Ref],
 ) -> Result<Option<Given>, Memory>
     requires { AreTerms symbols.now terms.old literals.now }
-    ensures denied { IfOk result (λ found. IfSome found (λ given. (ts : List Term) → ReferTo symbols.now terms.old literals.now ts →
+    ensures denied { IfOk result (λ found. IfSome found (λ given. (ts : List Term) → ReferToAll symbols.now terms.old literals.now ts →
         AreDenied symbols.now terms.old given.pairs.items ts)) }
     ensures only { IfOk result (λ found. IfSome found (λ given. given.only ≡ true)) }
-    ensures other { IfOk result (λ found. IfNone found ((ts : List Term) → ReferTo symbols.now terms.old literals.now ts →
+    ensures other { IfOk result (λ found. IfNone found ((ts : List Term) → ReferToAll symbols.now terms.old literals.now ts →
         (sides : List (Term × Term)) → ts ≢ denials sides)) }
     ensures same { terms.new ≡ terms.old }
 {

@@ -3,13 +3,14 @@
 ghost use Rattle.std.specs.Prelude.{◌≡◌, ◌↔◌, [], ◌∷◌, List, true, IsTrue, IfOk};
 ghost use Rattle.rule_model.specs.Congruence.{AreCongruent, Equates, Denies};
 ghost use Rattle.term_model.specs.Terms.{Term};
-ghost use Rattle.term_pool.specs.Views.{IsTerm, RefersTo};
+ghost use Rattle.term_pool.specs.Views.{IsTerm, RefersTo, ReferToAll};
 ghost use Rattle.rules_congruence.specs.Applications.{AreApplied};
 ghost use Rattle.rules_congruence.specs.Pairs.{AreUsed};
 ghost use Rattle.rules_congruence.specs.Sides.{IsGiven};
-ghost use Rattle.rules_congruence.specs.Steps.{ReferTo, ReferToClauses, AreTerms, AreClauses};
+ghost use Rattle.rules_congruence.specs.Steps.{AreTerms, AreClauses};
 ghost use Rattle.rules_congruence.specs.declared.uses.Uses.TheVariants as Uses;
 ghost use Rattle.rules_congruence.specs.Uses.{Together};
+ghost use Rattle.term_parts.specs.Judging.{ReferToClauses};
 
 use crate::applications::Applications;
 use crate::clauses::{denying, literal};
@@ -45,7 +46,8 @@ fn hang_by(
     requires lefts { AreTerms symbols.now terms.old both.now.left.items }
     requires rights { AreTerms symbols.now terms.old both.now.right.items }
     ensures together { IfOk result (λ yes. (ps : List (List Term)) (t u : Term) → IsGiven symbols.now terms.old given.now.pairs.items given.now.only ps →
-        (a : AreApplied symbols.now terms.old both.now.head both.now.left.items both.now.right.items t u) → IsTrue yes ↔ Together Uses.Any a.head ps a.ts a.us) }
+        (a : AreApplied symbols.now terms.old both.now.head both.now.left.items both.now.right.items t u) →
+        IsTrue yes ↔ Together Uses.Any a.head ps a.ts a.us) }
     ensures same { terms.new ≡ terms.old }
 {
     let _leaves = symbols.count();
@@ -136,7 +138,7 @@ pub(crate) fn meets_eq_congruent(
 ) -> Result<bool, Memory>
     requires clause { AreTerms symbols.now terms.old clause.now }
     ensures met { IfOk result (λ yes. (ps : List (List Term)) (ts : List Term) → ReferToClauses symbols.now terms.old premises.now ps →
-        ReferTo symbols.now terms.old clause.now ts → IsTrue yes ↔ Denies (Equates (AreCongruent (Together uses))) ps ts) }
+        ReferToAll symbols.now terms.old clause.now ts → IsTrue yes ↔ Denies (Equates (AreCongruent (Together uses))) ps ts) }
     ensures same { terms.new ≡ terms.old }
 {
     let Some(split) = denying(premises, clause) else {
@@ -160,7 +162,7 @@ pub(crate) fn meets_cong(
     requires premises { AreClauses symbols.now terms.old premises.now }
     requires clause { AreTerms symbols.now terms.old clause.now }
     ensures met { IfOk result (λ yes. (ps : List (List Term)) (ts : List Term) → ReferToClauses symbols.now terms.old premises.now ps →
-        ReferTo symbols.now terms.old clause.now ts → IsTrue yes ↔ Equates (AreCongruent (Together uses)) ps ts) }
+        ReferToAll symbols.now terms.old clause.now ts → IsTrue yes ↔ Equates (AreCongruent (Together uses)) ps ts) }
     ensures same { terms.new ≡ terms.old }
 {
     let Some(literal) = literal(clause) else {

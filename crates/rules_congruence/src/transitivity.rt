@@ -4,10 +4,11 @@ ghost use Rattle.std.specs.Prelude.{◌≡◌, ◌↔◌, [], ◌∷◌, List, I
 ghost use Rattle.rule_model.specs.Congruence.{Equates, IsWay, MeetsTrans, MeetsEqTransitive};
 ghost use Rattle.term_model.specs.Terms.{Term};
 ghost use Rattle.rule_model.specs.declared.rules.Mode.{Mode};
-ghost use Rattle.term_pool.specs.Views.{IsTerm, RefersTo};
+ghost use Rattle.term_pool.specs.Views.{IsTerm, RefersTo, ReferToAll};
 ghost use Rattle.rules_congruence.specs.Sides.{IsGiven};
-ghost use Rattle.rules_congruence.specs.Steps.{ReferTo, ReferToClauses, AreTerms, AreClauses};
+ghost use Rattle.rules_congruence.specs.Steps.{AreTerms, AreClauses};
 ghost use Rattle.rules_congruence.specs.Ways.{IsWayBy};
+ghost use Rattle.term_parts.specs.Judging.{ReferToClauses};
 
 use crate::clauses::{denying, literal};
 use crate::sides::{Given, denied, premised};
@@ -76,7 +77,7 @@ pub(crate) fn meets_trans(
     requires premises { AreClauses symbols.now terms.old premises.now }
     requires clause { AreTerms symbols.now terms.old clause.now }
     ensures met { IfOk result (λ yes. (ps : List (List Term)) (ts : List Term) → ReferToClauses symbols.now terms.old premises.now ps →
-        ReferTo symbols.now terms.old clause.now ts → IsTrue yes ↔ MeetsTrans mode ps ts) }
+        ReferToAll symbols.now terms.old clause.now ts → IsTrue yes ↔ MeetsTrans mode ps ts) }
     ensures same { terms.new ≡ terms.old }
 {
     let Some(literal) = literal(clause) else {
@@ -97,7 +98,7 @@ pub(crate) fn meets_eq_transitive(
 ) -> Result<bool, Memory>
     requires clause { AreTerms symbols.now terms.old clause.now }
     ensures met { IfOk result (λ yes. (ps : List (List Term)) (ts : List Term) → ReferToClauses symbols.now terms.old premises.now ps →
-        ReferTo symbols.now terms.old clause.now ts → IsTrue yes ↔ MeetsEqTransitive mode ps ts) }
+        ReferToAll symbols.now terms.old clause.now ts → IsTrue yes ↔ MeetsEqTransitive mode ps ts) }
     ensures same { terms.new ≡ terms.old }
 {
     let Some(split) = denying(premises, clause) else {

@@ -3,10 +3,11 @@
 ghost use Rattle.std.specs.Prelude.{◌≡◌, ◌↔◌, List, IsTrue};
 ghost use Rattle.rule_model.specs.Congruence.{TurnsRound, IsReflexive, IsSymmetric};
 ghost use Rattle.term_model.specs.Terms.{Term};
-ghost use Rattle.term_pool.specs.Views.{IsTerm, RefersTo};
+ghost use Rattle.term_pool.specs.Views.{IsTerm, RefersTo, ReferToAll};
 ghost use Rattle.rules_congruence.specs.Signs.{sign_of};
-ghost use Rattle.rules_congruence.specs.Steps.{ReferTo, ReferToClauses, AreTerms, AreClauses};
+ghost use Rattle.rules_congruence.specs.Steps.{AreTerms, AreClauses};
 ghost use Rattle.rules_congruence.specs.Turning.{AreTurned, HasEqualSides, HasTurnedSides};
+ghost use Rattle.term_parts.specs.Judging.{ReferToClauses};
 
 use crate::clauses::{literal, lone, unit};
 use crate::signed::signed_sides;
@@ -62,7 +63,7 @@ pub(crate) fn turns_round(
     requires premises { AreClauses symbols.now terms.old premises.now }
     requires clause { AreTerms symbols.now terms.old clause.now }
     ensures met { (ps : List (List Term)) (ts : List Term) → ReferToClauses symbols.now terms.old premises.now ps →
-        ReferTo symbols.now terms.old clause.now ts → IsTrue result ↔ TurnsRound (sign_of denied) ps ts }
+        ReferToAll symbols.now terms.old clause.now ts → IsTrue result ↔ TurnsRound (sign_of denied) ps ts }
     ensures same { terms.new ≡ terms.old }
 {
     let Some(old) = unit(premises) else {
@@ -109,7 +110,7 @@ pub(crate) fn is_reflexive(
 ) -> bool
     requires clause { AreTerms symbols.now terms.old clause.now }
     ensures met { (ps : List (List Term)) (ts : List Term) → ReferToClauses symbols.now terms.old premises.now ps →
-        ReferTo symbols.now terms.old clause.now ts → IsTrue result ↔ IsReflexive ps ts }
+        ReferToAll symbols.now terms.old clause.now ts → IsTrue result ↔ IsReflexive ps ts }
     ensures same { terms.new ≡ terms.old }
 {
     let Some(literal) = lone(premises, clause) else {
@@ -127,7 +128,7 @@ pub(crate) fn is_symmetric(
 ) -> bool
     requires clause { AreTerms symbols.now terms.old clause.now }
     ensures met { (ps : List (List Term)) (ts : List Term) → ReferToClauses symbols.now terms.old premises.now ps →
-        ReferTo symbols.now terms.old clause.now ts → IsTrue result ↔ IsSymmetric ps ts }
+        ReferToAll symbols.now terms.old clause.now ts → IsTrue result ↔ IsSymmetric ps ts }
     ensures same { terms.new ≡ terms.old }
 {
     let Some(literal) = lone(premises, clause) else {

@@ -4,7 +4,7 @@ use Rattle.std.specs.List.{AllZip}
 use Rattle.sym_table.specs.Table.{Table}
 use Rattle.term_model.specs.Terms.{Term, numeral}
 use Rattle.term_pool.specs.Views.{TermsView, RefersTo, ReferToAll}
-use Rattle.rule_model.specs.Definitions.{IsInequality}
+use Rattle.rule_model.specs.Ite.{IsInequality}
 use Rattle.schema_match.proofs.ReferLemmas.{refer_length, refer_at}
 use Rattle.term_model.proofs.Zips.{zip_length}
 use Rattle.rules_ite.proofs.DistinctLemmas.{zip_next, zip_fails, zip_end}

@@ -10,7 +10,7 @@ use Rattle.term_model.specs.Terms.{Term, operation, term, no_terms}
 use Rattle.term_model.proofs.Arities.{two_or_more_sort}
 use Rattle.rule_model.specs.declared.letter.Letter.{Letter}
 use Rattle.rule_model.specs.Conditions.{IsClauseOfTruths}
-use Rattle.rule_model.specs.Definitions.{connective_definitions, MeetsConnectiveDef}
+use Rattle.rule_model.specs.Ite.{connective_definitions, MeetsConnectiveDef}
 use Rattle.rule_model.specs.Patterns.{a, b, equal, conj, implies}
 use Rattle.rule_model.specs.Rewriting.{RewriteRow, Rewrites, over_truths, ◌⇝◌}
 use Rattle.rule_model.specs.Schemas.{Pattern, fill, IsInstance}

@@ -8,7 +8,7 @@ use Rattle.term_model.specs.Flips.{equality}
 use Rattle.term_model.specs.Terms.{Term, not_of}
 use Rattle.term_pool.specs.Views.{TermsView, RefersTo}
 use Rattle.term_pool.proofs.References.{AreOne}
-use Rattle.rule_model.specs.Definitions.{AreInequalities, IsInequality}
+use Rattle.rule_model.specs.Ite.{AreInequalities, IsInequality}
 use Rattle.rule_model.proofs.ArgumentLists.{same_inside}
 use Rattle.term_parts.specs.Parts.{AreSidesOf}
 

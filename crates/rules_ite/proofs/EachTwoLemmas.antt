@@ -8,7 +8,7 @@ use Rattle.sym_table.specs.Table.{Table}
 use Rattle.term_model.proofs.Zips.{zip_take, zip_drop}
 use Rattle.term_model.specs.Terms.{Term}
 use Rattle.term_pool.specs.Views.{TermsView, RefersTo, ReferToAll}
-use Rattle.rule_model.specs.Definitions.{AreInequalities, IsInequality}
+use Rattle.rule_model.specs.Ite.{AreInequalities, IsInequality}
 use Rattle.schema_match.proofs.ReferLemmas.{refer_length}
 use Rattle.rules_ite.proofs.DistinctLemmas.{apart_first, apart_fails, apart_short}
 

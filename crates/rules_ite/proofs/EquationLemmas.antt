@@ -12,10 +12,10 @@ use Rattle.term_model.specs.Terms.{Term, operation, terms_of}
 use Rattle.term_model.proofs.Arities.{equality_sort}
 use Rattle.term_pool.specs.Views.{TermsView, IsTerm}
 use Rattle.rule_model.specs.Conditions.{IsClauseOfTruths}
-use Rattle.rule_model.specs.Definitions.{MeetsIteIntro, MeetsDistinctElim}
+use Rattle.rule_model.specs.Ite.{MeetsIteIntro, MeetsDistinctElim}
 use Rattle.rule_model.proofs.ArgumentLists.{same_sides}
 use Rattle.schema_match.specs.Equations.{StatesEquality}
-use Rattle.schema_match.specs.Steps.{ReferToClauses}
+use Rattle.term_parts.specs.Judging.{ReferToClauses}
 use Rattle.schema_match.proofs.InstanceLemmas.{terms_of_references}
 use Rattle.rules_ite.specs.Distinct.{AreOfOneSort, Eliminates}
 use Rattle.rules_ite.specs.Facts.{Introduces}

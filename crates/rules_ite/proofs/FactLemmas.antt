@@ -10,7 +10,7 @@ use Rattle.term_model.proofs.Flips.{flips_turned}
 use Rattle.term_pool.specs.Reading.{arguments_of}
 use Rattle.term_pool.specs.Views.{TermsView, RefersTo, IsTerm}
 use Rattle.rule_model.specs.Clausal.{as_it_stands}
-use Rattle.rule_model.specs.Definitions.{choice, IsFactOfChoice}
+use Rattle.rule_model.specs.Ite.{choice, IsFactOfChoice}
 use Rattle.term_parts.specs.Parts.{IsOver}
 use Rattle.term_parts.specs.Parts.{AreSidesOf}
 use Rattle.rules_ite.specs.Facts.{AreChoiceParts, IsAbout}

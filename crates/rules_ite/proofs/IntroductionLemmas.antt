@@ -6,7 +6,7 @@ use Rattle.term_model.specs.declared.symbols.Op.{Op}
 use Rattle.term_model.specs.Flips.{EqualUpToFlips}
 use Rattle.term_model.specs.Terms.{Term, operation, terms_of}
 use Rattle.term_pool.specs.Views.{TermsView, RefersTo, ReferToAll}
-use Rattle.rule_model.specs.Definitions.{IsFactOfChoice}
+use Rattle.rule_model.specs.Ite.{IsFactOfChoice}
 use Rattle.rule_model.proofs.ArgumentLists.{same_arguments}
 use Rattle.rules_ite.specs.Facts.{Introduces}
 

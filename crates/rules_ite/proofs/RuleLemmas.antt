@@ -8,15 +8,14 @@ use Rattle.term_model.specs.Terms.{Term}
 use Rattle.term_pool.specs.Views.{TermsView, IsTerm, ReferToAll}
 use Rattle.term_pool.proofs.References.{AreOne}
 use Rattle.rule_model.specs.declared.rules.Rule.{Rule}
-use Rattle.rule_model.specs.Definitions.{choice_schema_of}
+use Rattle.rule_model.specs.Ite.{choice_schema_of}
 use Rattle.rule_model.specs.Schemas.{Schema, IsInstance, IsInstanceOf}
 use Rattle.schema_match.specs.declared.instances.SchemaParts.{SchemaParts}
 use Rattle.schema_match.specs.Equations.{StatesEquality}
 use Rattle.schema_match.specs.Schemas.{AreSchemaParts, HasParts}
-use Rattle.schema_match.specs.Steps.{ReferToClauses}
+use Rattle.term_parts.specs.Judging.{ReferToClauses, StandForTruths}
 use Rattle.schema_match.proofs.InstanceLemmas.{terms_of_references}
 use Rattle.rules_ite.specs.Steps.{MeetsDefinition}
-use Rattle.rules_ite.specs.Truths.{AreTruths}
 use Rattle.rules_ite.proofs.CheckLemmas.{clause_of_truths, truths_are_terms}
 use Rattle.rules_ite.proofs.EquationLemmas.{no_introduction, no_elimination, clauses_of_references, sides_are_sorted}
 
@@ -50,7 +49,7 @@ module _ (ps : List (List Term)) (ts : List Term) where
   other_rule_meets rule are no_connective no_intro no_elim = without_schema (choice_schema_of rule) are
 
 -- the sides of the equality that a clause of Bool states
-pub sides_of_truths : (s : Table) (v : TermsView) (premises : List (Bor (List ℕ))) (clause : List ℕ) (p : ℕ × ℕ) → AreOne s v → All (λ q. All (IsTerm s v) q.now) premises → AreTruths s v clause → ((ps : List (List Term)) (ts : List Term) → ReferToClauses s v premises ps → ReferToAll s v clause ts → StatesEquality s v p ps ts) → IsWellSortedTerm s v p.0 × IsTerm s v p.1
+pub sides_of_truths : (s : Table) (v : TermsView) (premises : List (Bor (List ℕ))) (clause : List ℕ) (p : ℕ × ℕ) → AreOne s v → All (λ q. All (IsTerm s v) q.now) premises → StandForTruths s v clause → ((ps : List (List Term)) (ts : List Term) → ReferToClauses s v premises ps → ReferToAll s v clause ts → StatesEquality s v p ps ts) → IsWellSortedTerm s v p.0 × IsTerm s v p.1
 sides_of_truths s v premises clause p one premises_are truths states =
     let ps = clauses_of_references s v premises premises_are in
     let ts = terms_of_references s v clause (truths_are_terms s v clause truths) in

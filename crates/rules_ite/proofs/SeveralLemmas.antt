@@ -9,7 +9,7 @@ use Rattle.term_model.specs.Sorts.{IsOf, IsWellSorted}
 use Rattle.term_model.specs.Terms.{Term, operation, no_terms, terms_of}
 use Rattle.term_parts.specs.Parts.{IsOver}
 use Rattle.term_pool.specs.Views.{TermsView, RefersTo, ReferToAll}
-use Rattle.rule_model.specs.Definitions.{IsInequality}
+use Rattle.rule_model.specs.Ite.{IsInequality}
 use Rattle.schema_match.proofs.Counts.{none}
 use Rattle.schema_match.proofs.OverLemmas.{over_term, is_over}
 use Rattle.schema_match.proofs.ReferLemmas.{refer_length}

@@ -8,7 +8,7 @@ use Rattle.term_model.specs.Sorts.{IsOf}
 use Rattle.term_model.specs.Terms.{Term, operation, no_terms, terms_of}
 use Rattle.term_model.proofs.Sorting.{one_sort}
 use Rattle.term_pool.specs.Views.{TermsView, ReferToAll}
-use Rattle.rule_model.specs.Definitions.{AreInequalities, IsInequality}
+use Rattle.rule_model.specs.Ite.{AreInequalities, IsInequality}
 use Rattle.rule_model.proofs.ArgumentLists.{same_arguments}
 use Rattle.schema_match.proofs.ReferLemmas.{refer_length}
 use Rattle.rules_ite.specs.Distinct.{AreOfOneSort, IsConjunction, IsOfDistinct, Eliminates}

@@ -4,7 +4,7 @@ use Rattle.term_model.specs.declared.symbols.Op.{Op}
 use Rattle.term_model.specs.declared.symbols.Sort.{Sort}
 use Rattle.term_model.specs.Sorts.{IsOf}
 use Rattle.term_model.specs.Terms.{Term, operation, terms_of}
-use Rattle.rule_model.specs.Definitions.{AreInequalities, IsOfTwo, IsOfTruths, IsOfOthers}
+use Rattle.rule_model.specs.Ite.{AreInequalities, IsOfTwo, IsOfTruths, IsOfOthers}
 
 -- all terms are of one sort
 pub record AreOfOneSort (ts : List Term) : Type 0 where

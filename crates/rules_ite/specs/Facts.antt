@@ -5,7 +5,7 @@ use Rattle.term_model.specs.declared.symbols.Op.{Op}
 use Rattle.term_model.specs.Flips.{EqualUpToFlips}
 use Rattle.term_model.specs.Terms.{Term, operation, terms_of}
 use Rattle.term_pool.specs.Views.{TermsView, RefersTo}
-use Rattle.rule_model.specs.Definitions.{choice, IsFactOfChoice}
+use Rattle.rule_model.specs.Ite.{choice, IsFactOfChoice}
 
 -- the references stand for the parts of the `ite` that the term is
 pub record AreChoiceParts (s : Table) (v : TermsView) (p : ℕ × ℕ × ℕ) (t : Term) : Type 0 where

@@ -1,5 +1,3 @@
-pub mod Families
-pub mod Truths
 pub mod Steps
 pub mod Connectives
 pub mod Distinct

@@ -2,11 +2,11 @@
 
 ghost use Rattle.std.specs.Prelude.{◌≡◌, ◌↔◌, List, All, IsTrue, IfOk};
 ghost use Rattle.rule_model.specs.Conditions.{IsClauseOfTruths};
-ghost use Rattle.rule_model.specs.Definitions.{connective_definitions, MeetsConnectiveDef};
+ghost use Rattle.rule_model.specs.Ite.{connective_definitions, MeetsConnectiveDef};
 ghost use Rattle.term_model.specs.Terms.{Term};
 ghost use Rattle.term_pool.specs.Views.{IsTerm, ReferToAll};
 ghost use Rattle.schema_match.specs.Schemas.{AreSchemas};
-ghost use Rattle.schema_match.specs.Steps.{ReferToClauses};
+ghost use Rattle.term_parts.specs.Judging.{ReferToClauses};
 ghost use Rattle.rules_ite.specs.Connectives.{schemas_of};
 
 use pair_pool::{Memory, Ref};

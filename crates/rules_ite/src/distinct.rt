@@ -2,7 +2,7 @@
 
 ghost use Rattle.std.specs.Prelude.{◌≡◌, ◌↔◌, ◌≤◌, List, All, IsTrue, IfOk, length};
 ghost use Rattle.std.specs.List.{AllZip};
-ghost use Rattle.rule_model.specs.Definitions.{AreInequalities, IsInequality};
+ghost use Rattle.rule_model.specs.Ite.{AreInequalities, IsInequality};
 ghost use Rattle.sort_check.specs.WellSorted.{IsWellSortedTerm};
 ghost use Rattle.term_model.specs.Terms.{Term};
 ghost use Rattle.term_pool.specs.Views.{IsTerm, RefersTo, ReferToAll};

@@ -1,7 +1,7 @@
 //! What holds of each `ite`.
 
 ghost use Rattle.std.specs.Prelude.{◌≡◌, ◌≢◌, ◌↔◌, List, All, IsTrue, IfNone, IfOk, IfSome};
-ghost use Rattle.rule_model.specs.Definitions.{choice, IsFactOfChoice};
+ghost use Rattle.rule_model.specs.Ite.{choice, IsFactOfChoice};
 ghost use Rattle.term_model.specs.Flips.{EqualUpToFlips};
 ghost use Rattle.term_model.specs.Terms.{Term};
 ghost use Rattle.term_pool.specs.Views.{IsTerm, RefersTo, ReferToAll};

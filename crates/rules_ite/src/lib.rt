@@ -11,4 +11,4 @@ mod connectives;
 mod distinct;
 mod facts;
 
-pub use checks::check;
+pub use checks::meets;

@@ -1,3 +1,3 @@
 pub mod Stating
 pub mod Meeting
-pub mod Substituting
+pub mod SideLemmas

@@ -1,24 +1,20 @@
 -- The sides of the equality that a step states are determined, and whether it meets `refl` is told by them.
-use Rattle.std.proofs.Common.{◌≡◌, ◌↔◌, ℕ, List, [], ◌∷◌, map, length, get_or, Bool, IsTrue, refl, sym, ◌∙◌, ap, subst, arith}
-use Rattle.std.specs.List.{AllZip}
+use Rattle.std.proofs.Common.{◌≡◌, ◌↔◌, ℕ, List, [], ◌∷◌, Bool, IsTrue, sym, ◌∙◌, subst}
+use Rattle.std.specs.Prelude.{All}
 use Rattle.rule_model.specs.declared.rules.Mode.{Mode}
-use Rattle.rule_model.specs.Judged.{anchors_at}
-use Rattle.rule_model.specs.Proofs.{ProofItems}
-use Rattle.rule_model.specs.Reading.{clause_at, premises_at}
-use Rattle.rule_model.specs.Reflexivity.{AreSame, MeetsRefl}
+use Rattle.rule_model.specs.declared.rules.Rule.{Rule}
+use Rattle.rule_model.specs.Conditions.{MeetsRule, Met}
+use Rattle.rule_model.specs.Contexts.{images}
+use Rattle.rule_model.specs.Judged.{Judged}
+use Rattle.rule_model.specs.Refl.{AreSame, MeetsRefl}
+use Rattle.rule_model.specs.Substitution.{put_in}
+use Rattle.schema_match.specs.Equations.{StatesEquality}
+use Rattle.schema_match.proofs.InstanceLemmas.{terms_of_references}
 use Rattle.sym_table.specs.Table.{Table}
 use Rattle.term_model.specs.Flips.{equality}
-use Rattle.term_model.specs.Terms.{Var, Term}
+use Rattle.term_model.specs.Terms.{Term}
 use Rattle.term_model.proofs.Lists.{same_one}
-use Rattle.rule_model.specs.Clausal.{as_it_stands}
-use Rattle.term_parts.specs.Parts.{AreSidesOf}
-use Rattle.term_pool.specs.Views.{TermsView, RefersTo}
-use Rattle.rules_refl.specs.Sides.{States, substituted}
-use Rattle.rules_refl.specs.StatedSides.{HasSides}
-
-map_none : {X Y : Type 0} (f : X → Y) (xs : List X) → map f xs ≡ [] → xs ≡ []
-map_none f [] e = refl
-map_none f (x ∷ xs) e = absurd cc
+use Rattle.term_pool.specs.Views.{TermsView, IsTerm, ReferToAll}
 
 left_same : (t u a b : Term) → equality t u ≡ equality a b → t ≡ a
 left_same t u a b e = cc
@@ -26,69 +22,44 @@ left_same t u a b e = cc
 right_same : (t u a b : Term) → equality t u ≡ equality a b → u ≡ b
 right_same t u a b e = cc
 
-module _ (mode : Mode) (of : ProofItems Var Term) (i : ℕ) where
-  pub states_of : (h : MeetsRefl mode (anchors_at of i) (map (clause_at of) (premises_at of i)) (clause_at of i)) → States of i h.left h.right
-  states_of h = record { none = map_none (clause_at of) (premises_at of i) h.none; clause = h.literal }
+-- the mode and the rule of a step
+refl_meets : (j : Judged) → j.rule ≡ Rule.Refl → MeetsRefl j.mode j.anchors j.premises j.clause ↔ Met j
+refl_meets j is = (
+  λ h. subst (λ rule. MeetsRule rule j) (sym is) h,
+  λ h. subst (λ rule. MeetsRule rule j) is h,
+)
 
-  pub meets_where_same : (t u : Term) → States of i t u → AreSame mode (substituted of i t) (substituted of i u) ↔ MeetsRefl mode (anchors_at of i) (map (clause_at of) (premises_at of i)) (clause_at of i)
-  meets_where_same t u states = (there, back)
-    where
-      there : AreSame mode (substituted of i t) (substituted of i u) → MeetsRefl mode (anchors_at of i) (map (clause_at of) (premises_at of i)) (clause_at of i)
-      there same = record { left = t; right = u; none = ap (map (clause_at of)) states.none; literal = states.clause; same = same }
+-- a step that states no equality
+pub states_none : (j : Judged) → j.rule ≡ Rule.Refl → ((t u : Term) → j.premises ≡ [] → j.clause ≡ equality t u ∷ [] → ⊥) → Met j → ⊥
+states_none j is never met = let h = (refl_meets j is).1 met in never h.left h.right h.none h.literal
 
-      back : MeetsRefl mode (anchors_at of i) (map (clause_at of) (premises_at of i)) (clause_at of i) → AreSame mode (substituted of i t) (substituted of i u)
-      back h =
-          let e = same_one _ _ (sym h.literal ∙ states.clause) in
-          subst (λ x. AreSame mode (substituted of i x) (substituted of i u)) (left_same h.left h.right t u e)
-          (subst (λ x. AreSame mode (substituted of i h.left) (substituted of i x)) (right_same h.left h.right t u e) h.same)
+-- one whose sides become these
+module _ (j : Judged) (is : j.rule ≡ Rule.Refl) (t u : Term) (none : j.premises ≡ []) (literal : j.clause ≡ equality t u ∷ []) where
+  abbrev pub Same : Mode → Type 0
+  Same mode = AreSame mode (put_in (images j.anchors) t) (put_in (images j.anchors) u)
 
-  pub sides_same : (t u a b : Term) → States of i t u → States of i a b → (t ≡ a) × (u ≡ b)
-  sides_same t u a b h g =
-      let e = same_one _ _ (sym h.clause ∙ g.clause) in (left_same t u a b e, right_same t u a b e)
+  there : Same j.mode → MeetsRefl j.mode j.anchors j.premises j.clause
+  there same = record { left = t; right = u; none = none; literal = literal; same = same }
 
--- the sides that are read
-pub no_premises : (premises ps : List ℕ) → premises ≡ ps → length premises ≡ 0 → ps ≡ []
-no_premises [] ps e none = sym e
-no_premises (p ∷ premises) ps e none = absurd cc
+  back : MeetsRefl j.mode j.anchors j.premises j.clause → Same j.mode
+  back h =
+      let e = same_one _ _ (sym h.literal ∙ literal) in
+      subst (λ x. AreSame j.mode (put_in (images j.anchors) x) (put_in (images j.anchors) u)) (left_same h.left h.right t u e)
+      (subst (λ x. AreSame j.mode (put_in (images j.anchors) h.left) (put_in (images j.anchors) x)) (right_same h.left h.right t u e) h.same)
 
-pub some_premises : (premises ps : List ℕ) → premises ≡ ps → (length premises ≡ 0 → ⊥) → ps ≡ [] → ⊥
-some_premises premises ps e some none = some (ap length e ∙ ap length none)
+  pub told_by_sides : (mode : Mode) (b : Bool) → j.mode ≡ mode → IsTrue b ↔ Same mode → IsTrue b ↔ Met j
+  told_by_sides mode b under told =
+      let here = subst (λ m. IsTrue b ↔ Same m) (sym under) told in
+      let meets = refl_meets j is in
+      (λ h. meets.0 (there (here.0 h)), λ h. here.1 (back (meets.1 h)))
 
--- the one literal of a clause
-pub record IsLiteral (s : Table) (v : TermsView) (r : ℕ) (ts : List Term) : Type 0 where
-  pub term : Term
-  pub refers : RefersTo s v r term
-  pub alone : ts ≡ term ∷ []
-
-pub literal_of : (s : Table) (v : TermsView) (clause : List ℕ) (ts : List Term) (r : ℕ) → length clause ≡ 1 → r ≡ get_or clause 0 r → AllZip (RefersTo s v) clause ts → IsLiteral s v r ts
-literal_of s v [] ts r one at h = absurd (omega arith)
-literal_of s v (x ∷ []) [] r one at h = absurd h
-literal_of s v (x ∷ []) (t ∷ []) r one at h = record { term = t; refers = subst (λ n. RefersTo s v n t) (sym at) h.0; alone = refl }
-literal_of s v (x ∷ []) (t ∷ u ∷ us) r one at h = absurd h.1
-literal_of s v (x ∷ y ∷ ys) ts r one at h = absurd (omega arith)
-
-pub not_alone : (s : Table) (v : TermsView) (clause : List ℕ) (ts : List Term) (t : Term) → (length clause ≡ 1 → ⊥) → AllZip (RefersTo s v) clause ts → ts ≡ t ∷ [] → ⊥
-not_alone s v [] [] t many h e = absurd cc
-not_alone s v [] (u ∷ us) t many h e = absurd h
-not_alone s v (x ∷ clause) [] t many h e = absurd h
-not_alone s v (x ∷ []) (u ∷ us) t many h e = many refl
-not_alone s v (x ∷ y ∷ ys) (u ∷ []) t many h e = absurd h.1
-not_alone s v (x ∷ y ∷ ys) (u ∷ w ∷ us) t many h e = absurd cc
-
-module _ (s : Table) (v : TermsView) (of : ProofItems Var Term) (i r : ℕ) (none : premises_at of i ≡ []) (literal : IsLiteral s v r (clause_at of i)) where
-  pub sides_are : (p : ℕ × ℕ) → ((t : Term) → RefersTo s v r t → AreSidesOf s v as_it_stands p t) → HasSides s v of i p
-  sides_are p h =
-      let sides = h literal.term literal.refers in
-      record {
-        left = sides.left;
-        right = sides.right;
-        states = record { none = none; clause = literal.alone ∙ ap (λ (t : Term). t ∷ []) sides.is };
-        left_refers = sides.left_refers;
-        right_refers = sides.right_refers;
-      }
-
-  pub states_nothing : ((t u w : Term) → RefersTo s v r t → t ≡ equality u w → ⊥) → (t u : Term) → States of i t u → ⊥
-  states_nothing h t u states = h literal.term t u literal.refers (same_one _ _ (sym literal.alone ∙ states.clause))
+-- the sides that are read are terms
+pub sides_are_terms : (s : Table) (v : TermsView) (p : ℕ × ℕ) (clause : List ℕ) → All (IsTerm s v) clause →
+    ((ts : List Term) → ReferToAll s v clause ts → StatesEquality s v p [] ts) → IsTerm s v p.0 × IsTerm s v p.1
+sides_are_terms s v p clause all states =
+    let there = terms_of_references s v clause all in
+    let is = states there.0 there.1 in
+    (record { means = is.left; refers = is.left_refers }, record { means = is.right; refers = is.right_refers })
 
 pub strictly : (mode : Mode) → mode ≡ Mode.Strict → (t u : Term) (b : Bool) → IsTrue b ↔ (t ≡ u) → IsTrue b ↔ AreSame mode t u
 strictly mode is t u b h = subst (λ m. IsTrue b ↔ AreSame m t u) (sym is) h

@@ -1,2 +1,2 @@
 pub mod Sides
-pub mod StatedSides
+pub mod Steps

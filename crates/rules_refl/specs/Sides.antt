@@ -1,29 +1,26 @@
 -- Public. The sides of the equality that a step states, and what they become.
-use Rattle.std.specs.Prelude.{◌≡◌, ◌⊎◌, ℕ, [], ◌∷◌}
+use Rattle.std.specs.Prelude.{◌≡◌, ◌⊎◌, ℕ, List, [], ◌∷◌, map}
 use Rattle.rule_model.specs.Contexts.{images}
 use Rattle.rule_model.specs.Judged.{anchors_at}
 use Rattle.rule_model.specs.Proofs.{ProofItems}
 use Rattle.rule_model.specs.Reading.{clause_at, premises_at}
+use Rattle.rule_model.specs.Replacement.{Replacement}
 use Rattle.rule_model.specs.Substitution.{put_in}
 use Rattle.term_model.specs.Flips.{equality}
 use Rattle.term_model.specs.Terms.{Var, Term}
-
--- the step has no premises, and its clause is the equality of the two terms
-pub record States (proof : ProofItems Var Term) (i : ℕ) (t u : Term) : Type 0 where
-  pub none : premises_at proof i ≡ []
-  pub clause : clause_at proof i ≡ equality t u ∷ []
-
--- the term after substitution, by the anchors that are open at the step
-abbrev pub substituted : ProofItems Var Term → ℕ → Term → Term
-substituted proof i t = put_in (images (anchors_at proof i)) t
 
 -- one of two terms
 abbrev pub IsEither : Term → Term → Term → Type 0
 IsEither a b t = (t ≡ a) ⊎ (t ≡ b)
 
--- the term is a side of the step after substitution
-pub record IsSideOf (proof : ProofItems Var Term) (i : ℕ) (t : Term) : Type 0 where
+-- the term is a side of the equality that a step without premises states, after substitution by these anchors
+pub record IsSubstitutedSide (anchors : List Replacement) (premises : List (List Term)) (clause : List Term) (t : Term) : Type 0 where
   pub left : Term
   pub right : Term
-  pub states : States proof i left right
-  pub is : IsEither (substituted proof i left) (substituted proof i right) t
+  pub none : premises ≡ []
+  pub literal : clause ≡ equality left right ∷ []
+  pub is : IsEither (put_in (images anchors) left) (put_in (images anchors) right) t
+
+-- the same of the step at an index, by the anchors that are open there
+abbrev pub IsSideOf : ProofItems Var Term → ℕ → Term → Type 0
+IsSideOf proof i t = IsSubstitutedSide (anchors_at proof i) (map (clause_at proof) (premises_at proof i)) (clause_at proof i) t

@@ -2,8 +2,8 @@
 
 ghost use Rattle.std.specs.Prelude.{◌≡◌, ◌↔◌, IfOk, IfErr, IsTrue};
 ghost use Rattle.pair_pool.specs.Views.{IsKnown, IsUnchanged};
-ghost use Rattle.proof_store.specs.declared.answers.RuleStop.TheVariants as RuleStop;
-ghost use Rattle.rule_model.specs.Reflexivity.{AreSame};
+ghost use Rattle.rule_model.specs.Refl.{AreSame};
+ghost use Rattle.term_parts.specs.declared.answers.RuleStop.TheVariants as RuleStop;
 ghost use Rattle.term_model.specs.Terms.{Term};
 ghost use Rattle.term_pool.specs.Views.{RefersTo, KeepsTerms};
 ghost use Rattle.term_pool.specs.declared.stop.TermStop.TheVariants as TermStop;
@@ -26,7 +26,8 @@ pub(crate) fn are_same(
 ) -> Result<bool, Memory>
     requires one { IsKnown terms.old.pass a }
     requires other { IsKnown terms.old.pass b }
-    ensures same { IfOk result (λ yes. (t u : Term) → RefersTo symbols.now terms.old a t → RefersTo symbols.now terms.old b u → IsTrue yes ↔ AreSame mode t u) }
+    ensures same { IfOk result (λ yes. (t u : Term) → RefersTo symbols.now terms.old a t → RefersTo symbols.now terms.old b u →
+        IsTrue yes ↔ AreSame mode t u) }
     ensures keeps { KeepsTerms terms.old terms.new }
     ensures unchanged { IsUnchanged terms.old.pass terms.new.pass }
 {
@@ -38,7 +39,7 @@ pub(crate) fn are_same(
     }
 }
 
-/// What is answered of a step where a substitution was refused.
+/// What is said of a step where a substitution was refused.
 pub fn refused(stop: TermStop) -> RuleStop
     ensures full { result ≡ RuleStop.PoolFull → stop ≡ TermStop.PoolFull }
 {

@@ -3,7 +3,7 @@
 
 mod checks;
 mod comparing;
-mod sides;
+mod substituting;
 
-pub use checks::check;
+pub use checks::{check, meets};
 pub use comparing::refused;

@@ -16,3 +16,5 @@ pub mod Keys
 pub mod TermLiterals
 pub mod TermAnswers
 pub mod Loading
+pub mod Carrying
+pub mod SignedTerms

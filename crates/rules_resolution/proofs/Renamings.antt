@@ -147,7 +147,7 @@ module _ (premises : List (List Lit)) (goal : List Lit) (names : List ℕ) (n : 
       (shows_renamed (IsNameIn (all_literals premises goal) names) one_to_one
       premises (renamed_in names 0 premises) goal (renamed_from names n goal) trail premises_named goal_named).1
 
--- so what is answered for the clauses with new names is so for the clauses as they were
+-- so what is returned for the clauses with new names is so for the clauses as they were
 module _ (premises : List (List Lit)) (goal : List Lit) (names : List ℕ) (n : ℕ) (are : AreNames (all_literals premises goal) names) (goes_on : n ≡ length (joined_clauses premises)) (ps : List (List Lit)) (h : List Lit) (ps_are : ps ≡ renamed_in names 0 premises) (h_is : h ≡ renamed_from names n goal) where
   pub shown_before : (r : Result (Option Trace) Memory) → IfOk r (λ found. IfSome found (Shows ps h)) → IfOk r (λ found. IfSome found (Shows premises goal))
   shown_before (Err e) shown = shown

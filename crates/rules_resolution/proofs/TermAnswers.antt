@@ -1,5 +1,5 @@
 -- What is found of literals over references is so of the terms that the references of a proof stand for.
-use Rattle.std.proofs.Common.{◌≡◌, ◌↔◌, inl, inr, ℕ, None, Result, Ok, Err, IfOk, IfSome, IfNone, List, [], ◌∷◌, map, sym, subst}
+use Rattle.std.proofs.Common.{◌≡◌, ◌↔◌, inl, inr, ℕ, None, Bool, true, IsTrue, Result, Ok, Err, IfOk, IfSome, IfNone, All, List, [], ◌∷◌, map, refl, sym, subst}
 use Rattle.std.specs.Global.{Vec}
 use Rattle.std.specs.List.{AllZip}
 use Rattle.sym_table.specs.Table.{Table}
@@ -13,13 +13,15 @@ use Rattle.rule_model.specs.declared.literal.Literal.{Literal}
 use Rattle.rule_model.specs.declared.rules.Mode.{Mode}
 use Rattle.rule_model.specs.declared.rules.Rule.{Rule}
 use Rattle.rule_model.specs.Conditions.{Met, MeetsRule, KeepsTruth}
+use Rattle.rule_model.specs.Clauses.{MakesClauseTrue}
 use Rattle.rule_model.specs.Judged.{judged_at}
 use Rattle.rule_model.specs.Proofs.{ProofItems}
-use Rattle.rule_model.specs.Reading.{rule_at, clause_at, premises_at, closes_at}
+use Rattle.rule_model.specs.Reading.{rule_at, clause_at, premises_at, pivots_at, closes_at}
 use Rattle.rule_model.specs.Renaming.{KeepsAtomsApart, AreLiteralImages, AreAllImages}
-use Rattle.rule_model.specs.Resolution.{as_clause, ResolvesInCheck}
+use Rattle.rule_model.specs.Resolution.{as_clause, Resolves, ResolvesInCheck}
 use Rattle.rule_model.proofs.Renamings.{leads_renamed, contradicts_renamed, follows_renamed}
 use Rattle.rule_model.proofs.Resolution.{check_sound}
+use Rattle.rule_model.proofs.StrictResolution.{strict_sound}
 use Rattle.rules_resolution.specs.declared.end.End.{End}
 use Rattle.rules_resolution.specs.Clause.{clauses_of}
 use Rattle.rules_resolution.specs.Ends.{IsEnd, trail_from}
@@ -45,6 +47,14 @@ premises_zip : (s : Table) (v : TermsView) (f : ℕ → List ℕ) (g : ℕ → L
 premises_zip s v f g [] each = tt
 premises_zip s v f g (j ∷ js) each = (each j, premises_zip s v f g js each)
 
+-- the premises' clauses of a command, where its premises are the same
+pub premises_refer : (s : Table) (v : TermsView) (refs : ProofItems ℕ ℕ) (p : ProofItems Var Term) (i : ℕ)
+    → ((j : ℕ) → AllZip (RefersTo s v) (clause_at refs j) (clause_at p j)) → premises_at refs i ≡ premises_at p i
+    → AllZip (AllZip (RefersTo s v)) (premise_clauses refs i) (premise_clauses p i)
+premises_refer s v refs p i each same =
+    subst (λ (js : List ℕ). AllZip (AllZip (RefersTo s v)) (premise_clauses refs i) (map (clause_at p) js)) same
+    (premises_zip s v (clause_at refs) (clause_at p) (premises_at refs i) each)
+
 pub end_of_terms : (s : Table) (v : TermsView) → KeepsAtomsApart (RefersTo s v) → (refs : ProofItems ℕ ℕ) (p : ProofItems Var Term) (i : ℕ)
     → ((j : ℕ) → AllZip (RefersTo s v) (clause_at refs j) (clause_at p j)) → premises_at refs i ≡ premises_at p i
     → (clauses : List (Vec Lit)) (goal : List Lit) (units : List (ℕ × ℕ)) → AreClausesOf s v (premise_clauses refs i) clauses → AreLiteralsOf s v (clause_at refs i) goal
@@ -52,8 +62,7 @@ pub end_of_terms : (s : Table) (v : TermsView) → KeepsAtomsApart (RefersTo s v
 end_of_terms s v one refs p i each same clauses goal units clauses_are goal_is end is =
     end_renamed (RefersTo s v) one (clauses_of clauses) (map as_clause (premise_clauses p i)) goal (as_clause (clause_at p i)) units
     (are_all_images s v (premise_clauses refs i) clauses (premise_clauses p i) clauses_are
-    (subst (λ (js : List ℕ). AllZip (AllZip (RefersTo s v)) (premise_clauses refs i) (map (clause_at p) js)) same
-    (premises_zip s v (clause_at refs) (clause_at p) (premises_at refs i) each)))
+    (premises_refer s v refs p i each same))
     (are_images s v (clause_at refs i) goal (clause_at p i) goal_is (each i)) end is
 
 pub ends_of_terms : (s : Table) (v : TermsView) → KeepsAtomsApart (RefersTo s v) → (refs : ProofItems ℕ ℕ) (i : ℕ)
@@ -65,28 +74,43 @@ ends_of_terms s v one refs i each same clauses goal units clauses_are goal_is (E
 ends_of_terms s v one refs i each same clauses goal units clauses_are goal_is (Ok end) is =
     λ p stands. end_of_terms s v one refs p i (λ j. each p j stands) (same p stands) clauses goal units clauses_are goal_is end is
 
--- what either rule of resolution asks in check mode
-pub met_is : (p : ProofItems Var Term) (i : ℕ) → IsResolutionRule (rule_at p i) → Met (judged_at Mode.Check p i) ↔ ResolvesInCheck (premise_clauses p i) (clause_at p i)
-met_is p i (inl e) = (
-  λ met. subst (λ (rule : Rule). MeetsRule rule (judged_at Mode.Check p i)) e met,
-  λ resolves. subst (λ (rule : Rule). MeetsRule rule (judged_at Mode.Check p i)) (sym e) resolves,
+-- what either rule of resolution asks
+pub met_is : (mode : Mode) (p : ProofItems Var Term) (i : ℕ) → IsResolutionRule (rule_at p i)
+    → Met (judged_at mode p i) ↔ Resolves mode (pivots_at p i) (premise_clauses p i) (clause_at p i)
+met_is mode p i (inl e) = (
+  λ met. subst (λ (rule : Rule). MeetsRule rule (judged_at mode p i)) e met,
+  λ resolves. subst (λ (rule : Rule). MeetsRule rule (judged_at mode p i)) (sym e) resolves,
 )
-met_is p i (inr e) = (
-  λ met. subst (λ (rule : Rule). MeetsRule rule (judged_at Mode.Check p i)) e met,
-  λ resolves. subst (λ (rule : Rule). MeetsRule rule (judged_at Mode.Check p i)) (sym e) resolves,
+met_is mode p i (inr e) = (
+  λ met. subst (λ (rule : Rule). MeetsRule rule (judged_at mode p i)) e met,
+  λ resolves. subst (λ (rule : Rule). MeetsRule rule (judged_at mode p i)) (sym e) resolves,
 )
 
--- a step that closes nothing, for whose clause propagation has found something
-module _ (mode : Mode) (p : ProofItems Var Term) (i : ℕ) (end : End) (units : List (ℕ × ℕ)) (check : mode ≡ Mode.Check) (is : IsEnd end (map as_clause (premise_clauses p i)) (as_clause (clause_at p i)) units) (found : end ≡ End.Stuck → ⊥) where
-  resolves : ResolvesInCheck (premise_clauses p i) (clause_at p i)
-  resolves = follows_by_end (map as_clause (premise_clauses p i)) (as_clause (clause_at p i)) units end is found
+-- what an end says of whether the clause follows
+pub end_tells : (premises : List (List Term)) (clause : List Term) (units : List (ℕ × ℕ)) (end : End)
+    → IsEnd end (map as_clause premises) (as_clause clause) units → (end ≡ End.Stuck → ⊥) → IsTrue true ↔ ResolvesInCheck premises clause
+end_tells premises clause units end is found = (
+  λ yes. follows_by_end (map as_clause premises) (as_clause clause) units end is found,
+  λ resolves. refl,
+)
 
-  pub meets_by_end : IsResolutionRule (rule_at p i) → closes_at p i ≡ None → MeetsResolutionAt mode p i
-  meets_by_end rule none =
-      subst (λ (m : Mode). MeetsResolutionAt m p i) (sym check) (record { closes_none = none; met = (met_is p i rule).1 resolves })
+-- a step that closes nothing and resolves as its mode asks
+module _ (mode : Mode) (p : ProofItems Var Term) (i : ℕ) where
+  pub meets_by : Resolves mode (pivots_at p i) (premise_clauses p i) (clause_at p i) → IsResolutionRule (rule_at p i)
+      → closes_at p i ≡ None → MeetsResolutionAt mode p i
+  meets_by resolves rule none = record { closes_none = none; met = (met_is mode p i rule).1 resolves }
 
-  pub keeps_by_end : (I : Interpretation) (r : Valuation) → KeepsTruth I r (judged_at mode p i)
-  keeps_by_end I r context all = check_sound I r (premise_clauses p i) (clause_at p i) resolves all
+  pub resolves_by : MeetsResolutionAt mode p i → IsResolutionRule (rule_at p i) → Resolves mode (pivots_at p i) (premise_clauses p i) (clause_at p i)
+  resolves_by meets rule = (met_is mode p i rule).0 meets.met
+
+pub resolves_sound : (mode : Mode) (I : Interpretation) (r : Valuation) (pivots : List (Term × Bool)) (premises : List (List Term)) (clause : List Term)
+    → Resolves mode pivots premises clause → All (MakesClauseTrue I r) premises → MakesClauseTrue I r clause
+resolves_sound Mode.Check I r pivots premises clause resolves all = check_sound I r premises clause resolves all
+resolves_sound Mode.Strict I r pivots premises clause resolves all = strict_sound I r pivots premises clause resolves all
+
+pub keeps_by : (mode : Mode) (p : ProofItems Var Term) (i : ℕ)
+    → Resolves mode (pivots_at p i) (premise_clauses p i) (clause_at p i) → (I : Interpretation) (r : Valuation) → KeepsTruth I r (judged_at mode p i)
+keeps_by mode p i resolves I r context all = resolves_sound mode I r (pivots_at p i) (premise_clauses p i) (clause_at p i) resolves all
 
 -- what the trail of an end shows of the terms
 module _ (s : Table) (v : TermsView) (refs : ProofItems ℕ ℕ) (i : ℕ) (units : List (ℕ × ℕ)) where

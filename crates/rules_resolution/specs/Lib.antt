@@ -15,3 +15,4 @@ pub mod Ends
 pub mod Scans
 pub mod Steps
 pub mod TermLiterals
+pub mod SignedTerms

@@ -26,7 +26,8 @@ LeadsOn premises goal units =
 
 -- marks and standings are those after these units, and each premise is done, or ready, or the one that is
 -- looked at now
-pub record IsProgress (premises : List (List Lit)) (goal : List Lit) (units : List (ℕ × ℕ)) (table : List Occurrence) (marks : List Bool) (standings : List Standing) (ready : List ℕ) (current : ℕ) : Type 0 where
+pub record IsProgress (premises : List (List Lit)) (goal : List Lit) (units : List (ℕ × ℕ)) (table : List Occurrence) (marks : List Bool)
+    (standings : List Standing) (ready : List ℕ) (current : ℕ) : Type 0 where
   pub state : IsState premises goal (falses_of premises goal units) table marks standings
   pub leads_on : LeadsOn premises goal units
   pub more : (l : Lit) → is_false_in goal l ≡ true → is_false_in (falses_of premises goal units) l ≡ true
@@ -39,14 +40,17 @@ IsSomeProgress premises units table marks standings ready current =
     (goal : List Lit) × IsProgress premises goal units table marks standings ready current
 
 -- from progress but for one premise to progress
-abbrev pub GoesOn : List (List Lit) → List (ℕ × ℕ) → List Occurrence → List Bool → List Standing → List ℕ → ℕ → List (ℕ × ℕ) → List Bool → List Standing → List ℕ → Type 0
+abbrev pub GoesOn : List (List Lit) → List (ℕ × ℕ) → List Occurrence → List Bool → List Standing → List ℕ → ℕ → List (ℕ × ℕ) → List Bool → List Standing →
+    List ℕ → Type 0
 GoesOn premises units table marks standings ready current new_units new_marks new_standings new_ready =
     (goal : List Lit) → IsProgress premises goal units table marks standings ready current
     → IsProgress premises goal new_units table new_marks new_standings new_ready (length premises)
 
 -- all literals of the premise are false, or it goes on
-abbrev pub Looks : Bool → List (List Lit) → List (ℕ × ℕ) → List Occurrence → List Bool → List Standing → List ℕ → ℕ → List (ℕ × ℕ) → List Bool → List Standing → List ℕ → Type 0
+abbrev pub Looks : Bool → List (List Lit) → List (ℕ × ℕ) → List Occurrence → List Bool → List Standing → List ℕ → ℕ → List (ℕ × ℕ) → List Bool →
+    List Standing → List ℕ → Type 0
 Looks true premises units table marks standings ready current new_units new_marks new_standings new_ready =
-    (new_units ≡ units) × ((goal : List Lit) → IsProgress premises goal units table marks standings ready current → IsConflict premises (falses_of premises goal units) current)
+    (new_units ≡ units) × ((goal : List Lit) → IsProgress premises goal units table marks standings ready current →
+    IsConflict premises (falses_of premises goal units) current)
 Looks false premises units table marks standings ready current new_units new_marks new_standings new_ready =
     GoesOn premises units table marks standings ready current new_units new_marks new_standings new_ready

@@ -26,7 +26,8 @@ atom_name_at names i = slice_index_or names i 0
 pub record AreNames (literals : List Lit) (names : List ℕ) : Type 0 where
   pub size : length names ≡ length literals
   pub same : (i j a : ℕ) → atom_of (literal_at literals i) ≡ Some a → atom_of (literal_at literals j) ≡ Some a → atom_name_at names i ≡ atom_name_at names j
-  pub one_atom : (i j a b : ℕ) → atom_of (literal_at literals i) ≡ Some a → atom_of (literal_at literals j) ≡ Some b → atom_name_at names i ≡ atom_name_at names j → a ≡ b
+  pub one_atom : (i j a b : ℕ) → atom_of (literal_at literals i) ≡ Some a → atom_of (literal_at literals j) ≡ Some b →
+      atom_name_at names i ≡ atom_name_at names j → a ≡ b
 
 -- the literal with this name for its atom
 abbrev pub renamed_atom : Lit → ℕ → Lit

@@ -1,5 +1,6 @@
 -- Private. How many literals of each premise are not false.
-use Rattle.std.specs.Prelude.{◌≡◌, ◌⊎◌, ℕ, ◌+◌, ◌-◌, ◌<◌, ◌≤◌, Bool, true, false, nat_eq, nat_le, if◌then◌else◌, List, [], ◌∷◌, ◌++◌, length, map, slice_index_or, All, Contains}
+use Rattle.std.specs.Prelude.{◌≡◌, ◌⊎◌, ℕ, ◌+◌, ◌-◌, ◌<◌, ◌≤◌, Bool, true, false, nat_eq, nat_le, if◌then◌else◌, List, [], ◌∷◌, ◌++◌, length, map}
+use Rattle.std.specs.Prelude.{slice_index_or, All, Contains}
 use Rattle.std.specs.List.{list_any, sum_by}
 use Rattle.rule_model.specs.declared.literal.Literal.TheVariants.{Plain, Always, Never}
 use Rattle.rules_resolution.specs.Falsity.{is_false_in}

@@ -48,7 +48,8 @@ HasGoal goal table = (k a : ℕ) (s : Bool) → k < length goal → literal_at g
 pub record IsOccurrenceTable (premises : List (List Lit)) (goal : List Lit) (table : List Occurrence) : Type 0 where
   pub rising : IsRising table
   pub sound : All (StandsIn premises) table
-  pub premises_in : (p k a : ℕ) (s : Bool) → p < length premises → k < length (premise_at premises p) → literal_at (premise_at premises p) k ≡ Plain a s → Any (λ o. (o.premise ≡ p) × (literal_in o ≡ Plain a s)) table
+  pub premises_in : (p k a : ℕ) (s : Bool) → p < length premises → k < length (premise_at premises p) → literal_at (premise_at premises p) k ≡ Plain a s →
+      Any (λ o. (o.premise ≡ p) × (literal_in o ≡ Plain a s)) table
   pub goal_in : HasGoal goal table
 
 -- from place i on the ranks are not below this one, and before it they are

@@ -13,10 +13,13 @@ use Rattle.rules_resolution.specs.Standing.{IsTallied}
 -- the first occurrence of each literal is marked where the literal is false
 pub record IsMarked (falses : List Lit) (table : List Occurrence) (marks : List Bool) : Type 0 where
   pub size : length marks ≡ length table
-  pub first : (k : ℕ) (d : Occurrence) → k < length table → ((i : ℕ) (e : Occurrence) → i < k → literal_in (slice_index_or table i e) ≡ literal_in (slice_index_or table k d) → ⊥) → slice_index_or marks k false ≡ is_false_in falses (literal_in (slice_index_or table k d))
+  pub first : (k : ℕ) (d : Occurrence) → k < length table →
+      ((i : ℕ) (e : Occurrence) → i < k → literal_in (slice_index_or table i e) ≡ literal_in (slice_index_or table k d) → ⊥) →
+      slice_index_or marks k false ≡ is_false_in falses (literal_in (slice_index_or table k d))
 
 -- marks and standings are those of these false literals
-pub record IsState (premises : List (List Lit)) (goal falses : List Lit) (table : List Occurrence) (marks : List Bool) (standings : List Standing) : Type 0 where
+pub record IsState (premises : List (List Lit)) (goal falses : List Lit) (table : List Occurrence) (marks : List Bool)
+    (standings : List Standing) : Type 0 where
   pub is_table : IsOccurrenceTable premises goal table
   pub marked : IsMarked falses table marks
   pub tallied : IsTallied premises falses table standings

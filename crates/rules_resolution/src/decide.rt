@@ -62,14 +62,14 @@ pub(crate) fn decide(
 ///
 /// A clause is the set of its literals. All literals of the conclusion are made false, and then literals of
 /// premises true, each the only one of its premise that is not false. The conclusion follows where the first
-/// step contradicts itself, or where all literals of some premise become false. None is answered exactly
+/// step contradicts itself, or where all literals of some premise become false. None is returned exactly
 /// where it doesn't follow. There are fewer than 2^32 premises, with fewer than 2^32 literals each.
 pub fn follows(alloc: Global, premises: &[Vec<Lit>], goal: &[Lit]) -> Result<Option<Trail>, Memory>
     requires premises { length premises.now < 2 ^ 32 }
     requires literals { All (λ clause. vec_len clause < 2 ^ 32) premises.now }
     ensures shown { IfOk result (λ found. IfSome found (Shows (clauses_of premises.now) goal.now)) }
     ensures none { IfOk result (λ found. IfNone found (Follows (clauses_of premises.now) goal.now → ⊥)) }
-    // what was answered is true wherever the premises are
+    // what was returned is true wherever the premises are
     ensures sound { IfOk result (λ found. OnSome found (Entails (clauses_of premises.now) goal.now)) }
 {
     let mut falses = Vec::new(alloc);

@@ -27,7 +27,8 @@ const MANY: u128 = 20_000;
 fn falsify_all(table: &[Occurrence], goal: &[Lit], work: &mut Work) -> Result<(), Memory>
     requires state { IsSomeState table.now work.old.marks.items work.old.standings.items }
     requires small { length work.old.standings.items ≤ 4294967296 }
-    ensures falsifies { OnOk result (FalsifiesAll goal.now table.now work.old.marks.items work.old.standings.items work.new.marks.items work.new.standings.items) }
+    ensures falsifies { OnOk result (FalsifiesAll goal.now table.now work.old.marks.items work.old.standings.items work.new.marks.items
+        work.new.standings.items) }
     ensures advances { OnOk result (Advances work.old.standings.items work.new.standings.items work.old.ready.items work.new.ready.items) }
 {
     for literal in goal {
@@ -62,11 +63,14 @@ fn make_true(
 ) -> Result<(), Memory>
     requires premises { length premises.now < 2 ^ 32 }
     requires literals { All (λ clause. vec_len clause < 2 ^ 32) premises.now }
-    requires progress { IsSomeProgress (clauses_of premises.now) units.old.items table.now work.old.marks.items work.old.standings.items work.old.ready.items premise }
+    requires progress { IsSomeProgress (clauses_of premises.now) units.old.items table.now work.old.marks.items work.old.standings.items
+        work.old.ready.items premise }
     requires place { premise < length work.old.standings.items }
     requires one { open_at work.old.standings.items premise ≡ 1 }
-    ensures goes_on { OnOk result (GoesOn (clauses_of premises.now) units.old.items table.now work.old.marks.items work.old.standings.items work.old.ready.items premise units.new.items work.new.marks.items work.new.standings.items work.new.ready.items) }
-    ensures work { OnOk result (length work.new.ready.items + total_of work.new.standings.items ≤ length work.old.ready.items + total_of work.old.standings.items) }
+    ensures goes_on { OnOk result (GoesOn (clauses_of premises.now) units.old.items table.now work.old.marks.items work.old.standings.items
+        work.old.ready.items premise units.new.items work.new.marks.items work.new.standings.items work.new.ready.items) }
+    ensures work { OnOk result (length work.new.ready.items + total_of work.new.standings.items ≤ length work.old.ready.items + total_of
+        work.old.standings.items) }
 {
     let clause = premises[premise as usize].as_slice();
     let place = work.standings[premise as usize].places as u32;
@@ -89,10 +93,13 @@ fn look_at(
 ) -> Result<bool, Memory>
     requires premises { length premises.now < 2 ^ 32 }
     requires literals { All (λ clause. vec_len clause < 2 ^ 32) premises.now }
-    requires progress { IsSomeProgress (clauses_of premises.now) units.old.items table.now work.old.marks.items work.old.standings.items work.old.ready.items premise }
+    requires progress { IsSomeProgress (clauses_of premises.now) units.old.items table.now work.old.marks.items work.old.standings.items
+        work.old.ready.items premise }
     requires place { premise < length work.old.standings.items }
-    ensures looks { IfOk result (λ conflict. Looks conflict (clauses_of premises.now) units.old.items table.now work.old.marks.items work.old.standings.items work.old.ready.items premise units.new.items work.new.marks.items work.new.standings.items work.new.ready.items) }
-    ensures work { OnOk result (length work.new.ready.items + total_of work.new.standings.items ≤ length work.old.ready.items + total_of work.old.standings.items) }
+    ensures looks { IfOk result (λ conflict. Looks conflict (clauses_of premises.now) units.old.items table.now work.old.marks.items
+        work.old.standings.items work.old.ready.items premise units.new.items work.new.marks.items work.new.standings.items work.new.ready.items) }
+    ensures work { OnOk result (length work.new.ready.items + total_of work.new.standings.items ≤ length work.old.ready.items + total_of
+        work.old.standings.items) }
 {
     let left = work.standings[premise as usize].left;
     if left == 0 {

@@ -1,6 +1,6 @@
 //! Steps of the rules `resolution` and `th_resolution` of the Alethe specification: whether the clause follows from the
-//! premises' clauses by unit propagation. What that means is said by `rule_model`, over any atoms; here atoms are numbers,
-//! and those of a proof the references of its terms.
+//! premises' clauses by unit propagation, and in strict mode whether it is what the chain of the pivots ends in. What that
+//! means is said by `rule_model`, over any atoms; here atoms are numbers, and those of a proof the references of its terms.
 //!
 //! With at most 32 literals the premises are scanned as they stand, at most eight times, each scan taking the time of
 //! the literals times those that are false. Else, or where this does not decide, the time is that of sorting the
@@ -22,8 +22,10 @@ mod references;
 mod renaming;
 mod scratch;
 mod search;
+mod signed;
 mod standing;
 mod step;
+mod strict;
 mod table;
 mod trail;
 mod work;

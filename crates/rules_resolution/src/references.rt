@@ -22,7 +22,8 @@ fn truth(negative: bool) -> Lit
 
 /// A term that is no negation as a literal with a sign, its reference for the atom where it is one.
 fn bare_literal(symbols: &Symbols, terms: &Terms<'_>, bare: Ref, negative: bool) -> Lit
-    ensures { (t : Term) → RefersTo symbols.now terms.now bare t → ((u : Term) → t ≢ not_of u) → IsLiteralImage (RefersTo symbols.now terms.now) result (turned negative (as_literal t)) }
+    ensures { (t : Term) → RefersTo symbols.now terms.now bare t → ((u : Term) → t ≢ not_of u) →
+        IsLiteralImage (RefersTo symbols.now terms.now) result (turned negative (as_literal t)) }
 {
     let _leaves = symbols.count();
     terms.equal_exactly_where_terms_are();

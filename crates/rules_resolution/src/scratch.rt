@@ -1,11 +1,11 @@
 //! The literals of a step, in lists that are kept from step to step.
-ghost use Rattle.std.specs.Prelude.{◌≡◌, ◌≤◌, ◌<◌, ℕ, map, take, slice_index_or, length, All, IfOk, OnOk};
+ghost use Rattle.std.specs.Prelude.{◌≡◌, ◌≤◌, ◌<◌, ℕ, map, take, slice_index_or, length, ◌↔◌, All, IfOk, IsTrue, OnOk};
 ghost use Rattle.std.specs.Global.{Vec};
 ghost use Rattle.proof_store.specs.Meaning.{StandForItems};
 ghost use Rattle.rule_model.specs.declared.literal.Literal.{Literal};
 ghost use Rattle.rule_model.specs.Proofs.{ProofItems};
-ghost use Rattle.rule_model.specs.Reading.{clause_at, premises_at};
-ghost use Rattle.rule_model.specs.Resolution.{as_clause};
+ghost use Rattle.rule_model.specs.Reading.{clause_at, pivots_at, premises_at};
+ghost use Rattle.rule_model.specs.Resolution.{as_clause, Resolves, ResolvesInCheck};
 ghost use Rattle.rule_model.specs.Scopes.{commands_in};
 ghost use Rattle.term_model.specs.Terms.{Var, Term};
 ghost use Rattle.term_pool.specs.Views.{IsTerm};
@@ -17,8 +17,10 @@ use crate::decide::decide;
 use crate::end::End;
 use crate::literal::Lit;
 use crate::references::load_clause;
+use crate::strict::{Lists, resolves_strictly};
 use pair_pool::{Memory, Ref};
 use proof_store::Proof;
+use rule_model::Mode;
 use std::alloc::Global;
 use sym_table::Symbols;
 use term_pool::Terms;
@@ -45,7 +47,7 @@ fn load_at(
     load_clause(symbols, terms, clause, &mut clauses[place])
 }
 
-/// Puts the clauses of the premises of a command as literals into the first lists, and answers how many they are.
+/// Puts the clauses of the premises of a command as literals into the first lists, and returns how many they are.
 fn load_premises(
     alloc: Global,
     proof: &Proof,
@@ -87,6 +89,8 @@ pub struct Scratch {
     pub(crate) goal: Vec<Lit>,
     pub(crate) falses: Vec<Lit>,
     pub(crate) units: Vec<(u32, u32)>,
+    /// What steps in strict mode use.
+    pub(crate) strict: Lists,
 }
 
 impl Scratch {
@@ -98,6 +102,7 @@ impl Scratch {
             goal: Vec::new(alloc),
             falses: Vec::new(alloc),
             units: Vec::new(alloc),
+            strict: Lists::new(alloc),
         }
     }
 }
@@ -138,4 +143,47 @@ pub(crate) fn end_at(
         &mut scratch.falses,
         &mut scratch.units,
     )
+}
+
+/// Whether the clause of a command follows from its premises' clauses by unit propagation.
+fn follows_at(
+    scratch: &mut Scratch,
+    proof: &Proof,
+    i: u32,
+    symbols: &Symbols,
+    terms: &mut Terms<'_>,
+) -> Result<bool, Memory>
+    requires index { i < commands_in proof.now }
+    requires short { IsShort proof.now }
+    requires terms { StandsForSome symbols.now terms.old proof.now }
+    ensures met { IfOk result (λ yes. (p : ProofItems Var Term) → StandForItems symbols.now terms.old proof.now p →
+        IsTrue yes ↔ ResolvesInCheck (premise_clauses p i) (clause_at p i)) }
+    ensures same { terms.new ≡ terms.old }
+{
+    match end_at(scratch, proof, i, symbols, terms)? {
+        End::Stuck => Ok(false),
+        _ => Ok(true),
+    }
+}
+
+/// Whether the premises' clauses, the pivots and the clause of a command are what either rule of resolution asks in a mode.
+pub(crate) fn resolves_at(
+    scratch: &mut Scratch,
+    proof: &Proof,
+    i: u32,
+    mode: Mode,
+    symbols: &Symbols,
+    terms: &mut Terms<'_>,
+) -> Result<bool, Memory>
+    requires index { i < commands_in proof.now }
+    requires short { IsShort proof.now }
+    requires terms { StandsForSome symbols.now terms.old proof.now }
+    ensures met { IfOk result (λ yes. (p : ProofItems Var Term) → StandForItems symbols.now terms.old proof.now p →
+        IsTrue yes ↔ Resolves mode (pivots_at p i) (premise_clauses p i) (clause_at p i)) }
+    ensures same { terms.new ≡ terms.old }
+{
+    match mode {
+        Mode::Check => follows_at(scratch, proof, i, symbols, terms),
+        Mode::Strict => resolves_strictly(&mut scratch.strict, proof, i, symbols, terms),
+    }
 }

@@ -50,7 +50,8 @@ fn count(premise: u32, place: u32, standings: &mut Vec<Standing>)
     requires place { premise < length standings.old.items }
     requires left { open_at standings.old.items premise + 1 < 2 ^ 64 }
     requires places { places_at standings.old.items premise + place < 2 ^ 128 }
-    ensures { standings.new.items ≡ slice_set standings.old.items premise (record { left = open_at standings.old.items premise + 1; places = places_at standings.old.items premise + place }) }
+    ensures { standings.new.items ≡ slice_set standings.old.items premise
+        (record { left = open_at standings.old.items premise + 1; places = places_at standings.old.items premise + place }) }
 {
     let standing = standings[premise as usize];
     standings[premise as usize] = Standing {

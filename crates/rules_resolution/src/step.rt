@@ -1,9 +1,8 @@
 //! Steps of the rules `resolution` and `th_resolution` in a proof.
 ghost use Rattle.std.specs.Prelude.{◌≡◌, ◌≢◌, ◌↔◌, ◌<◌, map, IfOk, IfErr, IfSome, IfNone};
-ghost use Rattle.proof_store.specs.declared.answers.Answer.TheVariants as Answer;
-ghost use Rattle.proof_store.specs.declared.answers.RuleStop.TheVariants as RuleStop;
+ghost use Rattle.term_parts.specs.declared.answers.Answer.TheVariants as Answer;
+ghost use Rattle.term_parts.specs.declared.answers.RuleStop.TheVariants as RuleStop;
 ghost use Rattle.proof_store.specs.Meaning.{StandForItems};
-ghost use Rattle.rule_model.specs.declared.rules.Mode.TheVariants as Mode;
 ghost use Rattle.rule_model.specs.Conditions.{KeepsTruth};
 ghost use Rattle.rule_model.specs.Judged.{judged_at};
 ghost use Rattle.rule_model.specs.Proofs.{ProofItems};
@@ -16,8 +15,8 @@ ghost use Rattle.term_model.specs.Terms.{Var, Term};
 ghost use Rattle.rules_resolution.specs.Shows.{Shows};
 ghost use Rattle.rules_resolution.specs.Steps.{IsResolutionRule, IsShort, MeetsResolutionAt, StandsForSome, premise_clauses};
 
-use crate::end::{End, trail_of};
-use crate::scratch::{Scratch, end_at};
+use crate::end::trail_of;
+use crate::scratch::{Scratch, end_at, resolves_at};
 use crate::trail::Trail;
 use pair_pool::Memory;
 use proof_store::{Answer, Proof, RuleStop};
@@ -39,7 +38,6 @@ impl Scratch {
     ) -> Result<Answer, RuleStop>
         requires index { i < commands_in proof.now }
         requires rule { IsResolutionRule (rule_at proof.now i) }
-        requires mode { mode ≡ Mode.Check }
         requires short { IsShort proof.now }
         requires terms { StandsForSome symbols.now terms.old proof.now }
         ensures met { IfOk result (λ answer. (p : ProofItems Var Term) → StandForItems symbols.now terms.old proof.now p →
@@ -54,7 +52,7 @@ impl Scratch {
         let None = proof.closes(i) else {
             return Ok(Answer::NotMet);
         };
-        if let End::Stuck = end_at(self, proof, i, symbols, terms)? {
+        if !resolves_at(self, proof, i, mode, symbols, terms)? {
             return Ok(Answer::NotMet);
         }
         Ok(Answer::Met)
@@ -64,10 +62,13 @@ impl Scratch {
 /// Whether the step at index `i` meets the condition of its rule, which is `resolution` or `th_resolution` (Alethe
 /// specification). In check mode the clause follows from the premises' clauses by unit propagation: leading pairs of
 /// `not` are removed from each literal, `true` and `false` are constants, and neither the order of the premises nor the
-/// pivots play a part. A step that closes a scope doesn't meet it.
+/// pivots play a part. In strict mode the pivots tell a chain: the first premise is resolved with each of the others, in
+/// order, and the list to which this comes is exactly the clause; literals are taken as they stand. A step that closes a
+/// scope doesn't meet it.
 ///
-/// The proof's terms are known to the pass, and no clause and no list of premises has 2^32 items. Met is answered exactly
-/// where the condition holds, and NotMet where it fails. Want of memory is the one refusal. No cell is placed.
+/// The proof's terms are known to the pass, and no clause and no list of premises has 2^32 items. Met is returned exactly
+/// where the condition holds, and NotMet where it fails. Out of memory is the one refusal. No cell is placed. A strict step
+/// takes the time of the literals of its premises and its clause.
 pub fn check(
     alloc: Global,
     proof: &Proof,
@@ -78,7 +79,6 @@ pub fn check(
 ) -> Result<Answer, RuleStop>
     requires index { i < commands_in proof.now }
     requires rule { IsResolutionRule (rule_at proof.now i) }
-    requires mode { mode ≡ Mode.Check }
     requires short { IsShort proof.now }
     requires terms { StandsForSome symbols.now terms.old proof.now }
     ensures met { IfOk result (λ answer. (p : ProofItems Var Term) → StandForItems symbols.now terms.old proof.now p →
@@ -95,7 +95,7 @@ pub fn check(
 }
 
 /// Whether the clause of the command at index `i` follows from its premises' clauses by unit propagation, with a trail that
-/// shows it: the places of premises and of their literals. None is answered exactly where it doesn't follow: where the
+/// shows it: the places of premises and of their literals. None is returned exactly where it doesn't follow: where the
 /// condition of resolution in check mode fails. Asks of the proof what [`check`] asks, and no rule of the command. No
 /// cell is placed.
 pub fn propagate(

@@ -1,4 +1,4 @@
-//! What is answered where a clause follows.
+//! What is returned where a clause follows.
 use std::marker::Model;
 
 /// How a conclusion follows: each literal that is made true, in turn, as the place of its premise and its

@@ -54,7 +54,8 @@ pub(crate) fn is_falsified(table: &[Occurrence], marks: &[bool], literal: Lit) -
     requires range { AreInRange 4294967296 table.now }
     requires marks { length marks.now ≡ length table.now }
     ensures yes { (falses : List (Literal ℕ)) → IsMarked falses table.now marks.now → result ≡ true → is_false_in falses literal ≡ true }
-    ensures no { (falses : List (Literal ℕ)) → IsMarked falses table.now marks.now → (literal ≡ Literal.Never) ⊎ Any (λ o. literal_in o ≡ literal) table.now → result ≡ false → is_false_in falses literal ≡ false }
+    ensures no { (falses : List (Literal ℕ)) → IsMarked falses table.now marks.now →
+        (literal ≡ Literal.Never) ⊎ Any (λ o. literal_in o ≡ literal) table.now → result ≡ false → is_false_in falses literal ≡ false }
 {
     match literal {
         Lit::Plain { atom, negative } => is_marked(table, marks, atom, negative),
@@ -68,7 +69,8 @@ fn is_marked(table: &[Occurrence], marks: &[bool], atom: u32, negative: bool) ->
     requires range { AreInRange 4294967296 table.now }
     requires marks { length marks.now ≡ length table.now }
     ensures yes { (falses : List (Literal ℕ)) → IsMarked falses table.now marks.now → result ≡ true → is_false_in falses (Literal.Plain atom negative) ≡ true }
-    ensures no { (falses : List (Literal ℕ)) → IsMarked falses table.now marks.now → Any (λ o. literal_in o ≡ Literal.Plain atom negative) table.now → result ≡ false → is_false_in falses (Literal.Plain atom negative) ≡ false }
+    ensures no { (falses : List (Literal ℕ)) → IsMarked falses table.now marks.now → Any (λ o. literal_in o ≡ Literal.Plain atom negative) table.now →
+        result ≡ false → is_false_in falses (Literal.Plain atom negative) ≡ false }
 {
     match leader_of(table, atom, negative) {
         Some(first) => marks[first],
@@ -101,7 +103,8 @@ fn falsify_plain(
 ) -> Result<(), Memory>
     requires state { IsSomeState table.now work.old.marks.items work.old.standings.items }
     requires small { length work.old.standings.items ≤ 4294967296 }
-    ensures falsifies { OnOk result (Falsifies (Literal.Plain atom negative) table.now work.old.marks.items work.old.standings.items work.new.marks.items work.new.standings.items) }
+    ensures falsifies { OnOk result (Falsifies (Literal.Plain atom negative) table.now work.old.marks.items work.old.standings.items work.new.marks.items
+        work.new.standings.items) }
     ensures advances { OnOk result (Advances work.old.standings.items work.new.standings.items work.old.ready.items work.new.ready.items) }
 {
     let first = match leader_of(table, atom, negative) {

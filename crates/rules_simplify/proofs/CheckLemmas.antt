@@ -1,26 +1,28 @@
--- What the rules of this family ask of the step at an index.
-use Rattle.std.proofs.Common.{◌≡◌, ◌↔◌, ◌≤◌, ℕ, List, [], ◌∷◌, length, map, Bool, false, IsTrue, refl, sym, ap, ◌∙◌, subst, arith}
+-- What the rules of this family ask of a step.
+use Rattle.std.proofs.Common.{◌≡◌, ◌≢◌, ◌↔◌, ℕ, List, [], ◌∷◌, length, Bool, false, IsTrue, refl, sym, ap, ◌∙◌, subst}
+use Rattle.std.specs.Borrow.{Bor}
 use Rattle.sym_table.specs.Table.{Table}
 use Rattle.term_model.specs.Flips.{equality}
-use Rattle.term_model.specs.Terms.{Var, Term, operation, terms_of}
+use Rattle.term_model.specs.Terms.{Term, operation, terms_of}
 use Rattle.term_pool.specs.Views.{TermsView, ReferToAll}
+use Rattle.rule_model.specs.declared.kinds.Family.{Family}
+use Rattle.rule_model.specs.declared.kinds.Kind.{Kind}
 use Rattle.rule_model.specs.declared.rules.Rule.{Rule}
-use Rattle.rule_model.specs.Conditions.{MeetsRule, IsClauseOfTruths}
+use Rattle.rule_model.specs.Conditions.{Met, MeetsRule, IsClauseOfTruths}
 use Rattle.std.proofs.lemmas.List.Elements.{All-head}
 use Rattle.term_model.specs.declared.symbols.Op.{Op}
 use Rattle.term_model.specs.declared.symbols.Sort.{Sort}
 use Rattle.term_model.specs.Sorts.{IsOf, IsWellSorted}
 use Rattle.rules_simplify.proofs.RowLemmas.{arguments_sorted}
 use Rattle.rule_model.specs.Judged.{Judged}
-use Rattle.rule_model.specs.Proofs.{ProofItems}
-use Rattle.rule_model.specs.Reading.{rule_at, clause_at, premises_at}
-use Rattle.rule_model.specs.Simplification.{MeetsJoining, MeetsSimplification}
+use Rattle.rule_model.specs.RuleNames.{kind_of}
+use Rattle.rule_model.specs.Simplify.{MeetsJoining, MeetsSimplification}
 use Rattle.rule_model.specs.Rewriting.{Simplifies}
 use Rattle.rule_model.proofs.ArgumentLists.{same_sides}
 use Rattle.schema_match.specs.Equations.{StatesEquality}
-use Rattle.schema_match.specs.Steps.{MeetAt, ReferToClauses}
+use Rattle.schema_match.proofs.PremiseLemmas.{no_premises}
+use Rattle.term_parts.specs.Judging.{ReferToClauses}
 use Rattle.rules_simplify.specs.declared.joins.Junction.{Junction}
-use Rattle.rules_simplify.specs.Families.{IsOfSimplification}
 use Rattle.rules_simplify.specs.Joins.{constant, IsJoined}
 use Rattle.rules_simplify.specs.Steps.{MeetsSimplify}
 use Rattle.rules_simplify.specs.Tables.{rows_of}
@@ -62,7 +64,7 @@ left_sorted ts l r e truths =
     (arguments_sorted Op.Equal (l ∷ r ∷ []) Sort.Bool of).0
 
 -- a rule of this family asks what its case asks
-rule_meets : (rule : Rule) (j : Judged) → IsOfSimplification rule → MeetsRule rule j ↔ MeetsSimplify rule j.premises j.clause
+rule_meets : (rule : Rule) (j : Judged) → kind_of rule ≡ Kind.Judged Family.Simplify → MeetsRule rule j ↔ MeetsSimplify rule j.premises j.clause
 rule_meets Rule.AndSimplify j is = (λ h. h, λ h. h)
 rule_meets Rule.OrSimplify j is = (λ h. h, λ h. h)
 rule_meets Rule.NotSimplify j is = (λ h. h, λ h. h)
@@ -98,20 +100,19 @@ other_rule ts Rule.EqSimplify no_and no_or no_not no_implies no_equiv no_bool no
 other_rule ts Rule.CompSimplify no_and no_or no_not no_implies no_equiv no_bool no_ite no_eq no_comp = absurd (no_comp refl)
 other_rule ts rule no_and no_or no_not no_implies no_equiv no_bool no_ite no_eq no_comp = (λ e. absurd cc, λ met. absurd met)
 
-module _ (of : ProofItems Var Term) (i : ℕ) (rule : Rule) (simplification : IsOfSimplification rule) (same : rule ≡ rule_at of i) where
-  pub case_of : (j : Judged) → MeetsRule (rule_at of i) j ↔ MeetsSimplify (rule_at of i) j.premises j.clause
-  case_of j = rule_meets (rule_at of i) j (subst IsOfSimplification same simplification)
+pub asks : (j : Judged) → kind_of j.rule ≡ Kind.Judged Family.Simplify → Met j ↔ MeetsSimplify j.rule j.premises j.clause
+asks j is = rule_meets j.rule j is
 
--- without premises and with some
-pub no_premises : (s : Table) (v : TermsView) (rule : Rule) (told : Bool) (clause : List ℕ) → ((ts : List Term) → ReferToAll s v clause ts → IsTrue told ↔ MeetsSimplify rule [] ts) → (ps : List (List Term)) (ts : List Term) → ReferToClauses s v [] ps → ReferToAll s v clause ts → IsTrue told ↔ MeetsSimplify rule ps ts
-no_premises s v rule told clause test [] ts premises refer = test ts refer
-no_premises s v rule told clause test (p ∷ ps) ts premises refer = absurd premises
+-- with no premises, and with some
+module _ (s : Table) (v : TermsView) (rule : Rule) where
+  pub without_premises : (premises : List (Bor (List ℕ))) (clause : List ℕ) (told : Bool) → length premises ≡ 0 →
+      ((ts : List Term) → ReferToAll s v clause ts → IsTrue told ↔ MeetsSimplify rule [] ts) →
+      (ps : List (List Term)) (ts : List Term) → ReferToClauses s v premises ps → ReferToAll s v clause ts → IsTrue told ↔ MeetsSimplify rule ps ts
+  without_premises premises clause told none test ps ts given refer =
+      subst (λ qs. IsTrue told ↔ MeetsSimplify rule qs ts) (sym (no_premises s v premises ps none given)) (test ts refer)
 
-pub some_meet_none : (of : ProofItems Var Term) (i : ℕ) (js : List ℕ) → 1 ≤ length js → js ≡ premises_at of i → IsTrue false ↔ MeetAt MeetsSimplify of i
-some_meet_none of i [] some same = absurd (omega (arith, some))
-some_meet_none of i (j ∷ js) some same = (
-  λ e. absurd cc,
-  λ met.
-      absurd (some_premise (clause_at of j) (map (clause_at of) js) (clause_at of i) (rule_at of i)
-      (subst (λ (ks : List ℕ). MeetsSimplify (rule_at of i) (map (clause_at of) ks) (clause_at of i)) (sym same) met)),
-)
+  pub with_premises : (premises : List (Bor (List ℕ))) (clause : List ℕ) → length premises ≢ 0 →
+      (ps : List (List Term)) (ts : List Term) → ReferToClauses s v premises ps → ReferToAll s v clause ts → IsTrue false ↔ MeetsSimplify rule ps ts
+  with_premises [] clause some ps ts given refer = absurd (some refl)
+  with_premises (q ∷ premises) clause some [] ts given refer = absurd given
+  with_premises (q ∷ premises) clause some (p ∷ ps) ts given refer = (λ e. absurd cc, λ met. absurd (some_premise p ps ts rule met))

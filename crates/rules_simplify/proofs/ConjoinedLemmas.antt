@@ -5,7 +5,7 @@ use Rattle.term_model.specs.Terms.{Term, not_of}
 use Rattle.term_pool.specs.Views.{TermsView, RefersTo, ReferToAll}
 use Rattle.rule_model.specs.declared.letter.Letter.{Letter}
 use Rattle.rule_model.specs.Rewriting.{IsFirstFit, IsReached, once, again}
-use Rattle.rule_model.specs.Simplification.{bool_simplify}
+use Rattle.rule_model.specs.Simplify.{bool_simplify}
 use Rattle.rules_simplify.specs.Chains.{heaviness}
 use Rattle.rules_simplify.specs.Conjoined.{conjunction, implication_of, conjoined}
 use Rattle.rules_simplify.proofs.ChainLemmas.{reached_none, reached_next}

@@ -5,7 +5,7 @@ use Rattle.term_model.specs.declared.symbols.Op.{Op}
 use Rattle.term_model.specs.Terms.{Term, operation, terms_of}
 use Rattle.term_pool.specs.Views.{TermsView, RefersTo, ReferToAll}
 use Rattle.term_pool.proofs.References.{AreOne}
-use Rattle.rule_model.specs.Simplification.{IsOnceEach, StandsAs}
+use Rattle.rule_model.specs.Simplify.{IsOnceEach, StandsAs}
 use Rattle.rule_model.proofs.ArgumentLists.{same_arguments}
 use Rattle.schema_match.proofs.ReferLemmas.{refer_length}
 use Rattle.rules_simplify.specs.declared.joins.Junction.{Junction}

@@ -2,7 +2,7 @@
 use Rattle.std.proofs.Common.{◌≡◌, ◌≢◌, ◌⊎◌, inl, inr, List, [], ◌∷◌, ◌++◌, Contains, refl, sym, ◌∙◌, ap, subst}
 use Rattle.term_model.specs.Terms.{Term}
 use Rattle.term_model.proofs.Lists.{contains_none, contains_cases, contains_head, contains_later}
-use Rattle.rule_model.specs.Simplification.{IsWithout, end, drop, keep, IsOnceEach, end_of, repeat, fresh}
+use Rattle.rule_model.specs.Simplify.{IsWithout, end, drop, keep, IsOnceEach, end_of, repeat, fresh}
 
 pub without_kept : (c : Term) (ts us : List Term) (t : Term) → t ≢ c → IsWithout c ts us → IsWithout c (ts ++ t ∷ []) (us ++ t ∷ [])
 without_kept c _ _ t apart end = keep t [] [] apart end

@@ -3,7 +3,7 @@ use Rattle.std.proofs.Common.{◌≡◌, ◌↔◌, ◌⊎◌, inl, inr, ◌+◌
 use Rattle.term_model.specs.declared.symbols.Op.{Op}
 use Rattle.term_model.specs.Terms.{Term, numeral, variable, operation, call, let_in, term, no_terms, not_of}
 use Rattle.term_pool.specs.Nots.{negated as nots_of, Strips}
-use Rattle.rule_model.specs.Simplification.{negated}
+use Rattle.rule_model.specs.Simplify.{negated}
 
 -- both words for it
 pub negated_is : (n : ℕ) (t : Term) → nots_of n t ≡ negated n t

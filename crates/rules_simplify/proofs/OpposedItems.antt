@@ -5,7 +5,7 @@ use Rattle.term_model.specs.Terms.{Term}
 use Rattle.term_pool.specs.Nots.{IsStripped}
 use Rattle.term_pool.specs.Views.{TermsView, RefersTo, ReferToAll}
 use Rattle.term_pool.proofs.References.{AreOne}
-use Rattle.rule_model.specs.Simplification.{AreOpposed}
+use Rattle.rule_model.specs.Simplify.{AreOpposed}
 use Rattle.rules_simplify.specs.Joins.{IsMetOtherwise}
 use Rattle.rules_simplify.proofs.ItemLemmas.{item, item_refers, one_more, all_taken, contains_taken}
 use Rattle.rules_simplify.proofs.OpposedLemmas.{IsNoted, noted_found, noted_more, none_opposed, opposed_wider}

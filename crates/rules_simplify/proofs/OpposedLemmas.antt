@@ -7,7 +7,7 @@ use Rattle.term_model.proofs.Lists.{contains_none}
 use Rattle.term_pool.specs.Nots.{negated as nots_of, Strips}
 use Rattle.term_pool.specs.Views.{TermsView, RefersTo}
 use Rattle.term_pool.proofs.References.{AreOne}
-use Rattle.rule_model.specs.Simplification.{negated, AreOpposed}
+use Rattle.rule_model.specs.Simplify.{negated, AreOpposed}
 use Rattle.rules_simplify.specs.Joins.{AddsNumber, IsMetOtherwise}
 use Rattle.rules_simplify.proofs.NegationLemmas.{negated_is, nots_more, bare_of, one_strips, half, parity_even, parity_odd, even_count, odd_count}
 

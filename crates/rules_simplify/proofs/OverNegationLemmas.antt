@@ -8,7 +8,7 @@ use Rattle.rule_model.specs.declared.letter.Letter.{Letter}
 use Rattle.rule_model.specs.Patterns.{a, b, no, conj}
 use Rattle.rule_model.specs.Rewriting.{IsFirstFit}
 use Rattle.rule_model.specs.Schemas.{fill}
-use Rattle.rule_model.specs.Simplification.{bool_simplify}
+use Rattle.rule_model.specs.Simplify.{bool_simplify}
 use Rattle.rules_simplify.specs.Conjoined.{AreOperands, implication_of}
 use Rattle.rules_simplify.proofs.ConjoinedLemmas.{negation_fits_none}
 use Rattle.rules_simplify.proofs.JoinLemmas.{told_apart}

@@ -8,7 +8,7 @@ use Rattle.term_model.proofs.Lists.{contains_none}
 use Rattle.term_parts.specs.Parts.{IsOver}
 use Rattle.term_pool.specs.Views.{TermsView, RefersTo, ReferToAll}
 use Rattle.term_pool.proofs.References.{AreOne}
-use Rattle.rule_model.specs.Simplification.{IsWithout, end, end_of}
+use Rattle.rule_model.specs.Simplify.{IsWithout, end, end_of}
 use Rattle.schema_match.proofs.Counts.{none}
 use Rattle.schema_match.proofs.OverLemmas.{over_term, is_over}
 use Rattle.schema_match.proofs.ReferLemmas.{refer_append, contains_terms, contains_references}

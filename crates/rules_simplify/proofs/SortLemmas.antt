@@ -9,7 +9,7 @@ use Rattle.rule_model.specs.declared.letter.Letter.{Letter}
 use Rattle.rule_model.specs.Rewriting.{RewriteRow, PassesGuard}
 use Rattle.rule_model.specs.Schemas.{fill}
 use Rattle.rule_model.proofs.Rewriting.{IsKept}
-use Rattle.rule_model.proofs.Simplification.{AreKept, not_kept, implies_kept, equiv_kept, bool_kept, ite_kept, eq_kept, comp_kept}
+use Rattle.rule_model.proofs.Simplify.{AreKept, not_kept, implies_kept, equiv_kept, bool_kept, ite_kept, eq_kept, comp_kept}
 use Rattle.rules_simplify.specs.declared.tables.Simplification.{Simplification}
 use Rattle.rules_simplify.specs.Tables.{rows_of}
 use Rattle.rules_simplify.proofs.ChainLemmas.{all_at}

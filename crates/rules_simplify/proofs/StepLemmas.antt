@@ -9,7 +9,7 @@ use Rattle.rule_model.specs.declared.letter.Letter.{Letter}
 use Rattle.rule_model.specs.Rewriting.{RewriteRow, IsFirstFit, IsReached, once}
 use Rattle.rule_model.specs.Patterns.{a, b, c, no, conj, implies}
 use Rattle.rule_model.specs.Schemas.{letter, fill}
-use Rattle.rule_model.specs.Simplification.{bool_simplify}
+use Rattle.rule_model.specs.Simplify.{bool_simplify}
 use Rattle.term_model.proofs.Basics.{and-left, and-right}
 use Rattle.schema_match.specs.Letters.{slot, Agrees}
 use Rattle.rules_simplify.specs.declared.rewrites.Application.{Application}

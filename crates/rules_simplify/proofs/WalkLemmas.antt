@@ -7,7 +7,7 @@ use Rattle.term_pool.specs.Decoding.{HasTermsAt}
 use Rattle.term_pool.specs.Views.{TermsView, RefersTo, ReferToAll}
 use Rattle.term_pool.proofs.References.{AreOne}
 use Rattle.rule_model.specs.Rewriting.{IsReached}
-use Rattle.rule_model.specs.Simplification.{bool_simplify}
+use Rattle.rule_model.specs.Simplify.{bool_simplify}
 use Rattle.schema_match.proofs.ReferLemmas.{refer_append}
 use Rattle.rules_simplify.specs.declared.conjoining.FromConjunction.{FromConjunction}
 use Rattle.rules_simplify.specs.Chains.{heaviness, all_heaviness, terms_at}

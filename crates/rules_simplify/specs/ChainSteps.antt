@@ -5,7 +5,7 @@ use Rattle.term_model.specs.Terms.{Term}
 use Rattle.term_pool.specs.Views.{TermsView}
 use Rattle.rule_model.specs.declared.letter.Letter.{Letter}
 use Rattle.rule_model.specs.Rewriting.{RewriteRow, IsFirstFit}
-use Rattle.rule_model.specs.Simplification.{bool_simplify}
+use Rattle.rule_model.specs.Simplify.{bool_simplify}
 use Rattle.schema_match.specs.Letters.{slot, Agrees}
 use Rattle.schema_match.specs.declared.letters.Letters.{Letters}
 use Rattle.rules_simplify.specs.declared.rewrites.Application.{Application}

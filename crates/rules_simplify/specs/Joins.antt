@@ -4,7 +4,7 @@ use Rattle.sym_table.specs.Table.{Table}
 use Rattle.term_model.specs.declared.symbols.Op.{Op}
 use Rattle.term_model.specs.Terms.{Term, operation, no_terms, terms_of}
 use Rattle.term_pool.specs.Views.{TermsView, ReferToAll}
-use Rattle.rule_model.specs.Simplification.{AreOpposed, IsWithout, IsOnceEach, IsShortened, StandsAs, JoinsTo}
+use Rattle.rule_model.specs.Simplify.{AreOpposed, IsWithout, IsOnceEach, IsShortened, StandsAs, JoinsTo}
 use Rattle.rules_simplify.specs.declared.joins.Junction.{Junction}
 
 -- the constant of an operator

@@ -6,7 +6,7 @@ use Rattle.rule_model.specs.declared.letter.Letter.{Letter}
 use Rattle.rule_model.specs.Patterns.{a, b, c, no, conj, implies, equal}
 use Rattle.rule_model.specs.Rewriting.{RewriteRow, Guard, always, truths, one_number, two_numbers, below, at_most}
 use Rattle.rule_model.specs.Schemas.{Pattern, letter, constant, unary, binary, ternary}
-use Rattle.rule_model.specs.Simplification.{not_simplify, implies_simplify, equiv_simplify, bool_simplify, ite_simplify, eq_simplify, comp_simplify}
+use Rattle.rule_model.specs.Simplify.{not_simplify, implies_simplify, equiv_simplify, bool_simplify, ite_simplify, eq_simplify, comp_simplify}
 use Rattle.rule_model.specs.TermTests.{op_eq}
 use Rattle.schema_match.specs.Matching.{parts_of}
 use Rattle.rules_simplify.specs.declared.asked.Asked.{Asked}

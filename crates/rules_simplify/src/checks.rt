@@ -1,30 +1,26 @@
 //! Whether a step meets the condition of its rule.
 
-ghost use Rattle.std.specs.Prelude.{◌≡◌, ◌≢◌, ◌↔◌, ◌<◌, [], List, All, IsTrue, IfErr, IfOk};
-ghost use Rattle.proof_store.specs.Checks.{KeepsTruthAt, StandForSome};
-ghost use Rattle.proof_store.specs.Meaning.{StandForItems};
-ghost use Rattle.proof_store.specs.declared.answers.Answer.TheVariants as Answer;
-ghost use Rattle.proof_store.specs.declared.answers.RuleStop.TheVariants as RuleStop;
-ghost use Rattle.rule_model.specs.Conditions.{IsClauseOfTruths, IsMetAt};
-ghost use Rattle.rule_model.specs.Proofs.{ProofItems};
-ghost use Rattle.rule_model.specs.Reading.{clause_at, rule_at};
-ghost use Rattle.rule_model.specs.Scopes.{commands_in};
-ghost use Rattle.rule_model.specs.Simplification.{MeetsJoining, MeetsSimplification};
-ghost use Rattle.term_model.specs.Terms.{Var, Term};
-ghost use Rattle.term_pool.specs.Views.{IsTerm, ReferToAll};
-ghost use Rattle.schema_match.specs.Steps.{MeetAt};
-ghost use Rattle.rules_simplify.specs.Families.{IsOfSimplification};
+ghost use Rattle.std.specs.Prelude.{◌≡◌, ◌↔◌, [], List, All, IsTrue, IfOk};
+ghost use Rattle.rule_model.specs.Conditions.{AlwaysKeepsTruth, Met};
+ghost use Rattle.rule_model.specs.Judged.{Judged};
+ghost use Rattle.rule_model.specs.RuleNames.{kind_of};
+ghost use Rattle.rule_model.specs.Simplify.{MeetsJoining, MeetsSimplification};
+ghost use Rattle.rule_model.specs.declared.kinds.Family.{Family};
+ghost use Rattle.rule_model.specs.declared.kinds.Kind.{Kind};
+ghost use Rattle.rule_model.specs.declared.rules.Mode.{Mode};
 ghost use Rattle.rules_simplify.specs.Joins.{constant};
-ghost use Rattle.rules_simplify.specs.Steps.{AreTruths, MeetsSimplify};
+ghost use Rattle.rules_simplify.specs.Steps.{MeetsSimplify};
 ghost use Rattle.rules_simplify.specs.Tables.{rows_of};
+ghost use Rattle.term_model.specs.Terms.{Term};
+ghost use Rattle.term_parts.specs.Judging.{StandForTruths, StandsForStep};
+ghost use Rattle.term_pool.specs.Views.{IsTerm, ReferToAll};
 
 use crate::joins::{Junction, joins};
 use crate::rewrites::simplifies;
 use crate::tables::Simplification;
 use pair_pool::{Memory, Ref};
-use proof_store::{Answer, Proof, RuleStop, commands_correspond, terms_correspond};
+use rule_model::Rule;
 use rule_model::laws::conditions::conditions_keep_truth;
-use rule_model::{Mode, Rule};
 use schema_match::equation;
 use std::alloc::Global;
 use sym_table::Symbols;
@@ -58,8 +54,9 @@ fn meets_rewriting(
     table: Simplification,
     clause: &[Ref],
 ) -> Result<bool, Memory>
-    requires { AreTruths symbols.now terms.old clause.now }
-    ensures meets { IfOk result (λ yes. (ts : List Term) → ReferToAll symbols.now terms.old clause.now ts → IsTrue yes ↔ MeetsSimplification (rows_of table) [] ts) }
+    requires { StandForTruths symbols.now terms.old clause.now }
+    ensures meets { IfOk result (λ yes. (ts : List Term) → ReferToAll symbols.now terms.old clause.now ts →
+        IsTrue yes ↔ MeetsSimplification (rows_of table) [] ts) }
     ensures same { terms.new ≡ terms.old }
 {
     let Some((left, right)) = equation(symbols, terms, &[], clause) else {
@@ -68,15 +65,15 @@ fn meets_rewriting(
     simplifies(alloc, symbols, terms, table, left, right)
 }
 
-/// Whether the clause of a step without premises meets a rule.
-fn meets(
+/// Whether the clause of a step without premises is what a rule asks.
+fn meets_clause(
     alloc: Global,
     symbols: &Symbols,
     terms: &mut Terms<'_>,
     rule: Rule,
     clause: &[Ref],
 ) -> Result<bool, Memory>
-    requires { AreTruths symbols.now terms.old clause.now }
+    requires { StandForTruths symbols.now terms.old clause.now }
     ensures meets { IfOk result (λ yes. (ts : List Term) → ReferToAll symbols.now terms.old clause.now ts → IsTrue yes ↔ MeetsSimplify rule [] ts) }
     ensures same { terms.new ≡ terms.old }
 {
@@ -118,65 +115,32 @@ fn meets(
     }
 }
 
-/// Whether the clause of the step at an index meets its rule, whatever scope it closes. No rule of this family takes a
-/// premise.
-fn meets_at(
-    alloc: Global,
-    proof: &Proof,
-    i: u32,
-    symbols: &Symbols,
-    terms: &mut Terms<'_>,
-) -> Result<bool, Memory>
-    requires index { i < commands_in proof.now }
-    requires stand { StandForSome symbols.now terms.old proof.now }
-    requires sorted { (of : ProofItems Var Term) → StandForItems symbols.now terms.old proof.now of → IsClauseOfTruths (clause_at of i) }
-    ensures meets { IfOk result (λ yes. (of : ProofItems Var Term) → StandForItems symbols.now terms.old proof.now of → IsTrue yes ↔ MeetAt MeetsSimplify of i) }
-    ensures same { terms.new ≡ terms.old }
-{
-    commands_correspond();
-    terms_correspond();
-    let _commands = proof.count();
-    let rule = proof.rule(i);
-    let clause = proof.clause(i);
-    match proof.premises(i) {
-        [] => meets(alloc, symbols, terms, rule, clause),
-        _ => Ok(false),
-    }
-}
-
-/// Whether the step at an index meets the condition of its rule (Alethe specification, "List of rules"). The rule is
-/// one of simplification: and_simplify, or_simplify, not_simplify, implies_simplify, equiv_simplify, bool_simplify,
-/// ite_simplify, eq_simplify or comp_simplify. Both modes ask the same. A step that closes a scope meets none of these rules.
+/// Whether a step with this rule, these premises' clauses and this clause meets the condition of its rule (Alethe
+/// specification, "List of rules"), given as references of literals. The rule is one of simplification: and_simplify,
+/// or_simplify, not_simplify, implies_simplify, equiv_simplify, bool_simplify, ite_simplify, eq_simplify or comp_simplify.
+/// None of them takes a premise. Both modes ask the same, and the step's own arguments are not looked at.
 ///
-/// The step's own arguments are not looked at. Its clause has to be of terms of Bool. Places no cell, and refuses want of
-/// memory alone.
-pub fn check(
+/// The clause has to be of terms of Bool. Places no cell, and refuses out of memory alone.
+pub fn meets(
     alloc: Global,
-    proof: &Proof,
-    i: u32,
-    mode: Mode,
     symbols: &Symbols,
     terms: &mut Terms<'_>,
-) -> Result<Answer, RuleStop>
-    requires index { i < commands_in proof.now }
-    requires simplification { IsOfSimplification (rule_at proof.now i) }
-    requires stand { StandForSome symbols.now terms.old proof.now }
-    requires sorted { (of : ProofItems Var Term) → StandForItems symbols.now terms.old proof.now of → IsClauseOfTruths (clause_at of i) }
-    ensures met { IfOk result (λ answer. (of : ProofItems Var Term) → StandForItems symbols.now terms.old proof.now of → (answer ≡ Answer.Met) ↔ IsMetAt mode of i) }
-    ensures narrow { IfOk result (λ answer. answer ≢ Answer.TooWide) }
+    rule: Rule,
+    premises: &[&[Ref]],
+    clause: &[Ref],
+) -> Result<bool, Memory>
+    requires family { kind_of rule ≡ Kind.Judged Family.Simplify }
+    requires clause { StandForTruths symbols.now terms.old clause.now }
+    ensures met { IfOk result (λ yes. (mode : Mode) (j : Judged) →
+        StandsForStep symbols.now terms.old mode rule premises.now clause.now j → IsTrue yes ↔ Met j) }
     // under every interpretation and values of variables that make the premises true, the clause of a step that is met is
-    ensures sound { IfOk result (λ answer. answer ≡ Answer.Met → (of : ProofItems Var Term) → StandForItems symbols.now terms.old proof.now of → KeepsTruthAt mode of i) }
-    ensures stop { IfErr result (λ stop. stop ≡ RuleStop.Memory) }
+    ensures sound { IfOk result (λ yes. IsTrue yes → (mode : Mode) (j : Judged) →
+        StandsForStep symbols.now terms.old mode rule premises.now clause.now j → AlwaysKeepsTruth j) }
     ensures same { terms.new ≡ terms.old }
 {
     conditions_keep_truth();
-    commands_correspond();
-    if proof.closes(i).is_some() {
-        return Ok(Answer::NotMet);
+    if !premises.is_empty() {
+        return Ok(false);
     }
-    if meets_at(alloc, proof, i, symbols, terms)? {
-        Ok(Answer::Met)
-    } else {
-        Ok(Answer::NotMet)
-    }
+    meets_clause(alloc, symbols, terms, rule, clause)
 }

@@ -3,7 +3,7 @@
 
 ghost use Rattle.std.specs.Prelude.{◌≡◌, ◌↔◌, List, IsTrue, IfOk};
 ghost use Rattle.rule_model.specs.Rewriting.{IsReached};
-ghost use Rattle.rule_model.specs.Simplification.{bool_simplify};
+ghost use Rattle.rule_model.specs.Simplify.{bool_simplify};
 ghost use Rattle.term_model.specs.Terms.{Term};
 ghost use Rattle.term_pool.specs.Views.{IsTerm, RefersTo, ReferToAll};
 ghost use Rattle.rules_simplify.specs.Conjoined.{conjoined, IsFrom, IsSomeFrom};

@@ -3,7 +3,7 @@
 ghost use Rattle.std.specs.Prelude.{◌≡◌, ◌↔◌, ◌≤◌, List, length, All, IsTrue, IfOk};
 ghost use Rattle.term_model.specs.Terms.{Term, operation, terms_of};
 ghost use Rattle.term_pool.specs.Views.{IsTerm, RefersTo, ReferToAll};
-ghost use Rattle.rule_model.specs.Simplification.{StandsAs};
+ghost use Rattle.rule_model.specs.Simplify.{StandsAs};
 ghost use Rattle.rules_simplify.specs.Joins.{constant, IsAbsorbed, IsJoined, IsShorter, Joins};
 
 use crate::operands::is_same;

@@ -16,4 +16,4 @@ mod rewrites;
 mod shorter;
 mod tables;
 
-pub use checks::check;
+pub use checks::meets;

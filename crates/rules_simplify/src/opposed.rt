@@ -4,7 +4,7 @@ ghost use Rattle.std.specs.Prelude.{◌≡◌, ◌↔◌, [], List, All, IsTrue,
 ghost use Rattle.term_model.specs.Terms.{Term};
 ghost use Rattle.term_pool.specs.Nots.{IsStripped};
 ghost use Rattle.term_pool.specs.Views.{IsTerm, RefersTo, ReferToAll};
-ghost use Rattle.rule_model.specs.Simplification.{AreOpposed};
+ghost use Rattle.rule_model.specs.Simplify.{AreOpposed};
 ghost use Rattle.rules_simplify.specs.Joins.{AddsNumber, IsMetOtherwise};
 
 use indexmap::IndexSet;

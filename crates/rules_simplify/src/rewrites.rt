@@ -6,7 +6,7 @@ ghost use Rattle.rule_model.specs.declared.letter.Letter.{Letter};
 ghost use Rattle.rule_model.specs.Rewriting.{RewriteRow, FitsRow, IsFirstFit, IsReached, Rewrites, Simplifies};
 ghost use Rattle.rule_model.specs.Patterns.{a, b, no, conj};
 ghost use Rattle.rule_model.specs.Schemas.{fill};
-ghost use Rattle.rule_model.specs.Simplification.{bool_simplify};
+ghost use Rattle.rule_model.specs.Simplify.{bool_simplify};
 ghost use Rattle.sort_check.specs.WellSorted.{IsWellSortedTerm};
 ghost use Rattle.term_model.specs.Sorts.{IsWellSorted};
 ghost use Rattle.term_model.specs.Terms.{Term};
@@ -114,7 +114,8 @@ fn makes(
     requires at { IsSomeAt symbols.now terms.old at.now }
     requires right { IsTerm symbols.now terms.old right }
     ensures makes { IfOk result (λ yes. (table : List RewriteRow) (of : RewriteRow) (t u : Term) (f : Letter → Term) → IsRow table of row →
-        StandsForApplication symbols.now terms.old at.now t → RefersTo symbols.now terms.old right u → t ≡ fill f of.left → IsTrue yes ↔ (u ≡ fill f of.right)) }
+        StandsForApplication symbols.now terms.old at.now t → RefersTo symbols.now terms.old right u → t ≡ fill f of.left →
+        IsTrue yes ↔ (u ≡ fill f of.right)) }
     ensures same { terms.new ≡ terms.old }
 {
     stack_up(&at.arguments, stack)?;
@@ -178,7 +179,8 @@ fn first_fit(
     stack: &mut Scratch,
 ) -> Result<bool, Memory>
     requires { IsSomeAt symbols.now terms.old at.now }
-    ensures first { IfOk result (λ yes. OnTrue yes ((t : Term) → StandsForApplication symbols.now terms.old at.now t → IsFirstRow symbols.now terms.old (rows_of table) fit.new t)) }
+    ensures first { IfOk result (λ yes. OnTrue yes ((t : Term) → StandsForApplication symbols.now terms.old at.now t →
+        IsFirstRow symbols.now terms.old (rows_of table) fit.new t)) }
     ensures none { IfOk result (λ yes. OnFalse yes ((t u : Term) → StandsForApplication symbols.now terms.old at.now t → ¬ IsFirstFit (rows_of table) t u)) }
     ensures same { terms.new ≡ terms.old }
 {
@@ -262,8 +264,10 @@ fn over_negation(
     at: &mut Application,
 ) -> Result<bool, Memory>
     requires { IsNegationSettled symbols.now terms.old letters.now }
-    ensures next { IfOk result (λ yes. OnTrue yes ((f : Letter → Term) → Agrees symbols.now terms.old letters.now f → IsWellSorted (fill f (conj a (no b))) → StandsForApplication symbols.now terms.old at.new (fill f (conj a (no b))))) }
-    ensures ends { IfOk result (λ yes. OnFalse yes ((f : Letter → Term) (u : Term) → Agrees symbols.now terms.old letters.now f → ¬ IsFirstFit bool_simplify (fill f (conj a (no b))) u)) }
+    ensures next { IfOk result (λ yes. OnTrue yes ((f : Letter → Term) → Agrees symbols.now terms.old letters.now f →
+        IsWellSorted (fill f (conj a (no b))) → StandsForApplication symbols.now terms.old at.new (fill f (conj a (no b))))) }
+    ensures ends { IfOk result (λ yes. OnFalse yes ((f : Letter → Term) (u : Term) → Agrees symbols.now terms.old letters.now f →
+        ¬ IsFirstFit bool_simplify (fill f (conj a (no b))) u)) }
     ensures same { terms.new ≡ terms.old }
 {
     let Some(first) = letters.get(Letter::A) else {

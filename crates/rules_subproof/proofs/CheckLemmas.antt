@@ -1,9 +1,9 @@
--- What a check answers of a step that closes a scope, or closes none.
+-- What a check returns for a step that closes a scope, or closes none.
 use Rattle.std.proofs.Common.{◌≡◌, ◌↔◌, ◌⊎◌, inl, inr, ℕ, Bool, IsTrue, Some, None, sym, subst}
 use Rattle.term_model.specs.Terms.{Var, Term}
 use Rattle.rule_model.specs.declared.rules.Mode.{Mode}
 use Rattle.rule_model.specs.declared.rules.Rule.{Rule}
-use Rattle.rule_model.specs.Closings.{IsSubproof, IsLetClosing, MeetsClosing}
+use Rattle.rule_model.specs.Subproof.{IsSubproof, IsLetClosing, MeetsClosing}
 use Rattle.rule_model.specs.Conditions.{MeetsRule, MeetsWhere, IsMetAt}
 use Rattle.rule_model.specs.Judged.{Judged, judged_at}
 use Rattle.rule_model.specs.Proofs.{ProofItems}

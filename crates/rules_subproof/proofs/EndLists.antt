@@ -6,7 +6,7 @@ use Rattle.sym_table.specs.Table.{Table}
 use Rattle.term_model.specs.declared.symbols.Op.{Op}
 use Rattle.term_model.specs.Terms.{Term, operation, no_terms, term, numeral, variable, call, let_in}
 use Rattle.term_pool.specs.Views.{TermsView, RefersTo}
-use Rattle.rule_model.specs.Closings.{IsEnding}
+use Rattle.rule_model.specs.Subproof.{IsEnding}
 use Rattle.term_parts.specs.Parts.{IsOver}
 use Rattle.term_model.proofs.Zips.{zip_length}
 use Rattle.rules_subproof.proofs.Zips.{zip_at}

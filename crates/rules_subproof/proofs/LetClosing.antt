@@ -8,7 +8,7 @@ use Rattle.term_model.specs.FreeVariables.{variables_of, bound_terms}
 use Rattle.term_model.specs.Terms.{Var, Term, let_in, Bindings, no_bindings, binding}
 use Rattle.term_pool.specs.Views.{TermsView, RefersTo}
 use Rattle.rule_model.specs.declared.rules.Mode.{Mode}
-use Rattle.rule_model.specs.Closings.{IsAssumeIn, AreLinkedTo, IsLetClosing}
+use Rattle.rule_model.specs.Subproof.{IsAssumeIn, AreLinkedTo, IsLetClosing}
 use Rattle.rule_model.specs.Proofs.{ProofItems}
 use Rattle.rule_model.specs.Reading.{rule_at, premises_at, scope_at, bindings_at}
 use Rattle.rule_model.specs.RuleNames.{is_assume}

@@ -1,6 +1,6 @@
 -- Going back over the commands before a step.
 use Rattle.std.proofs.Common.{◌≡◌, ◌<◌, ◌≤◌, ◌⊎◌, inl, inr, ℕ, zero, suc, List, Contains, Some, refl, sym, ap, subst, arith}
-use Rattle.rule_model.specs.Closings.{IsAssumeIn}
+use Rattle.rule_model.specs.Subproof.{IsAssumeIn}
 use Rattle.rule_model.specs.Proofs.{ProofItems}
 use Rattle.rule_model.specs.Reading.{closes_at, scope_at}
 use Rattle.rule_model.proofs.ScopeRanges.{together}

@@ -3,7 +3,7 @@ use Rattle.std.proofs.Common.{◌≡◌, ◌↔◌, ℕ, List, [], ◌∷◌, le
 use Rattle.std.proofs.Math.Seq.{drop-append_seam}
 use Rattle.std.specs.List.{AllZip}
 use Rattle.term_model.specs.Terms.{Var, Term}
-use Rattle.rule_model.specs.Closings.{IsAssumeIn, AllDischarged, negations, IsEnding, IsSubproof}
+use Rattle.rule_model.specs.Subproof.{IsAssumeIn, AllDischarged, negations, IsEnding, IsSubproof}
 use Rattle.rule_model.specs.Proofs.{ProofItems}
 use Rattle.rule_model.specs.Reading.{rule_at, clause_at, premises_at, discharged_at, scope_at, bindings_at, last_inside_at}
 use Rattle.rule_model.specs.RuleNames.{is_assume}

@@ -7,7 +7,7 @@ use Rattle.term_model.specs.FreeVariables.{IsFree, variables_of}
 use Rattle.term_model.specs.Terms.{Var, Term, let_in, Bindings}
 use Rattle.term_pool.specs.StandsFor.{variable_leaf}
 use Rattle.term_pool.specs.Views.{TermsView, RefersTo}
-use Rattle.rule_model.specs.Closings.{EndsIn}
+use Rattle.rule_model.specs.Subproof.{EndsIn}
 use Rattle.rule_model.specs.Congruence.{AreSides}
 use Rattle.rule_model.specs.Proofs.{ProofItems}
 use Rattle.rule_model.specs.Reading.{clause_at}

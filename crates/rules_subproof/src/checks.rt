@@ -9,8 +9,8 @@ ghost use Rattle.rule_model.specs.Scopes.{commands_in};
 ghost use Rattle.term_model.specs.Terms.{Var, Term};
 ghost use Rattle.proof_store.specs.Checks.{StandForSome};
 ghost use Rattle.proof_store.specs.Meaning.{StandForItems};
-ghost use Rattle.proof_store.specs.declared.answers.Answer.TheVariants as Answer;
-ghost use Rattle.proof_store.specs.declared.answers.RuleStop.TheVariants as RuleStop;
+ghost use Rattle.term_parts.specs.declared.answers.Answer.TheVariants as Answer;
+ghost use Rattle.term_parts.specs.declared.answers.RuleStop.TheVariants as RuleStop;
 
 use crate::lets::is_let;
 use crate::subproofs::is_subproof;
@@ -20,7 +20,7 @@ use std::alloc::Global;
 use sym_table::Symbols;
 use term_pool::Terms;
 
-/// What is answered of a step that meets its rule, or does not.
+/// What is returned of a step that meets its rule, or does not.
 fn answer(met: bool) -> Answer
     ensures met { (result ≡ Answer.Met) ↔ IsTrue met }
     ensures narrow { result ≢ Answer.TooWide }
@@ -35,7 +35,7 @@ fn answer(met: bool) -> Answer
 ///
 /// A subproof takes no memory. A let takes some for its bindings, in check mode for the sides of its premises, each of which
 /// it looks at once, and for the cells of the other side of its equality, which it searches once for each variable. Places
-/// no cell, and refuses want of memory alone.
+/// no cell, and refuses only when out of memory.
 pub fn check(
     alloc: Global,
     proof: &Proof,
@@ -47,7 +47,8 @@ pub fn check(
     requires index { i < commands_in proof.now }
     requires rule { (rule_at proof.now i ≡ Rule.Subproof) ⊎ (rule_at proof.now i ≡ Rule.Let) }
     requires stand { StandForSome symbols.now terms.old proof.now }
-    ensures met { IfOk result (λ answer. (of : ProofItems Var Term) → StandForItems symbols.now terms.old proof.now of → (answer ≡ Answer.Met) ↔ IsMetAt mode of i) }
+    ensures met { IfOk result (λ answer. (of : ProofItems Var Term) → StandForItems symbols.now terms.old proof.now of →
+        (answer ≡ Answer.Met) ↔ IsMetAt mode of i) }
     ensures narrow { IfOk result (λ answer. answer ≢ Answer.TooWide) }
     ensures stop { IfErr result (λ stop. stop ≡ RuleStop.Memory) }
     ensures same { terms.new ≡ terms.old }

@@ -2,7 +2,7 @@
 
 ghost use Rattle.std.specs.Prelude.{◌≡◌, ◌↔◌, ◌≤◌, List, All, IsTrue, drop, length};
 ghost use Rattle.std.specs.List.{AllZip};
-ghost use Rattle.rule_model.specs.Closings.{IsEnding};
+ghost use Rattle.rule_model.specs.Subproof.{IsEnding};
 ghost use Rattle.term_model.specs.Terms.{Term};
 ghost use Rattle.term_pool.specs.Views.{IsTerm, RefersTo};
 

@@ -2,7 +2,7 @@
 
 ghost use Rattle.std.specs.Prelude.{◌≡◌, ◌≢◌, ◌↔◌, ◌<◌, ℕ, List, All, IsTrue, IfOk, IfSome, IfNone, Some, map};
 ghost use Rattle.std.specs.List.{AllZip};
-ghost use Rattle.rule_model.specs.Closings.{IsLetClosing};
+ghost use Rattle.rule_model.specs.Subproof.{IsLetClosing};
 ghost use Rattle.rule_model.specs.Proofs.{ProofItems};
 ghost use Rattle.rule_model.specs.Reading.{closes_at};
 ghost use Rattle.rule_model.specs.Scopes.{commands_in};
@@ -39,8 +39,10 @@ fn let_sides(
     requires index { i < commands_in proof.now }
     requires closes { closes_at proof.now i ≡ Some scope }
     requires stand { StandForSome symbols.now terms.old proof.now }
-    ensures found { IfSome result (λ p. (of : ProofItems Var Term) → StandForItems symbols.now terms.old proof.now of → IsLetEquated symbols.now terms.old of i scope p) }
-    ensures none { IfNone result ((of : ProofItems Var Term) (bs : Bindings) (t u : Term) → StandForItems symbols.now terms.old proof.now of → ¬ EquatesLet of i scope bs t u) }
+    ensures found { IfSome result (λ p. (of : ProofItems Var Term) → StandForItems symbols.now terms.old proof.now of →
+        IsLetEquated symbols.now terms.old of i scope p) }
+    ensures none { IfNone result ((of : ProofItems Var Term) (bs : Bindings) (t u : Term) → StandForItems symbols.now terms.old proof.now of →
+        ¬ EquatesLet of i scope bs t u) }
     ensures same { terms.new ≡ terms.old }
 {
     terms_correspond();
@@ -117,10 +119,12 @@ fn let_values(
     requires let_term { IsLetTerm terms.old term }
     requires right { IsTerm symbols.now terms.old right }
     ensures values { IfOk result (λ found. IfSome found (λ values. (bs : Bindings) (t u : Term) (bound : List (Var × Term)) →
-        RefersTo symbols.now terms.old term (let_in bs t) → RefersTo symbols.now terms.old right u → AllZip (IsBindingOf symbols.now terms.old) anchor.now bound →
+        RefersTo symbols.now terms.old term (let_in bs t) → RefersTo symbols.now terms.old right u →
+        AllZip (IsBindingOf symbols.now terms.old) anchor.now bound →
         BindsAs bound bs u × AllZip (RefersTo symbols.now terms.old) values.items (bound_terms bs))) }
     ensures none { IfOk result (λ found. IfNone found ((bs : Bindings) (t u : Term) (bound : List (Var × Term)) →
-        RefersTo symbols.now terms.old term (let_in bs t) → RefersTo symbols.now terms.old right u → AllZip (IsBindingOf symbols.now terms.old) anchor.now bound →
+        RefersTo symbols.now terms.old term (let_in bs t) → RefersTo symbols.now terms.old right u →
+        AllZip (IsBindingOf symbols.now terms.old) anchor.now bound →
         ¬ BindsAs bound bs u)) }
     ensures same { terms.new ≡ terms.old }
 {
@@ -148,7 +152,8 @@ pub(crate) fn is_let(
 ) -> Result<bool, Memory>
     requires index { i < commands_in proof.now }
     requires stand { StandForSome symbols.now terms.old proof.now }
-    ensures met { IfOk result (λ yes. (of : ProofItems Var Term) (scope : ℕ) → closes_at proof.now i ≡ Some scope → StandForItems symbols.now terms.old proof.now of →
+    ensures met { IfOk result (λ yes. (of : ProofItems Var Term) (scope : ℕ) → closes_at proof.now i ≡ Some scope →
+        StandForItems symbols.now terms.old proof.now of →
         IsTrue yes ↔ IsLetClosing mode of i scope) }
     ensures same { terms.new ≡ terms.old }
 {

@@ -2,7 +2,7 @@
 
 ghost use Rattle.std.specs.Prelude.{◌≡◌, ◌↔◌, ◌<◌, List, All, IsTrue, length, map};
 ghost use Rattle.std.specs.List.{AllZip};
-ghost use Rattle.rule_model.specs.Closings.{AreLinkedTo};
+ghost use Rattle.rule_model.specs.Subproof.{AreLinkedTo};
 ghost use Rattle.rule_model.specs.Proofs.{ProofItems};
 ghost use Rattle.rule_model.specs.Scopes.{commands_in};
 ghost use Rattle.rule_model.specs.declared.rules.Mode.TheVariants as Mode;

@@ -1,7 +1,7 @@
 //! The negations of what a step discharges.
 
 ghost use Rattle.std.specs.Prelude.{◌≡◌, ◌↔◌, ◌<◌, ◌∷◌, [], length, Contains, IsTrue};
-ghost use Rattle.rule_model.specs.Closings.{negations};
+ghost use Rattle.rule_model.specs.Subproof.{negations};
 ghost use Rattle.rule_model.specs.Proofs.{ProofItems};
 ghost use Rattle.rule_model.specs.Reading.{clause_at, discharged_at};
 ghost use Rattle.rule_model.specs.Scopes.{commands_in};
@@ -52,7 +52,8 @@ pub(crate) fn begins_with_negations(
 ) -> bool
     requires index { i < commands_in proof.now }
     requires stand { StandForSome symbols.now terms.old proof.now }
-    ensures begins { (of : ProofItems Var Term) → StandForItems symbols.now terms.old proof.now of → IsTrue result ↔ HasFront (negations of i) (clause_at of i) }
+    ensures begins { (of : ProofItems Var Term) → StandForItems symbols.now terms.old proof.now of →
+        IsTrue result ↔ HasFront (negations of i) (clause_at of i) }
     ensures count { (of : ProofItems Var Term) → StandForItems symbols.now terms.old proof.now of → length (negations of i) ≡ length (discharged_at of i) }
     ensures same { terms.new ≡ terms.old }
 {

@@ -1,7 +1,7 @@
 //! The closing of rule `subproof`.
 
 ghost use Rattle.std.specs.Prelude.{◌≡◌, ◌↔◌, ◌<◌, IsTrue, Some};
-ghost use Rattle.rule_model.specs.Closings.{IsSubproof};
+ghost use Rattle.rule_model.specs.Subproof.{IsSubproof};
 ghost use Rattle.rule_model.specs.Proofs.{ProofItems};
 ghost use Rattle.rule_model.specs.Reading.{closes_at};
 ghost use Rattle.rule_model.specs.Scopes.{commands_in};

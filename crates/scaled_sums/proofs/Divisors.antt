@@ -1,7 +1,7 @@
 -- Cited by crates above. Euclid's algorithm, and the least common multiple by it.
 use Rattle.std.proofs.Common.{◌≡◌, ℕ, zero, suc, ◌+◌, ◌*◌, ◌-◌, ◌/◌, ◌%◌, ◌^◌, ◌<◌, ◌≤◌, Option, Some, None, SomeIff, IfSome, IfNone, sym, ap, subst, ◌∙◌, arith}
 use Rattle.std.proofs.Math.Nat.{mul-sub, div-add-mod, mul-div_cancel_left, eq_of_mul-eq-mul_left}
-use Rattle.rule_model.specs.Arithmetic.{Divides}
+use Rattle.rule_model.specs.Arith.{Divides}
 use Rattle.scaled_sums.specs.Multiples.{IsLeastMultipleOf}
 use Rattle.scaled_sums.specs.Divisors.{IsGreatestDivisor}
 

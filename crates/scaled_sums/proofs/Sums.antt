@@ -8,9 +8,9 @@ use Rattle.std.proofs.lemmas.List.Elements.{All-head, All-tail}
 use Rattle.std.proofs.lemmas.List.Sorted.{sum_by-IsPermutation}
 use Rattle.std.proofs.lemmas.List.Sums.{sum_by-cons}
 use Rattle.std.specs.List.{sum_by}
-use Rattle.rule_model.specs.Arithmetic.{IsWhole}
+use Rattle.rule_model.specs.Arith.{IsWhole}
 use Rattle.rule_model.proofs.Ring as ring
-use Rattle.rule_model.proofs.Arithmetic.{whole_sum}
+use Rattle.rule_model.proofs.Arith.{whole_sum}
 use Rattle.scaled_sums.specs.declared.coefficients.Coefficient.{Coefficient}
 use Rattle.scaled_sums.specs.Coefficients.{sum_at, sizes_of, AreApart, scale}
 use Rattle.scaled_sums.proofs.Wholes.{whole_nothing}

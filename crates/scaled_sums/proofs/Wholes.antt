@@ -4,7 +4,7 @@ use Rattle.std.proofs.lemmas.Bool.{eqb-true, eq-eqb}
 use Rattle.std.proofs.Math.Nat.{div-add-mod, mod-lt, mul-mod_right}
 use Rattle.std.proofs.lemmas.Int.{ints, unsigned_abs-mul}
 use Rattle.std.specs.Int.{int_rem_euclid}
-use Rattle.rule_model.specs.Arithmetic.{IsWhole, IsRoundedUp}
+use Rattle.rule_model.specs.Arith.{IsWhole, IsRoundedUp}
 use Rattle.rule_model.proofs.Ring.{mul-neg, one-mul}
 
 whole : (a n : ℕ) → a ≡ n * (a / n) + a % n

@@ -1,6 +1,6 @@
 -- Private. Greatest common divisors.
 use Rattle.std.specs.Prelude.{ℕ, ◌*◌}
-use Rattle.rule_model.specs.Arithmetic.{Divides}
+use Rattle.rule_model.specs.Arith.{Divides}
 
 -- A common divisor that is divided by all others. This is said of their multiples too: where d divides the same multiple of
 -- both numbers, it divides that multiple of their divisor.

@@ -1,6 +1,6 @@
 -- Public. Least common multiples.
 use Rattle.std.specs.Prelude.{ℕ, ◌<◌}
-use Rattle.rule_model.specs.Arithmetic.{Divides}
+use Rattle.rule_model.specs.Arith.{Divides}
 
 -- the least multiple of two numbers, which divides each other one
 pub record IsLeastMultipleOf (a b n : ℕ) : Type 0 where

@@ -1,7 +1,7 @@
 -- Public. Relations of lines.
 use Rattle.std.specs.Prelude.{ℕ, ℤ, ◌≡◌, Bool, true, false}
-use Rattle.rule_model.specs.Arithmetic as spec
-use Rattle.rule_model.specs.Arithmetic.{IsRoundedUp}
+use Rattle.rule_model.specs.Arith as spec
+use Rattle.rule_model.specs.Arith.{IsRoundedUp}
 use Rattle.scaled_sums.specs.declared.bounds.Relation.{Relation}
 
 -- as the conditions of rules have them

@@ -1,6 +1,6 @@
 //! Factors and bounds of lines.
 ghost use Rattle.std.specs.Prelude.{◌≡◌, ◌≤◌, ◌<◌, ◌*◌, ◌+◌, ◌*ℤ◌, ◌&&◌, pos, neg_ℤ, max, unsigned_abs};
-ghost use Rattle.rule_model.specs.Arithmetic.{signed_by, bound_by, limit, IsRoundedUp};
+ghost use Rattle.rule_model.specs.Arith.{signed_by, bound_by, limit, IsRoundedUp};
 ghost use Rattle.scaled_sums.specs.Relations.{relation_meant, IsBoundOf};
 
 /// That a sum exceeds a bound, reaches it, or equals it.

@@ -1,7 +1,7 @@
 //! Whether a sum is nothing.
 ghost use Rattle.std.specs.Prelude.{◌≡◌, ◌<◌, ◌↔◌, pos, ℕ, IsTrue};
 ghost use Rattle.std.specs.List.Sorted.{IsNonDecreasingBy};
-ghost use Rattle.rule_model.specs.Arithmetic.{limit};
+ghost use Rattle.rule_model.specs.Arith.{limit};
 ghost use Rattle.scaled_sums.specs.Coefficients.{sum_at, sizes_of};
 
 use crate::coefficients::Coefficient;

@@ -1,6 +1,6 @@
 //! Sums of coefficients.
 ghost use Rattle.std.specs.Prelude.{◌≡◌, ◌≤◌, ◌<◌, ◌+◌, ◌*◌, ◌++◌, ◌↔◌, ◌+ℤ◌, ◌*ℤ◌, pos, ℕ, map, unsigned_abs, IsTrue, OnOk};
-ghost use Rattle.rule_model.specs.Arithmetic.{IsWhole, limit};
+ghost use Rattle.rule_model.specs.Arith.{IsWhole, limit};
 ghost use Rattle.scaled_sums.specs.Coefficients.{sum_at, sizes_of, scale, AreApart};
 
 use pair_pool::{Memory, Ref};

@@ -1,6 +1,6 @@
 //! Least common multiples.
 ghost use Rattle.std.specs.Prelude.{◌≤◌, ◌<◌, ℕ, IfSome, IfNone};
-ghost use Rattle.rule_model.specs.Arithmetic.{Divides, limit};
+ghost use Rattle.rule_model.specs.Arith.{Divides, limit};
 ghost use Rattle.scaled_sums.specs.Multiples.{IsLeastMultipleOf};
 ghost use Rattle.scaled_sums.specs.Divisors.{IsGreatestDivisor};
 

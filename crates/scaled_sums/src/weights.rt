@@ -1,6 +1,6 @@
 //! The weight of a line, which bounds the numbers that are made of it.
 ghost use Rattle.std.specs.Prelude.{◌≡◌, ◌≤◌, ◌<◌, ◌*◌, ◌+◌, max, unsigned_abs, IfSome, IfNone};
-ghost use Rattle.rule_model.specs.Arithmetic.{limit};
+ghost use Rattle.rule_model.specs.Arith.{limit};
 
 /// The weight so far and that of one line more: of its numerator, the share of its denominator in the common multiple, the
 /// weights of its terms with one, and the multiple. `None` where it does not fit 128 bits, so that it is over 2^127 - 1.

@@ -9,7 +9,7 @@ use Rattle.term_parts.specs.Parts.{AreSidesOf}
 use Rattle.term_pool.specs.Views.{TermsView, RefersTo, ReferToAll}
 use Rattle.rule_model.specs.Clausal.{as_it_stands}
 use Rattle.schema_match.specs.Equations.{StatesEquality}
-use Rattle.schema_match.specs.Steps.{ReferToClauses}
+use Rattle.term_parts.specs.Judging.{ReferToClauses}
 use Rattle.schema_match.proofs.PremiseLemmas.{no_premises, some_premises}
 
 -- a step that states an equality

@@ -14,7 +14,7 @@ use Rattle.schema_match.specs.Matching.{parts_of, Fits}
 use Rattle.schema_match.specs.Premises.{IsOneUnit, IsNoUnit}
 use Rattle.schema_match.specs.Schemas.{HasParts}
 use Rattle.schema_match.specs.Stack.{StackOf, IsStack}
-use Rattle.schema_match.specs.Steps.{ReferToClauses}
+use Rattle.term_parts.specs.Judging.{ReferToClauses}
 use Rattle.schema_match.proofs.PremiseLemmas.{no_premises, some_premises, unit_term, no_unit}
 use Rattle.schema_match.proofs.ReferLemmas.{stack_push}
 

@@ -10,7 +10,5 @@ pub mod StackLemmas
 pub mod PremiseLemmas
 pub mod InstanceLemmas
 pub mod StepLemmas
-pub mod StepAnswers
 pub mod OneInstance
-pub mod FewPremises
 pub mod EquationLemmas

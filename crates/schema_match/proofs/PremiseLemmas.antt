@@ -6,7 +6,7 @@ use Rattle.sym_table.specs.Table.{Table}
 use Rattle.term_model.specs.Terms.{Term}
 use Rattle.term_pool.specs.Views.{TermsView, RefersTo, ReferToAll, IsTerm}
 use Rattle.schema_match.specs.Premises.{IsOneUnit, IsNoUnit}
-use Rattle.schema_match.specs.Steps.{ReferToClauses}
+use Rattle.term_parts.specs.Judging.{ReferToClauses}
 
 -- the premises' references and clauses
 module _ (s : Table) (v : TermsView) where

@@ -1,4 +1,3 @@
-pub mod Steps
 pub mod Letters
 pub mod Matching
 pub mod Arguments

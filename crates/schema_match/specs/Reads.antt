@@ -21,7 +21,8 @@ Reads f (Apply op n ∷ ps) (t ∷ ts) =
 
 -- These parts are left to be read from the terms on the stack: with terms for the letters the whole is read exactly where
 -- they are those of the letters that are settled, and these parts are read with them.
-pub record Left (s : Table) (v : TermsView) (whole : List Part) (whole_terms : List Term) (parts : List Part) (letters : Letters) (stack : List ℕ) : Type 0 where
+pub record Left (s : Table) (v : TermsView) (whole : List Part) (whole_terms : List Term) (parts : List Part) (letters : Letters)
+    (stack : List ℕ) : Type 0 where
   pub terms : List Term
   pub refer : StackOf s v stack terms
   pub example : Letter → Term

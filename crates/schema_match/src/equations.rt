@@ -5,7 +5,7 @@ ghost use Rattle.term_model.specs.Flips.{equality};
 ghost use Rattle.term_model.specs.Terms.{Term};
 ghost use Rattle.term_pool.specs.Views.{IsTerm, ReferToAll};
 ghost use Rattle.schema_match.specs.Equations.{StatesEquality};
-ghost use Rattle.schema_match.specs.Steps.{ReferToClauses};
+ghost use Rattle.term_parts.specs.Judging.{ReferToClauses};
 
 use pair_pool::Ref;
 use sym_table::Symbols;

@@ -5,7 +5,7 @@ ghost use Rattle.rule_model.specs.Schemas.{Schema, IsInstance};
 ghost use Rattle.term_model.specs.Terms.{Term};
 ghost use Rattle.term_pool.specs.Views.{IsTerm, ReferToAll};
 ghost use Rattle.schema_match.specs.Schemas.{AreSchemas, HasParts, IsInstanceOfOne};
-ghost use Rattle.schema_match.specs.Steps.{ReferToClauses};
+ghost use Rattle.term_parts.specs.Judging.{ReferToClauses};
 
 use crate::matching::fits;
 use crate::part::Part;

@@ -12,3 +12,5 @@ pub mod Scanning
 pub mod Spelling
 pub mod ReadingBack
 pub mod FineBytes
+pub mod MovedTokens
+pub mod MovedItems

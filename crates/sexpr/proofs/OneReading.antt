@@ -22,7 +22,7 @@ pub record IsFrontOf (xs : List Token) (last : Read) (ys : List Token) : Type 0 
   pub split : ys ≡ xs ++ next ∷ rest
   pub last_is : last ≡ Ok (Some next)
 
--- of two reads of a text, one is the front of the other
+-- of two reads of a text, one is a prefix of the other
 pub data Compared (xs : List Token) (l : Read) (ys : List Token) (m : Read) : Type 0 where
   same : xs ≡ ys → l ≡ m → Compared xs l ys m
   shorter : IsFrontOf xs l ys → Compared xs l ys m

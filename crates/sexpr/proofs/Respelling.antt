@@ -70,7 +70,7 @@ skips_end after at (comment line rest all ends skips) none =
     ∙ (let n : length (line ++ rest) ≡ length line + length rest = length-append line rest in
     let e : at + 1 + length line + length rest ≡ at + suc (length (line ++ rest)) = omega arith in e)
 
--- the front of a list that begins with a byte
+-- the prefix of a list that begins with a byte
 nil_cons : (c : ℕ) (s : List ℕ) → [] ≡ c ∷ s → ⊥
 nil_cons c s e = cc
 
@@ -135,7 +135,7 @@ string_read at after (quote rest inside) stops =
     string_read (at + 2) after inside stops
     ∙ (let n : at + 2 + (length rest + 1) ≡ at + (suc (suc (length rest)) + 1) = omega arith in ap Some n)
 
--- what passes is the front, where the next byte doesn't
+-- what passes is the prefix, where the next byte doesn't
 prefix_len-front : (p : ℕ → Bool) (xs ys : List ℕ) → AllPass p xs → begins_with p ys ≡ false → prefix_len p (xs ++ ys) ≡ length xs
 prefix_len-front p [] [] all stops = refl
 prefix_len-front p [] (y ∷ ys) all stops = rw stops refl
@@ -239,7 +239,7 @@ read_next text at t next some within =
     ∙ token_read t.kind t.start n (drop t.start text) next.spelled stops inside
     ∙ ap (token t.kind t.start) end
 
--- a read that answers the end
+-- a read that returns the end
 abbrev is_end : Read → Bool
 is_end (Ok None) = true
 is_end (Ok (Some t)) = false

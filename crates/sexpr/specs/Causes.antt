@@ -1,7 +1,8 @@
 -- Public. The words that name each cause of a refusal.
 use Rattle.std.specs.Prelude.{ℕ, List, codes}
 use Rattle.sexpr.specs.declared.causes.Cause.{Cause}
-use Rattle.sexpr.specs.declared.causes.Cause.TheVariants.{BadByte, OpenList, StrayClose, UnknownCommand, BadCommand, UnknownName, Repeated, SortMismatch, LeftOut, WideNumber, TooHigh, NoStep, BadAnchor}
+use Rattle.sexpr.specs.declared.causes.Cause.TheVariants.{BadByte, OpenList, StrayClose, UnknownCommand, BadCommand, UnknownName, Repeated, SortMismatch}
+use Rattle.sexpr.specs.declared.causes.Cause.TheVariants.{LeftOut, WideNumber, TooHigh, NoStep, BadAnchor}
 
 abbrev pub text_of_cause : Cause → List ℕ
 text_of_cause BadByte = codes "bad byte"

@@ -1,7 +1,8 @@
 -- Public. When a text has the form of nested items, and its first fault where it hasn't.
 use Rattle.std.specs.Prelude.{◌≡◌, ℕ, List, [], ◌∷◌, ◌++◌, Ok, Some}
 use Rattle.sexpr.specs.declared.causes.Cause.{Cause}
-use Rattle.sexpr.specs.declared.causes.Cause.TheVariants.{BadByte, OpenList, StrayClose, UnknownCommand, BadCommand, UnknownName, Repeated, SortMismatch, LeftOut, WideNumber, TooHigh, NoStep, BadAnchor}
+use Rattle.sexpr.specs.declared.causes.Cause.TheVariants.{BadByte, OpenList, StrayClose, UnknownCommand, BadCommand, UnknownName, Repeated, SortMismatch}
+use Rattle.sexpr.specs.declared.causes.Cause.TheVariants.{LeftOut, WideNumber, TooHigh, NoStep, BadAnchor}
 use Rattle.sexpr.specs.declared.causes.Refusal.{Refusal}
 use Rattle.sexpr.specs.declared.lexing.Token.{Token}
 use Rattle.sexpr.specs.declared.lexing.TokenKind.TheVariants.{Open, Close}

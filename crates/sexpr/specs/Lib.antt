@@ -10,4 +10,5 @@ pub mod Form
 pub mod Grammar
 pub mod Items
 pub mod Source
+pub mod Spans
 pub mod Printing

@@ -1,6 +1,7 @@
 -- Public. The tokens of a text (SMT-LIB 2.6, "Lexicon"), each with the place of its first byte and of the byte after
 -- it.
-use Rattle.std.specs.Prelude.{◌≡◌, ℕ, ◌+◌, ◌<◌, ◌≤◌, Bool, true, false, not, ◌&&◌, ◌==◌, if◌then◌else◌, List, [], ◌∷◌, length, drop, take_while, slice_range, Option, Some, None, Result, Ok, Err}
+use Rattle.std.specs.Prelude.{◌≡◌, ℕ, ◌+◌, ◌<◌, ◌≤◌, Bool, true, false, not, ◌&&◌, ◌==◌, if◌then◌else◌, List, [], ◌∷◌, length, drop, take_while, slice_range}
+use Rattle.std.specs.Prelude.{Option, Some, None, Result, Ok, Err}
 use Rattle.std.specs.List.{prefix_len}
 use Rattle.sexpr.specs.declared.causes.Cause.TheVariants.{BadByte}
 use Rattle.sexpr.specs.declared.causes.Refusal.{Refusal}

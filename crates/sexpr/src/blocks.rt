@@ -138,7 +138,7 @@ fn past_block(bytes: &[u8], from: Formed, inside: bool) -> Option<usize>
     }
 }
 
-/// Whether a text has form. It may answer false of one that has.
+/// Whether a text has form. It may return false for one that has.
 pub(crate) fn is_formed(bytes: &[u8]) -> bool
     ensures { IsTrue result → HasForm bytes.now }
 {

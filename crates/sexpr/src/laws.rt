@@ -1,10 +1,11 @@
 //! Laws about the definitions, each the contract of a function with an empty body.
-ghost use Rattle.std.specs.Prelude.{◌≡◌, ◌↔◌, ◌<◌, ◌≤◌, ℕ, List, [], length, drop, Ok, Some, None};
+ghost use Rattle.std.specs.Prelude.{◌≡◌, ◌↔◌, ◌<◌, ◌≤◌, ℕ, List, [], length, drop, slice_range, Ok, Some, None};
 ghost use Rattle.sexpr.specs.declared.causes.Refusal.{Refusal};
 ghost use Rattle.sexpr.specs.declared.lexing.Token.{Token};
 ghost use Rattle.sexpr.specs.Form.{HasForm, IsFormFault};
 ghost use Rattle.sexpr.specs.Grammar.{IsSpelledNext, SkipsTo};
-ghost use Rattle.sexpr.specs.Items.{Item, Items, IsItem, StandsForItems};
+ghost use Rattle.sexpr.specs.Items.{Item, list, Items, IsItem, StandsForItems};
+ghost use Rattle.sexpr.specs.Spans.{AreAlike, IsListAt};
 ghost use Rattle.sexpr.specs.Tokens.{next_token};
 
 /// The tokens of a text are those that the grammar has, and each is as long as it can be, with nothing but white
@@ -20,7 +21,8 @@ pub fn tokens_are_spelled()
 
 /// A text stands for one list of items at most, and tokens begin with one item at most.
 pub fn items_are_unique()
-    ensures item { (source : List ℕ) (tokens : List Token) (a b : Item) (rest others : List Token) → IsItem source tokens a rest → IsItem source tokens b others → (a ≡ b) × (rest ≡ others) }
+    ensures item { (source : List ℕ) (tokens : List Token) (a b : Item) (rest others : List Token) → IsItem source tokens a rest →
+        IsItem source tokens b others → (a ≡ b) × (rest ≡ others) }
     ensures text { (source : List ℕ) (a b : Items) → StandsForItems source a → StandsForItems source b → a ≡ b }
 {}
 
@@ -28,4 +30,10 @@ pub fn items_are_unique()
 pub fn faults_are_unique()
     ensures none { (source : List ℕ) (refusal : Refusal) → HasForm source → IsFormFault source refusal → ⊥ }
     ensures one { (source : List ℕ) (a b : Refusal) → IsFormFault source a → IsFormFault source b → a ≡ b }
+{}
+
+/// Lists that stand in the same bytes, in one text or in two, are alike but for their places.
+pub fn lists_are_their_bytes()
+    ensures { (text other : List ℕ) (at end to stop : ℕ) (is js : Items) → IsListAt text at end is → IsListAt other to stop js →
+        slice_range text at end ≡ slice_range other to stop → AreAlike (list at is) (list to js) }
 {}

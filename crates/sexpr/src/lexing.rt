@@ -160,7 +160,8 @@ fn string_at(bytes: &[u8], at: usize) -> Result<Option<Token>, Refusal>
 /// The quoted symbol whose opening bar stands at `at`.
 fn quoted_at(bytes: &[u8], at: usize) -> Result<Option<Token>, Refusal>
     requires { at < length bytes.now }
-    ensures value { let len = prefix_len is_between_bars (drop (at + 1) bytes.now) in result ≡ spec.quoted_token at (at + 1 + len) (drop len (drop (at + 1) bytes.now)) }
+    ensures value { let len = prefix_len is_between_bars (drop (at + 1) bytes.now) in result ≡ spec.quoted_token at (at + 1 + len)
+        (drop len (drop (at + 1) bytes.now)) }
     ensures span { IfOk result (λ found. IfSome found (IsSpanFrom at (length bytes.now))) }
     ensures cause { IfErr result (λ refusal. refusal.cause ≡ Cause.BadByte) }
     ensures place { IfErr result (λ refusal. refusal.at < length bytes.now) }

@@ -1,6 +1,6 @@
 //! The text layer of SMT-LIB scripts and Alethe proofs: tokens, matching brackets and the causes of a refusal.
 //!
-//! A [`Lexer`] answers the tokens of a text one by one. Nothing here takes memory but [`print_symbol`], and each byte is
+//! A [`Lexer`] returns the tokens of a text one by one. Nothing here takes memory but [`print_symbol`], and each byte is
 //! looked at a bounded number of times.
 #![tactic(auto)]
 

@@ -9,7 +9,9 @@ use Rattle.smtlib_reader.specs.declared.commands.SortHead.{SortHead}
 use Rattle.smtlib_reader.specs.declared.command_words.CommandWord.{CommandWord}
 use Rattle.problem_text.specs.Words.{is_among, left_out_commands}
 use Rattle.text_items.specs.ItemShapes.{excess, pairs_fault}
-use Rattle.problem_text.specs.Commands.{ScriptCommand as Shape, set_logic, without_effect, declare_sort, declare_fun, define_fun, assert_term, check_sat, exit, refused, script_shaped, assert_shape, declare_fun_shape, declare_const_shape, define_fun_shape, declare_sort_shape, set_logic_shape, attribute_shape, value_of_numeral}
+use Rattle.problem_text.specs.Commands.{ScriptCommand as Shape, set_logic, without_effect, declare_sort, declare_fun, define_fun, assert_term, check_sat}
+use Rattle.problem_text.specs.Commands.{exit, refused, script_shaped, assert_shape, declare_fun_shape, declare_const_shape, define_fun_shape}
+use Rattle.problem_text.specs.Commands.{declare_sort_shape, set_logic_shape, attribute_shape, value_of_numeral}
 use Rattle.text_items.specs.ItemsAt.{ItemsView, item_at, items_at}
 use Rattle.text_items.specs.Stepping.{IsSymbolAt, name_in}
 
@@ -17,9 +19,11 @@ use Rattle.text_items.specs.Stepping.{IsSymbolAt, name_in}
 abbrev pub command_said : ItemsView → Command → Shape
 command_said items (Command.SetLogic name) = set_logic (name_in items name)
 command_said items Command.WithoutEffect = without_effect
-command_said items (Command.DeclareSort head) = declare_sort (name_in items head.name) (place_of (item_at items head.arity)) (value_of_numeral (item_at items head.arity))
+command_said items (Command.DeclareSort head) = declare_sort (name_in items head.name) (place_of (item_at items head.arity))
+    (value_of_numeral (item_at items head.arity))
 command_said items (Command.DeclareFun head) = declare_fun (name_in items head.name) (items_at items head.first head.end) (item_at items head.target)
-command_said items (Command.DefineFun head body) = define_fun (name_in items head.name) (items_at items head.first head.end) (item_at items head.target) (item_at items body)
+command_said items (Command.DefineFun head body) = define_fun (name_in items head.name) (items_at items head.first head.end) (item_at items head.target)
+    (item_at items body)
 command_said items (Command.Assert term) = assert_term (item_at items term)
 command_said items Command.CheckSat = check_sat
 command_said items Command.Exit = exit

@@ -80,7 +80,8 @@ fn command_so(
     places: Places,
     at: usize,
 ) -> Result<Command, Refusal>
-    ensures { IsScriptCommand items.now result (script_command_so word checked places.start places.word_start (items_at items.now at (length items.now.nodes))) }
+    ensures { IsScriptCommand items.now result
+        (script_command_so word checked places.start places.word_start (items_at items.now at (length items.now.nodes))) }
 {
     match word {
         CommandWord::Assert if checked => Err(refused(Cause::LeftOut, places.word_start)),

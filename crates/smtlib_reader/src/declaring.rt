@@ -40,7 +40,9 @@ pub(crate) fn set_logic(
     name: usize,
 ) -> Result<(), ReadFault>
     requires there { IsCommandThere items.now (command.SetLogic name) }
-    ensures performs { (e : ReadSettings) (s : Table) (v : TermsView) (sc : Script) → IsSession (both s v) (session_in e session.old) sc → ComesTo terms_read v (both s v) (IsPerformed (both s v) (session_in e session.new)) (script_performed e.replaces_lets (command_said items.now (command.SetLogic name)) sc) result }
+    ensures performs { (e : ReadSettings) (s : Table) (v : TermsView) (sc : Script) → IsSession (both s v) (session_in e session.old) sc →
+        ComesTo terms_read v (both s v) (IsPerformed (both s v) (session_in e session.new))
+        (script_performed e.replaces_lets (command_said items.now (command.SetLogic name)) sc) result }
 {
     let spelled = name_of(items, name);
     let place = items.node(name).token.start;
@@ -63,7 +65,9 @@ pub(crate) fn declare_sort(
 ) -> Result<(), ReadFault>
     requires there { IsCommandThere items.now (command.DeclareSort head) }
     requires room { length symbols.old.sorts < 2 ^ 30 }
-    ensures performs { (v : TermsView) (d : SessionView) (sc : Script) → IsSession (both symbols.old v) d sc → ComesTo terms_read v (both symbols.new v) (IsPerformed (both symbols.new v) d) (script_performed d.reader.replaces_lets (command_said items.now (command.DeclareSort head)) sc) result }
+    ensures performs { (v : TermsView) (d : SessionView) (sc : Script) → IsSession (both symbols.old v) d sc →
+        ComesTo terms_read v (both symbols.new v) (IsPerformed (both symbols.new v) d)
+        (script_performed d.reader.replaces_lets (command_said items.now (command.DeclareSort head)) sc) result }
     ensures symbols { Keeps symbols.old symbols.new }
     ensures few { length symbols.new.sorts ≤ length symbols.old.sorts + 1 }
     ensures leaves { symbols.new.leaves ≡ symbols.old.leaves }
@@ -93,7 +97,7 @@ fn is_sort_taken(symbols: &Symbols, name: &[u8]) -> bool
     repeats::is_built_in(name) || symbols.find_sort(name).is_some()
 }
 
-/// Adds a sort of a name that is free. Refused for want of memory alone.
+/// Adds a sort of a name that is free. Refused only when out of memory.
 #[tactic(auto, using(crate::proofs::DeclaredSorts::sort_is_free))]
 fn add_sort(symbols: &mut Symbols, name: &[u8]) -> Result<(), ReadFault>
     requires free { (is_built_in name.now || is_among symbols.old.sorts name.now) ≡ false }
@@ -122,7 +126,9 @@ pub(crate) fn declare_fun(
     requires there { IsCommandThere items.now (command.DeclareFun head) }
     requires session { (v : TermsView) × (sc : Script) × IsSession (both symbols.old v) (session_in settings.now session.old) sc }
     requires room { length symbols.old.leaves < 2 ^ 30 }
-    ensures performs { (v : TermsView) (sc : Script) → IsSession (both symbols.old v) (session_in settings.now session.old) sc → ComesTo terms_read v (both symbols.new v) (IsPerformed (both symbols.new v) (session_in settings.now session.new)) (script_performed settings.now.replaces_lets (command_said items.now (command.DeclareFun head)) sc) result }
+    ensures performs { (v : TermsView) (sc : Script) → IsSession (both symbols.old v) (session_in settings.now session.old) sc →
+        ComesTo terms_read v (both symbols.new v) (IsPerformed (both symbols.new v) (session_in settings.now session.new))
+        (script_performed settings.now.replaces_lets (command_said items.now (command.DeclareFun head)) sc) result }
     ensures symbols { Keeps symbols.old symbols.new }
     ensures few { length symbols.new.leaves ≤ length symbols.old.leaves + 1 }
     ensures sorts { symbols.new.sorts ≡ symbols.old.sorts }
@@ -143,7 +149,7 @@ pub(crate) fn declare_fun(
     )
 }
 
-/// Adds a function of a name that is free, and gives the name its entry. Refused for want of memory alone.
+/// Adds a function of a name that is free, and gives the name its entry. Refused only when out of memory.
 fn add_function(
     symbols: &mut Symbols,
     names: &mut Names,

@@ -4,7 +4,8 @@ ghost use Rattle.sym_table.specs.Table.{Keeps};
 ghost use Rattle.term_model.specs.Terms.{Var};
 ghost use Rattle.term_pool.specs.Views.{TermsView, KeepsTerms};
 ghost use Rattle.smtlib_reader.specs.CommandShapes.{command_said, IsCommandThere, IsFunctionThere};
-ghost use Rattle.smtlib_reader.specs.Defining.{IsSignatureRead, signature_from, IsDefining, IsDefined, macro_defined, AreListed, IsReadyForBody, AddsParameter, IsBodyRead, body_read};
+ghost use Rattle.smtlib_reader.specs.Defining.{IsSignatureRead, signature_from, IsDefining, IsDefined, macro_defined, AreListed, IsReadyForBody};
+ghost use Rattle.smtlib_reader.specs.Defining.{AddsParameter, IsBodyRead, body_read};
 ghost use Rattle.text_items.specs.ItemShapes.{pairs_fault};
 ghost use Rattle.term_names.specs.InScope.{AreValuesBound};
 ghost use Rattle.problem_text.specs.Names.{itself};
@@ -63,7 +64,9 @@ pub(crate) fn define_fun(
     requires session { (sc : Script) × IsSession (both symbols.old terms.old) (session_in settings.now session.old) sc }
     requires room { length symbols.old.leaves + length items.now.nodes ≤ 2 ^ 30 }
     requires room_for_sorts { length symbols.old.sorts + length items.now.nodes ≤ 2 ^ 30 }
-    ensures performs { (sc : Script) → IsSession (both symbols.old terms.old) (session_in settings.now session.old) sc → ComesTo terms_read terms.old (both symbols.new terms.new) (IsPerformed (both symbols.new terms.new) (session_in settings.now session.new)) (script_performed settings.now.replaces_lets (command_said items.now (command.DefineFun definition.head definition.body)) sc) result }
+    ensures performs { (sc : Script) → IsSession (both symbols.old terms.old) (session_in settings.now session.old) sc →
+        ComesTo terms_read terms.old (both symbols.new terms.new) (IsPerformed (both symbols.new terms.new) (session_in settings.now session.new))
+        (script_performed settings.now.replaces_lets (command_said items.now (command.DefineFun definition.head definition.body)) sc) result }
     ensures few { length symbols.new.leaves ≤ length symbols.old.leaves + length items.now.nodes }
     ensures few_sorts { length symbols.new.sorts ≤ length symbols.old.sorts + length items.now.nodes }
     ensures grow { Grow (both symbols.old terms.old) (both symbols.new terms.new) }
@@ -102,7 +105,8 @@ fn signature_at(
 ) -> Result<Sort, ReadFault>
     requires there { IsFunctionThere items.now head }
     requires pairs { pairs_fault (items_at items.now head.first head.end) ≡ None }
-    ensures { IsSignatureRead items.now head.end parameters.new.items (signature_from symbols.now.sorts (items_at items.now head.first head.end) (item_at items.now head.target)) result }
+    ensures { IsSignatureRead items.now head.end parameters.new.items
+        (signature_from symbols.now.sorts (items_at items.now head.first head.end) (item_at items.now head.target)) result }
 {
     parameters_at(alloc, items, head.first, head.end, symbols, parameters)?;
     let sort = sort_at(items, head.target, symbols)?;
@@ -132,7 +136,9 @@ fn define_macro(
     requires defining { (sc : Script) × IsDefining (both symbols.old terms.old) (reader_in settings.now reader.old) new.now.name.now sc }
     requires few_parameters { length new.now.parameters.now ≤ new.now.body }
     requires room { length symbols.old.leaves + length items.now.nodes ≤ 2 ^ 30 }
-    ensures defines { (sc : Script) → IsDefining (both symbols.old terms.old) (reader_in settings.now reader.old) new.now.name.now sc → ComesTo terms_read terms.old (both symbols.new terms.new) (IsDefined (both symbols.new terms.new) (reader_in settings.now reader.new)) (macro_defined new.now.name.now (parameters_said items.now new.now.parameters.now) new.now.target (item_at items.now new.now.body) sc) result }
+    ensures defines { (sc : Script) → IsDefining (both symbols.old terms.old) (reader_in settings.now reader.old) new.now.name.now sc →
+        ComesTo terms_read terms.old (both symbols.new terms.new) (IsDefined (both symbols.new terms.new) (reader_in settings.now reader.new))
+        (macro_defined new.now.name.now (parameters_said items.now new.now.parameters.now) new.now.target (item_at items.now new.now.body) sc) result }
     ensures few { length symbols.new.leaves ≤ length symbols.old.leaves + length items.now.nodes }
     ensures grow { GrowByTerms (both symbols.old terms.old) (both symbols.new terms.new) }
 {
@@ -161,9 +167,13 @@ fn enter_parameters(
     parameters: &[Parameter],
 ) -> Result<Listed, ReadFault>
     requires parameters { All (IsParameterThere items.now) parameters.now }
-    requires idle { (v : TermsView) × (sc : Script) × IsReaderIdle (both symbols.old v) (reader_in settings.now reader.old) sc (top settings.now.replaces_lets) }
+    requires idle { (v : TermsView) × (sc : Script) × IsReaderIdle (both symbols.old v) (reader_in settings.now reader.old) sc
+        (top settings.now.replaces_lets) }
     requires room { length symbols.old.leaves + length parameters.now ≤ 2 ^ 30 }
-    ensures entered { (v : TermsView) (sc : Script) → IsReaderIdle (both symbols.old v) (reader_in settings.now reader.old) sc (top settings.now.replaces_lets) → IfOk result (λ l. AreListed symbols.new l (parameters_said items.now parameters.now) × IsReadyForBody (both symbols.new v) (reader_in settings.now reader.new) (parameters_said items.now parameters.now) sc) }
+    ensures entered { (v : TermsView) (sc : Script) →
+        IsReaderIdle (both symbols.old v) (reader_in settings.now reader.old) sc (top settings.now.replaces_lets) →
+        IfOk result (λ l. AreListed symbols.new l (parameters_said items.now parameters.now) ×
+        IsReadyForBody (both symbols.new v) (reader_in settings.now reader.new) (parameters_said items.now parameters.now) sc) }
     ensures memory { IfErr result (λ fault. fault ≡ ReadFault.Memory) }
     ensures symbols { AddsNoSymbols symbols.old symbols.new }
     ensures few { length symbols.new.leaves ≤ length symbols.old.leaves + length parameters.now }
@@ -199,7 +209,8 @@ fn list_parameters(
     requires parameters { All (IsParameterThere items.now) parameters.now }
     requires no_values { values.old ≡ [] }
     requires room { length symbols.old.leaves + length parameters.now ≤ 2 ^ 30 }
-    ensures bound { (v : TermsView) → IfOk result (λ leaves. AreValuesBound (both symbols.new v) leaves.items values.new (map itself (parameters_said items.now parameters.now))) }
+    ensures bound { (v : TermsView) → IfOk result
+        (λ leaves. AreValuesBound (both symbols.new v) leaves.items values.new (map itself (parameters_said items.now parameters.now))) }
     ensures memory { IfErr result (λ fault. fault ≡ ReadFault.Memory) }
     ensures symbols { AddsNoSymbols symbols.old symbols.new }
     ensures few { length symbols.new.leaves ≤ length symbols.old.leaves + length parameters.now }
@@ -222,7 +233,8 @@ fn add_parameter(
 ) -> Result<u32, ReadFault>
     requires parameter { IsParameterThere items.now parameter.now }
     requires room { length symbols.old.leaves < 2 ^ 30 }
-    ensures added { (v : TermsView) → IfOk result (λ leaf. AddsParameter (both symbols.new v) values.old values.new leaf (parameter_said items.now parameter.now)) }
+    ensures added { (v : TermsView) → IfOk result
+        (λ leaf. AddsParameter (both symbols.new v) values.old values.new leaf (parameter_said items.now parameter.now)) }
     ensures memory { IfErr result (λ fault. fault ≡ ReadFault.Memory) }
     ensures symbols { AddsNoSymbols symbols.old symbols.new }
     ensures few { length symbols.new.leaves ≤ length symbols.old.leaves + 1 }
@@ -253,7 +265,9 @@ fn read_body(
     requires body { body < length items.now.nodes }
     requires ready { (xs : List Var) × (sc : Script) × IsReadyForBody (both symbols.old terms.old) (reader_in settings.now reader.old) xs sc }
     requires room { length symbols.old.leaves + (length items.now.nodes - body) ≤ 2 ^ 30 }
-    ensures reads { (xs : List Var) (sc : Script) → IsReadyForBody (both symbols.old terms.old) (reader_in settings.now reader.old) xs sc → ComesTo terms_read terms.old (both symbols.new terms.new) (IsBodyRead (both symbols.new terms.new) (reader_in settings.now reader.new)) (body_read xs (item_at items.now body) sc) result }
+    ensures reads { (xs : List Var) (sc : Script) → IsReadyForBody (both symbols.old terms.old) (reader_in settings.now reader.old) xs sc →
+        ComesTo terms_read terms.old (both symbols.new terms.new) (IsBodyRead (both symbols.new terms.new) (reader_in settings.now reader.new))
+        (body_read xs (item_at items.now body) sc) result }
     ensures few { length symbols.new.leaves ≤ length symbols.old.leaves + (length items.now.nodes - body) }
     ensures grow { GrowByTerms (both symbols.old terms.old) (both symbols.new terms.new) }
 {

@@ -25,7 +25,7 @@ pub(crate) struct Parameter {
 }
 
 /// Reads the parameters whose pairs stand from `first` to before `end`, into `out`, which is emptied first. No two
-/// have one name, and none has a built-in word for its name. The first fault in the order of the text is answered.
+/// have one name, and none has a built-in word for its name. The first fault in the order of the text is returned.
 /// A name is looked up among those before it by a hash.
 pub(crate) fn parameters_at(
     alloc: Global,
@@ -80,7 +80,8 @@ fn parameter_at<'a>(
 ) -> Result<Parameter, ReadFault>
     requires inside { k < length items.now.nodes }
     requires pair { pair_fault (item_at items.now k) ≡ None }
-    ensures { (names : List (List ℕ)) → AreKeysOf earlier.old.keys names → IsParameterRead items.now names earlier.new.keys result (parameter_from symbols.now.sorts names (item_at items.now k)) }
+    ensures { (names : List (List ℕ)) → AreKeysOf earlier.old.keys names →
+        IsParameterRead items.now names earlier.new.keys result (parameter_from symbols.now.sorts names (item_at items.now k)) }
 {
     let pair = items.node(k);
     // A pair without a fault has two items.
@@ -96,10 +97,12 @@ fn parameter_at<'a>(
     Ok(Parameter { name: k + 1, sort })
 }
 
-/// Adds a name to those before it, and answers whether it may be used: it is no built-in word and none of them.
+/// Adds a name to those before it, and returns whether it may be used: it is no built-in word and none of them.
 fn add_name<'a>(name: &'a [u8], earlier: &mut IndexSet<&'a [u8]>) -> Result<bool, ReadFault>
-    ensures free { IfOk result (λ free. (names : List (List ℕ)) → AreKeysOf earlier.old.keys names → free ≡ not (is_built_in name.now || is_among names name.now)) }
-    ensures added { IfOk result (λ free. (names : List (List ℕ)) → AreKeysOf earlier.old.keys names → IsTrue free → AreKeysOf earlier.new.keys (name.now ∷ names)) }
+    ensures free { IfOk result (λ free. (names : List (List ℕ)) → AreKeysOf earlier.old.keys names →
+        free ≡ not (is_built_in name.now || is_among names name.now)) }
+    ensures added { IfOk result (λ free. (names : List (List ℕ)) → AreKeysOf earlier.old.keys names → IsTrue free →
+        AreKeysOf earlier.new.keys (name.now ∷ names)) }
     ensures memory { IfErr result (λ fault. fault ≡ ReadFault.Memory) }
 {
     if is_built_in(name) {

@@ -33,7 +33,9 @@ pub(crate) fn perform(
     requires session { (sc : Script) × IsSession (both symbols.old terms.old) (session_in settings.now session.old) sc }
     requires room { length symbols.old.leaves + length items.now.nodes ≤ 2 ^ 30 }
     requires room_for_sorts { length symbols.old.sorts + length items.now.nodes ≤ 2 ^ 30 }
-    ensures performs { (sc : Script) → IsSession (both symbols.old terms.old) (session_in settings.now session.old) sc → ComesTo terms_read terms.old (both symbols.new terms.new) (IsPerformed (both symbols.new terms.new) (session_in settings.now session.new)) (script_performed settings.now.replaces_lets (command_said items.now command) sc) result }
+    ensures performs { (sc : Script) → IsSession (both symbols.old terms.old) (session_in settings.now session.old) sc →
+        ComesTo terms_read terms.old (both symbols.new terms.new) (IsPerformed (both symbols.new terms.new) (session_in settings.now session.new))
+        (script_performed settings.now.replaces_lets (command_said items.now command) sc) result }
     ensures few { length symbols.new.leaves ≤ length symbols.old.leaves + length items.now.nodes }
     ensures few_sorts { length symbols.new.sorts ≤ length symbols.old.sorts + length items.now.nodes }
     ensures grow { Grow (both symbols.old terms.old) (both symbols.new terms.new) }

@@ -44,7 +44,8 @@ fn new_session(alloc: Global) -> Session
 
 /// The problem that was read, which is taken out of the session.
 fn problem_of(alloc: Global, session: &mut Session) -> Problem
-    ensures { (e : ReadSettings) (s : Table) (v : TermsView) (sc : Script) → e.base ≡ None → IsSession (both s v) (session_in e session.old) sc → IsProblemOf s v result sc }
+    ensures { (e : ReadSettings) (s : Table) (v : TermsView) (sc : Script) → e.base ≡ None → IsSession (both s v) (session_in e session.old) sc →
+        IsProblemOf s v result sc }
 {
     let names = replace(&mut session.reader.names, Names::new(alloc));
     let assertions = replace(&mut session.assertions, Vec::new(alloc));
@@ -55,8 +56,8 @@ fn problem_of(alloc: Global, session: &mut Session) -> Problem
 ///
 /// The table of symbols has to be new. Declared sorts and functions, numerals and variables are put into it, no more than
 /// the text has bytes, and the terms into the pool. The first fault is one of form, or else the first one of the commands in
-/// their order; inside a command its word, then its shape, then its sorts and terms as they stand. Refused besides for
-/// want of memory, and where the pool had no room for a cell of a term that was read.
+/// their order; inside a command its word, then its shape, then its sorts and terms as they stand. Refused besides when
+/// out of memory, and where the pool had no room for a cell of a term that was read.
 ///
 /// Takes time in proportion to the text, and for each use of a macro to the distinct cells of its body, and no stack that
 /// grows with the text.
@@ -76,7 +77,7 @@ pub fn read_problem(
     ensures fault { (r : Refusal) → result ≡ Err (fault.Text r) → IsFirstFault bytes.now flags.expand_lets r }
     ensures refused { (r : Refusal) → IsFirstFault bytes.now flags.expand_lets r → IfOk result (λ _. ⊥) }
 
-    // It places only cells of terms that are read, and is refused for want of room for one.
+    // It places only cells of terms that are read, and is refused for lack of room for one.
     ensures placed { PlacesCellsOf symbols.new terms.old.pass terms.new.pass (IsCounted bytes.now flags.expand_lets) }
     ensures full { result ≡ Err fault.PoolFull → LacksCellOf symbols.new terms.new.pass (IsCounted bytes.now flags.expand_lets) }
     ensures few { length symbols.new.leaves ≤ length symbols.old.leaves + length bytes.now }

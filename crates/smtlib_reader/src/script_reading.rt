@@ -23,10 +23,11 @@ use term_names::settings::ReadSettings;
 use term_pool::Terms;
 use text_items::nodes::{ItemText, Node, read_item};
 
-/// Reads the next item of a text into the nodes, and answers whether there was one. Refuses want of memory alone.
+/// Reads the next item of a text into the nodes, and returns whether there was one. Refuses only when out of memory.
 fn next_item(lexer: &mut Lexer<'_>, nodes: &mut Vec<Node>) -> Result<bool, ReadFault>
     requires items { (items : Items) × HasItems (at.source lexer.old) (at.position lexer.old) items }
-    ensures item { (items : Items) → HasItems (at.source lexer.old) (at.position lexer.old) items → IfOk result (IsItemFound (at.source lexer.new) nodes.new.items (at.position lexer.new) items) }
+    ensures item { (items : Items) → HasItems (at.source lexer.old) (at.position lexer.old) items →
+        IfOk result (IsItemFound (at.source lexer.new) nodes.new.items (at.position lexer.new) items) }
     ensures source { at.source lexer.new ≡ at.source lexer.old }
     ensures behind { at.position lexer.old ≤ at.position lexer.new }
     ensures inside { IfOk result (λ found. IsTrue found → at.position lexer.new ≤ length (at.source lexer.old)) }
@@ -60,15 +61,22 @@ fn read_command(
     terms: &mut Terms<'_>,
     session: &mut Session,
 ) -> Result<bool, ReadFault>
-    requires left { (sc : Script) × (whole : Outcome Script ⊤) × AreLeft (at.source lexer.old) settings.now.replaces_lets (at.position lexer.old) sc whole × IsSession (both symbols.old terms.old) (session_in settings.now session.old) sc }
+    requires left { (sc : Script) × (whole : Outcome Script ⊤) × AreLeft (at.source lexer.old) settings.now.replaces_lets (at.position lexer.old) sc whole ×
+        IsSession (both symbols.old terms.old) (session_in settings.now session.old) sc }
     requires room { most_after (length symbols.old.leaves) (at.source lexer.old) (at.position lexer.old) ≤ 2 ^ 30 }
     requires room_for_sorts { most_after (length symbols.old.sorts) (at.source lexer.old) (at.position lexer.old) ≤ 2 ^ 30 }
-    ensures reads { (sc : Script) (whole : Outcome Script ⊤) → AreLeft (at.source lexer.old) settings.now.replaces_lets (at.position lexer.old) sc whole → IsSession (both symbols.old terms.old) (session_in settings.now session.old) sc → Comes terms_read terms.old (both symbols.new terms.new) (IsCommandRead (at.source lexer.new) (both symbols.new terms.new) (session_in settings.now session.new) (at.position lexer.new) whole) whole result }
+    ensures reads { (sc : Script) (whole : Outcome Script ⊤) → AreLeft (at.source lexer.old) settings.now.replaces_lets (at.position lexer.old) sc whole →
+        IsSession (both symbols.old terms.old) (session_in settings.now session.old) sc →
+        Comes terms_read terms.old (both symbols.new terms.new)
+        (IsCommandRead (at.source lexer.new) (both symbols.new terms.new) (session_in settings.now session.new) (at.position lexer.new) whole) whole result }
     ensures source { at.source lexer.new ≡ at.source lexer.old }
     ensures progress { IfOk result (λ found. IsTrue found → at.position lexer.old < at.position lexer.new) }
     ensures inside { IfOk result (λ found. IsTrue found → at.position lexer.new ≤ length (at.source lexer.old)) }
-    ensures few { IfOk result (λ found. IsTrue found → most_after (length symbols.new.leaves) (at.source lexer.new) (at.position lexer.new) ≤ most_after (length symbols.old.leaves) (at.source lexer.old) (at.position lexer.old)) }
-    ensures few_sorts { IfOk result (λ found. IsTrue found → most_after (length symbols.new.sorts) (at.source lexer.new) (at.position lexer.new) ≤ most_after (length symbols.old.sorts) (at.source lexer.old) (at.position lexer.old)) }
+    ensures few { IfOk result (λ found. IsTrue found → most_after (length symbols.new.leaves) (at.source lexer.new) (at.position lexer.new) ≤ most_after
+        (length symbols.old.leaves) (at.source lexer.old) (at.position lexer.old)) }
+    ensures few_sorts { IfOk result (λ found. IsTrue found →
+        most_after (length symbols.new.sorts) (at.source lexer.new) (at.position lexer.new) ≤ most_after (length symbols.old.sorts) (at.source lexer.old)
+        (at.position lexer.old)) }
     ensures few_at_all { length symbols.new.leaves ≤ most_after (length symbols.old.leaves) (at.source lexer.old) (at.position lexer.old) }
     ensures grow { Grow (both symbols.old terms.old) (both symbols.new terms.new) }
 {
@@ -93,11 +101,15 @@ pub(crate) fn read_commands(
     terms: &mut Terms<'_>,
     session: &mut Session,
 ) -> Result<(), ReadFault>
-    requires left { (sc : Script) × (whole : Outcome Script ⊤) × AreLeft (at.source lexer.old) settings.now.replaces_lets (at.position lexer.old) sc whole × IsSession (both symbols.old terms.old) (session_in settings.now session.old) sc }
+    requires left { (sc : Script) × (whole : Outcome Script ⊤) × AreLeft (at.source lexer.old) settings.now.replaces_lets (at.position lexer.old) sc whole ×
+        IsSession (both symbols.old terms.old) (session_in settings.now session.old) sc }
     requires inside { at.position lexer.old ≤ length (at.source lexer.old) }
     requires room { most_after (length symbols.old.leaves) (at.source lexer.old) (at.position lexer.old) ≤ 2 ^ 30 }
     requires room_for_sorts { most_after (length symbols.old.sorts) (at.source lexer.old) (at.position lexer.old) ≤ 2 ^ 30 }
-    ensures reads { (sc : Script) (whole : Outcome Script ⊤) → AreLeft (at.source lexer.old) settings.now.replaces_lets (at.position lexer.old) sc whole → IsSession (both symbols.old terms.old) (session_in settings.now session.old) sc → ComesTo terms_read terms.old (both symbols.new terms.new) (IsPerformed (both symbols.new terms.new) (session_in settings.now session.new)) whole result }
+    ensures reads { (sc : Script) (whole : Outcome Script ⊤) → AreLeft (at.source lexer.old) settings.now.replaces_lets (at.position lexer.old) sc whole →
+        IsSession (both symbols.old terms.old) (session_in settings.now session.old) sc →
+        ComesTo terms_read terms.old (both symbols.new terms.new) (IsPerformed (both symbols.new terms.new) (session_in settings.now session.new)) whole
+        result }
     ensures few { length symbols.new.leaves ≤ most_after (length symbols.old.leaves) (at.source lexer.old) (at.position lexer.old) }
     ensures grow { Grow (both symbols.old terms.old) (both symbols.new terms.new) }
 {

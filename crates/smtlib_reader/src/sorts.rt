@@ -25,7 +25,8 @@ pub fn read_sort(lexer: &mut Lexer<'_>, first: Token, symbols: &Symbols) -> Resu
     requires formed { HasForm (at.source lexer.old) }
     requires first { IsFirstOfItem lexer.old first }
     ensures sort { (i : Item) (rest : List Token) → GoesOnWith lexer.old first i rest → result ≡ sort_from symbols.now.sorts i }
-    ensures behind { (i : Item) (rest : List Token) → GoesOnWith lexer.old first i rest → OnOk result (AreTokens (at.source lexer.new) (at.position lexer.new) rest) }
+    ensures behind { (i : Item) (rest : List Token) → GoesOnWith lexer.old first i rest →
+        OnOk result (AreTokens (at.source lexer.new) (at.position lexer.new) rest) }
     ensures source { at.source lexer.new ≡ at.source lexer.old }
 {
     match first.kind {

@@ -12,7 +12,7 @@ use term_names::faults::ReadFault;
 use text_items::nodes::ItemText;
 use text_items::refusals::refused;
 
-/// The sort that the item at node `k` stands for, as `read_sort` answers it. No memory is taken.
+/// The sort that the item at node `k` stands for, as `read_sort` returns it. No memory is taken.
 #[tactic(auto, unfolding(problem_text::specs::Sorts::sort_from))]
 pub fn sort_at(items: &ItemText<'_, '_>, k: usize, symbols: &Symbols) -> Result<Sort, Refusal>
     requires { k < length items.now.nodes }
@@ -27,7 +27,7 @@ pub fn sort_at(items: &ItemText<'_, '_>, k: usize, symbols: &Symbols) -> Result<
 
 /// Reads the sorts of the items that stand from node `first` on, to before node `end`, in place of what `out` held.
 ///
-/// Refused at the first of them that is no sort, or for want of memory.
+/// Refused at the first of them that is no sort, or when out of memory.
 #[tactic(auto, using(crate::proofs::ReadLists::sorts_read))]
 pub(crate) fn sorts_at(
     items: &ItemText<'_, '_>,

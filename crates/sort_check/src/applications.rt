@@ -17,7 +17,7 @@ use term_model::Sort;
 /// theories Core and Ints).
 ///
 /// The symbol is told by its leaf. No arguments stand for the symbol by itself. Where the arguments are well sorted
-/// and of these sorts, the application is well sorted and of the sort that is answered, and is not well sorted
+/// and of these sorts, the application is well sorted and of the sort that is returned, and is not well sorted
 /// where none is. Takes time in proportion to the number of sorts, and no memory.
 pub fn check_app(symbols: &Symbols, head: u32, sorts: &[Sort]) -> Option<Sort>
     requires { IsHead symbols.now head }

@@ -92,7 +92,8 @@ fn variable_sort(symbols: &Symbols, leaf: u32) -> Sort
 /// The sort of an application, or the first branch of an `ite`.
 fn application_step(symbols: &Symbols, terms: &mut Terms<'_>, r: Ref, head: u32) -> Step
     requires { IsWellSortedApplication symbols.now terms.old r head }
-    ensures step { (t : Term) (sort : Sort) → RefersTo symbols.now terms.old r t → IsOf t sort → IsHeadOf symbols.now head t → IsStep symbols.now terms.old t sort result }
+    ensures step { (t : Term) (sort : Sort) → RefersTo symbols.now terms.old r t → IsOf t sort → IsHeadOf symbols.now head t →
+        IsStep symbols.now terms.old t sort result }
     ensures same { terms.new ≡ terms.old }
 {
     let Kind::Op(op) = symbols.kind(head) else {

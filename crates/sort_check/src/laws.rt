@@ -21,6 +21,8 @@ pub fn heads_of_applications()
 /// An application is well sorted exactly where its arguments are and its symbol may be applied to arguments of their
 /// sorts, and then it has the sort that comes of it.
 pub fn applications_are_judged()
-    ensures well_sorted { (s : Table) (k : ℕ) (ts : List Term) (t : Term) (ss : List Sort) (sort : Sort) → IsHead s k → AreOf (terms_of ts) ss → IsAppliedLeaf s k ts t → LeafMeets s k (λ l. applied_sort l ss ≡ Some sort) → IsOf t sort }
-    ensures arguments { (s : Table) (k : ℕ) (ts : List Term) (t : Term) (sort : Sort) → IsHead s k → IsAppliedLeaf s k ts t → IsOf t sort → (ss : List Sort) × AreOf (terms_of ts) ss × LeafMeets s k (λ l. applied_sort l ss ≡ Some sort) }
+    ensures well_sorted { (s : Table) (k : ℕ) (ts : List Term) (t : Term) (ss : List Sort) (sort : Sort) → IsHead s k → AreOf (terms_of ts) ss →
+        IsAppliedLeaf s k ts t → LeafMeets s k (λ l. applied_sort l ss ≡ Some sort) → IsOf t sort }
+    ensures arguments { (s : Table) (k : ℕ) (ts : List Term) (t : Term) (sort : Sort) → IsHead s k → IsAppliedLeaf s k ts t → IsOf t sort →
+        (ss : List Sort) × AreOf (terms_of ts) ss × LeafMeets s k (λ l. applied_sort l ss ≡ Some sort) }
 {}

@@ -1,13 +1,12 @@
 -- Lists of cells that are looked at: what holds of each of their references.
 use Rattle.std.proofs.Common.{◌≡◌, ◌↔◌, ◌<◌, ◌≤◌, ◌^◌, ℕ, zero, suc, Bool, true, false, IsTrue, List, [], ◌∷◌, ◌++◌, length, get_or, subst, sym, arith, inl, inr}
 use Rattle.std.proofs.lemmas.Bool.{cases_lt}
-use Rattle.std.specs.List.{AllByRecursion, AllZip}
+use Rattle.std.specs.List.{AllByRecursion}
 use Rattle.pair_pool.specs.Trees.{Tree, leaf, cell}
 use Rattle.pair_pool.specs.Views.{PassView, HasPartsOfTrees, IsKnown, Knows}
 use Rattle.sym_table.specs.Table.{Table}
-use Rattle.term_model.specs.Terms.{Term}
 use Rattle.term_model.proofs.Lists.{all_joined}
-use Rattle.term_pool.specs.Views.{TermsView, RefersTo, IsTerm, IsKnownCell}
+use Rattle.term_pool.specs.Views.{TermsView, IsTerm, IsKnownCell}
 
 pub all_at : {X : Type 0} (P : X → Type 0) (xs : List X) (k : ℕ) (q : X) → AllByRecursion P xs → k < length xs → q ≡ get_or xs k q → P q
 all_at P [] k q h below is = absurd (omega (arith, below))

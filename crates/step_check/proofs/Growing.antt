@@ -15,7 +15,6 @@ use Rattle.term_pool.specs.Views.{TermsView, KeepsPass, KeepsTerms, ReferToAll}
 use Rattle.term_reader.specs.declared.flags.Flags.{Flags}
 use Rattle.proof_contexts.specs.OpenAnchors.{AreKept, IsAnchorImage}
 use Rattle.term_pool.specs.Placing.{LacksCellOf, PlacesCellsOf}
-use Rattle.term_pool.proofs.Keeping.{terms-refl}
 use Rattle.term_pool.proofs.PlacedCells.{lacks_more, places_more, places_more_then, places_none}
 use Rattle.proof_contexts.specs.declared.scopes.OpenScopes.{OpenScopes}
 use Rattle.rules_refl.specs.Sides.{IsSideOf}

@@ -1,6 +1,8 @@
-pub mod KindLemmas
+pub mod JudgingLemmas
 pub mod StatusLemmas
 pub mod AssumeLemmas
 pub mod ListLemmas
 pub mod Growing
 pub mod AheadLemmas
+pub mod PremiseLemmas
+pub mod RatioLemmas

@@ -1,30 +1,45 @@
--- Public. What the statuses of a proof's commands are asked by: the flags and the problem's assertions.
-use Rattle.std.specs.Prelude.{◌≡◌, ◌⊎◌, ℕ, List}
+-- Public. What the statuses of a proof's commands are asked by, the flags and the problem's assertions; and what is said of
+-- one step.
+use Rattle.std.specs.Prelude.{◌≡◌, ◌⊎◌, ℕ, List, if◌then◌else◌}
 use Rattle.sym_table.specs.Table.{Table}
 use Rattle.term_model.specs.Terms.{Var, Term}
 use Rattle.term_pool.specs.Views.{TermsView, ReferToAll}
 use Rattle.rule_model.specs.declared.rules.Mode.{Mode}
 use Rattle.rule_model.specs.declared.statuses.Status.{Status}
+use Rattle.rule_model.specs.Conditions.{IsMetAt, IsTooWideAt}
 use Rattle.rule_model.specs.Proofs.{ProofItems}
 use Rattle.rule_model.specs.Statuses.{Checking, AreStatuses}
 use Rattle.rule_model.specs.declared.rules.Rule.{Rule}
 use Rattle.rule_model.specs.Reading.{rule_at}
+use Rattle.term_parts.specs.declared.answers.Answer.{Answer}
 use Rattle.proof_store.specs.Meaning.{StandForItems}
 use Rattle.proof_contexts.specs.OpenAnchors.{IsAnchorImage}
 use Rattle.term_pool.specs.Placing.{LacksCellOf, PlacesCellsOf}
 use Rattle.rules_refl.specs.Sides.{IsSideOf}
 use Rattle.term_reader.specs.declared.flags.Flags.{Flags}
-use Rattle.step_check.specs.Judged.{is_judged}
 
--- The check that flags ask for: in check mode, by the rules that are judged, a step by another rule being a hole where the
--- flags say so.
+-- the mode that flags ask for
+abbrev pub mode_of : Flags → Mode
+mode_of flags = if flags.strict then Mode.Strict else Mode.Check
+
+-- the check that flags ask for: in their mode, a step by an unknown rule being a hole where they say so
 abbrev pub checking : Flags → List Term → Checking
 checking flags assertions = record {
-  mode = Mode.Check;
-  is_judged = is_judged;
+  mode = mode_of flags;
   unknown_are_holes = flags.ignore_unknown;
   assertions = assertions;
 }
+
+-- the answer to the step at an index: its numbers are too wide, or else its condition is met or not
+abbrev pub IsAnswerAt : Mode → ProofItems Var Term → ℕ → Answer → Type 0
+IsAnswerAt mode proof i Answer.Met = (¬ IsTooWideAt mode proof i) × IsMetAt mode proof i
+IsAnswerAt mode proof i Answer.NotMet = (¬ IsTooWideAt mode proof i) × (¬ IsMetAt mode proof i)
+IsAnswerAt mode proof i Answer.TooWide = IsTooWideAt mode proof i
+
+-- the same of the proof for which the references stand
+abbrev pub TellsMet : Mode → Table → TermsView → ProofItems ℕ ℕ → ℕ → Answer → Type 0
+TellsMet mode s v refs i answer =
+    (proof : ProofItems Var Term) → StandForItems s v refs proof → IsAnswerAt mode proof i answer
 
 -- the references stand for assertions
 pub record AreAsserted (s : Table) (v : TermsView) (refs : List ℕ) : Type 0 where

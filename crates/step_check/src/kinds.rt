@@ -1,45 +1,29 @@
-//! How the rule of a command is judged.
+//! How flags have commands judged.
 
-ghost use Rattle.std.specs.Prelude.{◌≢◌};
-ghost use Rattle.rule_model.specs.declared.rules.Rule.TheVariants as Rule;
-ghost use Rattle.step_check.specs.Steps.{IsKindOf, IsKindOfStep};
+ghost use Rattle.std.specs.Prelude.{◌≡◌};
+ghost use Rattle.step_check.specs.Statuses.{mode_of};
+ghost use Rattle.step_check.specs.Steps.{IsKindOf};
 
-use crate::families::{Family, family_of};
-use rule_model::Rule;
+use rule_model::{Kind, Mode, Rule};
 use term_reader::Flags;
 
-/// How the rule of a command is judged.
-#[derive(Clone, Copy)]
-pub(crate) enum Kind {
-    /// The command assumes its term.
-    Assumed,
-    /// It is taken as it stands, as a hole.
-    Hole,
-    /// It is not judged.
-    Unknown,
-    /// By the condition of its rule.
-    Conditional(Family),
-}
-
-/// How a rule is judged that leaves no hole by itself.
-fn kind_of_step(rule: Rule, flags: Flags) -> Kind
-    ensures { IsKindOfStep flags rule result }
+/// The mode in which steps are judged.
+pub(crate) fn mode_of(flags: Flags) -> Mode
+    ensures { result ≡ mode_of flags }
 {
-    match family_of(rule) {
-        Some(family) => Kind::Conditional(family),
-        None if flags.ignore_unknown => Kind::Hole,
-        None => Kind::Unknown,
+    if flags.strict {
+        Mode::Strict
+    } else {
+        Mode::Check
     }
 }
 
-/// How the rule of a command is judged. `refl` is judged apart, over the open scopes.
+/// How the command of a rule is judged: one by an unknown rule as a hole, where the flags say so.
 pub(crate) fn kind_of(rule: Rule, flags: Flags) -> Kind
-    requires { rule ≢ Rule.Refl }
     ensures { IsKindOf flags rule result }
 {
-    match rule {
-        Rule::Assume => Kind::Assumed,
-        Rule::Hole | Rule::LiaGeneric | Rule::RareRewrite | Rule::AllSimplify => Kind::Hole,
-        _ => kind_of_step(rule, flags),
+    match rule.kind() {
+        Kind::Unknown if flags.ignore_unknown => Kind::Hole,
+        kind => kind,
     }
 }

@@ -1,18 +1,20 @@
-//! The status of each command of a proof.
+//! The status of each command of a proof, and whether one step meets the condition of its rule.
 //!
 //! - `checking`: all commands in file order, and `steps`: one command.
-//! - `kinds`: how the rule of a command is judged; `families`: the rules that are judged by their condition, each family by
-//!   the crate that has it.
+//! - `kinds`: what flags ask for: the mode, and how the command of a rule is judged.
+//! - `judging`: the step at an index, and `families`: by the crate that has its rule's family.
 //! - `looking_ahead`: cells that are looked at before they are needed.
-//! - `assumes`: the assertions of the problem, and whether a term is one of them up to flips.
+//! - `assumes`: the assertions of the problem, and whether a term is one of them.
 #![tactic(auto)]
 
 mod assumes;
 mod checking;
 mod families;
+mod judging;
 mod kinds;
 mod looking_ahead;
 mod steps;
 
 pub use checking::statuses;
-pub use proof_store::{RuleStop, Status};
+pub use judging::check;
+pub use proof_store::{Answer, RuleStop, Status};

@@ -98,8 +98,8 @@ impl Ahead {
         }
     }
 
-    /// Looks at cells of the command at an index and of those behind it, where no earlier call has. Refuses want of memory
-    /// alone.
+    /// Prefetches cells of the command at an index and of those behind it, where no earlier call has. Refuses only when out
+    /// of memory.
     pub(crate) fn look(
         &mut self,
         proof: &Proof,

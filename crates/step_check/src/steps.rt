@@ -4,22 +4,25 @@ ghost use Rattle.std.specs.Prelude.{◌≡◌, ◌≢◌, ◌<◌, ℕ, List, If
 ghost use Rattle.flip_keys.specs.Assertions.{references_of, AreAssertionsReady};
 ghost use Rattle.proof_store.specs.Checks.{StandForSome};
 ghost use Rattle.proof_store.specs.Meaning.{StandForItems};
-ghost use Rattle.proof_store.specs.declared.answers.RuleStop.TheVariants as RuleStop;
+ghost use Rattle.term_parts.specs.declared.answers.RuleStop.TheVariants as RuleStop;
+ghost use Rattle.rule_model.specs.declared.kinds.Family.TheVariants as Family;
+ghost use Rattle.rule_model.specs.declared.kinds.Kind.TheVariants as Kind;
 ghost use Rattle.rule_model.specs.declared.rules.Rule.TheVariants as Rule;
 ghost use Rattle.rule_model.specs.Conditions.{IsClauseOfTruths};
 ghost use Rattle.rule_model.specs.Proofs.{ProofItems};
 ghost use Rattle.rule_model.specs.Reading.{clause_at, rule_at};
+ghost use Rattle.rule_model.specs.RuleNames.{kind_of};
 ghost use Rattle.rule_model.specs.Scopes.{commands_in};
 ghost use Rattle.rules_resolution.specs.Steps.{IsShort};
 ghost use Rattle.term_model.specs.Terms.{Var, Term};
 ghost use Rattle.term_pool.specs.Views.{KeepsTerms};
 ghost use Rattle.proof_contexts.specs.OpenAnchors.{AreKept};
-ghost use Rattle.step_check.specs.Statuses.{LacksRoomForPlaced, PlacesOnly};
-ghost use Rattle.step_check.specs.Steps.{IsOfFamily, IsStatusOf, IsStatusOfAnswer, TellsAssume, TellsMet};
+ghost use Rattle.step_check.specs.Statuses.{LacksRoomForPlaced, PlacesOnly, TellsMet, mode_of};
+ghost use Rattle.step_check.specs.Steps.{IsStatusOf, IsStatusOfAnswer, TellsAssume};
 
 use crate::assumes::are_asserted;
-use crate::families::{Family, is_reflexivity};
-use crate::kinds::{Kind, kind_of};
+use crate::judging::{At, Rules, answer_at};
+use crate::kinds::{kind_of, mode_of};
 use crate::looking_ahead::Ahead;
 use flip_keys::{Assertions, keys_stay};
 use pair_pool::Memory;
@@ -27,10 +30,8 @@ use proof_contexts::{OpenScopes, commands_stand_in_scopes};
 use proof_store::{
     Answer, Proof, RuleStop, Status, commands_correspond, proofs_stay, terms_correspond,
 };
-use rule_model::{Mode, StepCause};
+use rule_model::{Family, Kind, StepCause};
 use rules_refl::refused;
-use rules_resolution::Scratch;
-use std::alloc::Global;
 use sym_table::Symbols;
 use term_pool::Terms;
 use term_reader::Flags;
@@ -43,69 +44,13 @@ pub(crate) struct Subject<'a> {
     pub(crate) flags: Flags,
 }
 
-/// What the rules keep from step to step, but refl.
-#[derive(Drop)]
-pub(crate) struct Rules {
-    pub(crate) alloc: Global,
-    pub(crate) resolution: Scratch,
-    pub(crate) arithmetic: rules_arith::Scratch,
-}
-
 /// What a check keeps from step to step.
 #[derive(Drop)]
-pub(crate) struct Kept {
+pub(crate) struct Kept<'a> {
     pub(crate) ahead: Ahead,
-    pub(crate) rules: Rules,
+    pub(crate) rules: Rules<'a>,
     pub(crate) asserted: Assertions,
     pub(crate) scopes: OpenScopes,
-}
-
-/// Whether the step at an index, whose rule is of a family, meets its condition.
-fn answer_at(
-    subject: &Subject<'_>,
-    family: Family,
-    i: u32,
-    rules: &mut Rules,
-    terms: &mut Terms<'_>,
-) -> Result<Answer, RuleStop>
-    requires index { i < commands_in subject.now.proof.now }
-    requires family { IsOfFamily family (rule_at subject.now.proof.now i) }
-    requires stand { StandForSome subject.now.symbols.now terms.old subject.now.proof.now }
-    requires short { IsShort subject.now.proof.now }
-    requires sorted { (of : ProofItems Var Term) → StandForItems subject.now.symbols.now terms.old subject.now.proof.now of → IsClauseOfTruths (clause_at of i) }
-    ensures met { IfOk result (TellsMet subject.now.symbols.now terms.old subject.now.proof.now i) }
-    ensures stop { IfErr result (λ stop. stop ≡ RuleStop.Memory) }
-    ensures same { terms.new ≡ terms.old }
-{
-    commands_correspond();
-    let alloc = rules.alloc;
-    let proof = subject.proof;
-    let symbols = subject.symbols;
-    match family {
-        Family::Resolution => rules
-            .resolution
-            .check(proof, i, Mode::Check, symbols, terms),
-        Family::Clausal => rules_clausal::check(alloc, proof, i, Mode::Check, symbols, terms),
-        Family::Definition => rules_ite::check(alloc, proof, i, Mode::Check, symbols, terms),
-        Family::Equality => rules_congruence::check(alloc, proof, i, Mode::Check, symbols, terms),
-        Family::Simplification => rules_simplify::check(
-            alloc,
-            proof,
-            i,
-            Mode::Check,
-            symbols,
-            terms,
-        ),
-        Family::Arithmetic => rules_arith::check(
-            &mut rules.arithmetic,
-            proof,
-            i,
-            Mode::Check,
-            symbols,
-            terms,
-        ),
-        Family::Closing => rules_subproof::check(alloc, proof, i, Mode::Check, symbols, terms),
-    }
 }
 
 /// The status of a step that is judged by its rule's condition.
@@ -129,7 +74,8 @@ fn may_assume(
     requires index { i < commands_in subject.now.proof.now }
     requires stand { StandForSome subject.now.symbols.now terms.old subject.now.proof.now }
     requires ready { AreAssertionsReady terms.old asserted.old }
-    ensures may { IfOk result (λ told. TellsAssume subject.now.flags subject.now.symbols.now terms.old (references_of asserted.old) subject.now.proof.now i told) }
+    ensures may { IfOk result (λ told. TellsAssume subject.now.flags subject.now.symbols.now terms.old
+        (references_of asserted.old) subject.now.proof.now i told) }
     ensures references { references_of asserted.new ≡ references_of asserted.old }
     ensures ready { OnOk result (AreAssertionsReady terms.new asserted.new) }
     ensures same { terms.new ≡ terms.old }
@@ -140,7 +86,8 @@ fn may_assume(
     if proof.scope_of(i) != 0 {
         return Ok(true);
     }
-    are_asserted(asserted, subject.symbols, terms, proof.clause(i))
+    let mode = mode_of(subject.flags);
+    are_asserted(asserted, mode, subject.symbols, terms, proof.clause(i))
 }
 
 /// The status of the assume at an index.
@@ -154,7 +101,8 @@ fn status_of_assume(
     requires assume { rule_at subject.now.proof.now i ≡ Rule.Assume }
     requires stand { StandForSome subject.now.symbols.now terms.old subject.now.proof.now }
     requires ready { AreAssertionsReady terms.old asserted.old }
-    ensures status { IfOk result (λ status. IsStatusOf subject.now.flags subject.now.symbols.now terms.old (references_of asserted.old) subject.now.proof.now i status) }
+    ensures status { IfOk result (λ status. IsStatusOf subject.now.flags subject.now.symbols.now terms.old
+        (references_of asserted.old) subject.now.proof.now i status) }
     ensures references { references_of asserted.new ≡ references_of asserted.old }
     ensures ready { OnOk result (AreAssertionsReady terms.new asserted.new) }
     ensures same { terms.new ≡ terms.old }
@@ -167,33 +115,34 @@ fn status_of_assume(
     }
 }
 
-/// The status of the command at an index, whose rule is not refl.
-fn status_of_other(
-    subject: &Subject<'_>,
+/// The status of the step at an index, whose rule is of a family and not refl.
+fn status_of_step<'a>(
+    subject: &Subject<'a>,
+    family: Family,
     i: u32,
-    rules: &mut Rules,
-    asserted: &mut Assertions,
+    rules: &mut Rules<'a>,
     terms: &mut Terms<'_>,
 ) -> Result<Status, RuleStop>
     requires index { i < commands_in subject.now.proof.now }
-    requires other { rule_at subject.now.proof.now i ≢ Rule.Refl }
+    requires family { kind_of (rule_at subject.now.proof.now i) ≡ Kind.Judged family }
+    requires other { family ≢ Family.Refl }
     requires stand { StandForSome subject.now.symbols.now terms.old subject.now.proof.now }
-    requires ready { AreAssertionsReady terms.old asserted.old }
     requires short { IsShort subject.now.proof.now }
-    requires sorted { (of : ProofItems Var Term) → StandForItems subject.now.symbols.now terms.old subject.now.proof.now of → IsClauseOfTruths (clause_at of i) }
-    ensures status { IfOk result (λ status. IsStatusOf subject.now.flags subject.now.symbols.now terms.old (references_of asserted.old) subject.now.proof.now i status) }
+    requires sorted { (of : ProofItems Var Term) → StandForItems subject.now.symbols.now terms.old subject.now.proof.now of →
+        IsClauseOfTruths (clause_at of i) }
+    ensures status { (asserted : List ℕ) →
+        IfOk result (λ status. IsStatusOf subject.now.flags subject.now.symbols.now terms.old asserted subject.now.proof.now i status) }
     ensures stop { IfErr result (λ stop. stop ≡ RuleStop.Memory) }
-    ensures references { references_of asserted.new ≡ references_of asserted.old }
-    ensures ready { OnOk result (AreAssertionsReady terms.new asserted.new) }
     ensures same { terms.new ≡ terms.old }
 {
     commands_correspond();
-    match kind_of(subject.proof.rule(i), subject.flags) {
-        Kind::Assumed => Ok(status_of_assume(asserted, subject, i, terms)?),
-        Kind::Hole => Ok(Status::Hole),
-        Kind::Unknown => Ok(Status::Faulty(StepCause::UnknownRule)),
-        Kind::Conditional(family) => Ok(status_of(answer_at(subject, family, i, rules, terms)?)),
-    }
+    let at = At {
+        proof: subject.proof,
+        i,
+        mode: mode_of(subject.flags),
+    };
+    let answer = answer_at(&at, family, rules, subject.symbols, terms)?;
+    Ok(status_of(answer))
 }
 
 /// The answer to the step at an index, whose rule is refl. The scope to which it belongs is entered first.
@@ -206,7 +155,7 @@ fn answer_of_refl(
     requires index { i < commands_in subject.now.proof.now }
     requires refl { rule_at subject.now.proof.now i ≡ Rule.Refl }
     requires kept { AreKept subject.now.symbols.now terms.old subject.now.proof.now scopes.old }
-    ensures met { IfOk result (TellsMet subject.now.symbols.now terms.old subject.now.proof.now i) }
+    ensures met { IfOk result (TellsMet (mode_of subject.now.flags) subject.now.symbols.now terms.old subject.now.proof.now i) }
     ensures placed { PlacesOnly subject.now.symbols.now terms.old terms.new subject.now.proof.now }
     ensures full { IfErr result (λ stop. stop ≡ RuleStop.PoolFull → LacksRoomForPlaced subject.now.symbols.now terms.old terms.new subject.now.proof.now) }
     ensures keeps { KeepsTerms terms.old terms.new }
@@ -221,7 +170,7 @@ fn answer_of_refl(
     if let Err(stop) = scopes.enter(proof, scope, symbols, terms) {
         return Err(refused(stop));
     }
-    rules_refl::check(proof, i, Mode::Check, symbols, terms, scopes)
+    rules_refl::check(proof, i, mode_of(subject.flags), symbols, terms, scopes)
 }
 
 /// The status of the step at an index, whose rule is refl.
@@ -234,7 +183,8 @@ fn status_of_refl(
     requires index { i < commands_in subject.now.proof.now }
     requires refl { rule_at subject.now.proof.now i ≡ Rule.Refl }
     requires kept { AreKept subject.now.symbols.now terms.old subject.now.proof.now scopes.old }
-    ensures status { (asserted : List ℕ) → IfOk result (λ status. IsStatusOf subject.now.flags subject.now.symbols.now terms.old asserted subject.now.proof.now i status) }
+    ensures status { (asserted : List ℕ) →
+        IfOk result (λ status. IsStatusOf subject.now.flags subject.now.symbols.now terms.old asserted subject.now.proof.now i status) }
     ensures placed { PlacesOnly subject.now.symbols.now terms.old terms.new subject.now.proof.now }
     ensures full { IfErr result (λ stop. stop ≡ RuleStop.PoolFull → LacksRoomForPlaced subject.now.symbols.now terms.old terms.new subject.now.proof.now) }
     ensures keeps { KeepsTerms terms.old terms.new }
@@ -248,18 +198,20 @@ fn status_of_refl(
 }
 
 /// The status of the command at an index.
-fn status_of_command(
-    subject: &Subject<'_>,
+fn status_of_command<'a>(
+    subject: &Subject<'a>,
     i: u32,
-    kept: &mut Kept,
+    kept: &mut Kept<'a>,
     terms: &mut Terms<'_>,
 ) -> Result<Status, RuleStop>
     requires index { i < commands_in subject.now.proof.now }
     requires kept { AreKept subject.now.symbols.now terms.old subject.now.proof.now kept.old.scopes }
     requires ready { AreAssertionsReady terms.old kept.old.asserted }
     requires short { IsShort subject.now.proof.now }
-    requires sorted { (of : ProofItems Var Term) → StandForItems subject.now.symbols.now terms.old subject.now.proof.now of → IsClauseOfTruths (clause_at of i) }
-    ensures status { IfOk result (λ status. IsStatusOf subject.now.flags subject.now.symbols.now terms.old (references_of kept.old.asserted) subject.now.proof.now i status) }
+    requires sorted { (of : ProofItems Var Term) → StandForItems subject.now.symbols.now terms.old subject.now.proof.now of →
+        IsClauseOfTruths (clause_at of i) }
+    ensures status { IfOk result (λ status. IsStatusOf subject.now.flags subject.now.symbols.now terms.old
+        (references_of kept.old.asserted) subject.now.proof.now i status) }
     ensures placed { PlacesOnly subject.now.symbols.now terms.old terms.new subject.now.proof.now }
     ensures full { IfErr result (λ stop. stop ≡ RuleStop.PoolFull → LacksRoomForPlaced subject.now.symbols.now terms.old terms.new subject.now.proof.now) }
     ensures references { references_of kept.new.asserted ≡ references_of kept.old.asserted }
@@ -267,28 +219,33 @@ fn status_of_command(
     ensures keeps { KeepsTerms terms.old terms.new }
     ensures kept { AreKept subject.now.symbols.now terms.new subject.now.proof.now kept.new.scopes }
 {
+    commands_correspond();
     keys_stay();
-    if is_reflexivity(subject.proof.rule(i)) {
-        status_of_refl(subject, i, &mut kept.scopes, terms)
-    } else {
-        status_of_other(subject, i, &mut kept.rules, &mut kept.asserted, terms)
+    match kind_of(subject.proof.rule(i), subject.flags) {
+        Kind::Assumed => Ok(status_of_assume(&mut kept.asserted, subject, i, terms)?),
+        Kind::Hole => Ok(Status::Hole),
+        Kind::Unknown => Ok(Status::Faulty(StepCause::UnknownRule)),
+        Kind::Judged(Family::Refl) => status_of_refl(subject, i, &mut kept.scopes, terms),
+        Kind::Judged(family) => status_of_step(subject, family, i, &mut kept.rules, terms),
     }
 }
 
 /// The status of the command at an index, where those before it were asked for first: cells of some commands are looked at
 /// before the first of these.
-pub(crate) fn status_at(
-    subject: &Subject<'_>,
+pub(crate) fn status_at<'a>(
+    subject: &Subject<'a>,
     i: u32,
-    kept: &mut Kept,
+    kept: &mut Kept<'a>,
     terms: &mut Terms<'_>,
 ) -> Result<Status, RuleStop>
     requires index { i < commands_in subject.now.proof.now }
     requires kept { AreKept subject.now.symbols.now terms.old subject.now.proof.now kept.old.scopes }
     requires ready { AreAssertionsReady terms.old kept.old.asserted }
     requires short { IsShort subject.now.proof.now }
-    requires sorted { (of : ProofItems Var Term) → StandForItems subject.now.symbols.now terms.old subject.now.proof.now of → IsClauseOfTruths (clause_at of i) }
-    ensures status { IfOk result (λ status. IsStatusOf subject.now.flags subject.now.symbols.now terms.old (references_of kept.old.asserted) subject.now.proof.now i status) }
+    requires sorted { (of : ProofItems Var Term) → StandForItems subject.now.symbols.now terms.old subject.now.proof.now of →
+        IsClauseOfTruths (clause_at of i) }
+    ensures status { IfOk result (λ status. IsStatusOf subject.now.flags subject.now.symbols.now terms.old
+        (references_of kept.old.asserted) subject.now.proof.now i status) }
     ensures placed { PlacesOnly subject.now.symbols.now terms.old terms.new subject.now.proof.now }
     ensures full { IfErr result (λ stop. stop ≡ RuleStop.PoolFull → LacksRoomForPlaced subject.now.symbols.now terms.old terms.new subject.now.proof.now) }
     ensures references { references_of kept.new.asserted ≡ references_of kept.old.asserted }

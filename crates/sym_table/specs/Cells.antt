@@ -1,5 +1,6 @@
 -- Private. How the fields of a `Symbols` give the table that contracts see.
-use Rattle.std.specs.Prelude.{pos, ◌≤ℤ◌, FitsSigned, ◌≡◌, ◌<◌, ℕ, List, [], ◌++◌, length, take, map, slice_get, slice_index_or, count_by, Bool, true, false, Some}
+use Rattle.std.specs.Prelude.{pos, ◌≤ℤ◌, FitsSigned, ◌≡◌, ◌<◌, ℕ, List, [], ◌++◌, length, take, map, slice_get, slice_index_or, count_by, Bool, true, false}
+use Rattle.std.specs.Prelude.{Some}
 use Rattle.std.specs.Int.{w128}
 use Rattle.std.specs.Option.{option_map_or}
 use Rattle.sym_table.specs.declared.cells.Symbol.{Symbol}

@@ -5,7 +5,7 @@ ghost use Rattle.sym_table.specs.declared.faults.NameFault.TheVariants as NameFa
 use std::alloc::{AllocError, AllocFailed};
 use thiserror::Error;
 
-/// Want of memory.
+/// Out of memory.
 #[derive(Clone, Copy, Debug, PartialEq, Eq, Error)]
 #[error("out of memory")]
 pub struct Memory;
@@ -16,7 +16,7 @@ pub enum NameFault {
     /// The name is a built-in word, or it is declared in that name space.
     #[error("the name is a built-in word or is already declared")]
     Repeated,
-    /// Want of memory.
+    /// Out of memory.
     #[error("out of memory")]
     Memory,
 }

@@ -71,21 +71,26 @@ ExpandsOne old new a r i = (t : Term) (q : Replacement) → RefersTo old.symbols
 
 -- what the new pass placed and the old one had not, are cells of each tree that has what the term becomes
 abbrev pub PlacesOne : SymbolsAndTerms → TermsView → List Assigned → ℕ → Type 0
-PlacesOne old new a r = (t : Term) (q : Replacement) (whole : Tree) → RefersTo old.symbols old.terms r t → Says old a q t → HasPart old.symbols whole (replaced q t) → PlacesOnlyIn old.terms.pass new.pass whole
+PlacesOne old new a r = (t : Term) (q : Replacement) (whole : Tree) → RefersTo old.symbols old.terms r t → Says old a q t →
+    HasPart old.symbols whole (replaced q t) → PlacesOnlyIn old.terms.pass new.pass whole
 
 -- the new pass has seen all places occupied by other cells than one of such a tree
 abbrev pub FillsOne : SymbolsAndTerms → TermsView → List Assigned → ℕ → Type 0
-FillsOne old new a r = (t : Term) (q : Replacement) (whole : Tree) → RefersTo old.symbols old.terms r t → Says old a q t → HasPart old.symbols whole (replaced q t) → IsFullIn new.pass whole
+FillsOne old new a r = (t : Term) (q : Replacement) (whole : Tree) → RefersTo old.symbols old.terms r t → Says old a q t →
+    HasPart old.symbols whole (replaced q t) → IsFullIn new.pass whole
 
 -- the same for what each of the terms becomes, in order
 abbrev pub ExpandsAll : SymbolsAndTerms → TermsView → List Assigned → List ℕ → List ℕ → Type 0
-ExpandsAll old new a rs is = (ts : List Term) (q : Replacement) → ReferToAll old.symbols old.terms rs ts → SaysAll old a q ts → ReferToAll old.symbols new is (replaced_each q ts)
+ExpandsAll old new a rs is = (ts : List Term) (q : Replacement) → ReferToAll old.symbols old.terms rs ts → SaysAll old a q ts →
+    ReferToAll old.symbols new is (replaced_each q ts)
 
 abbrev pub PlacesAll : SymbolsAndTerms → TermsView → List Assigned → List ℕ → Type 0
-PlacesAll old new a rs = (ts : List Term) (q : Replacement) (whole : Tree) → ReferToAll old.symbols old.terms rs ts → SaysAll old a q ts → HasPartTerms old.symbols whole (replaced_each q ts) → PlacesOnlyIn old.terms.pass new.pass whole
+PlacesAll old new a rs = (ts : List Term) (q : Replacement) (whole : Tree) → ReferToAll old.symbols old.terms rs ts → SaysAll old a q ts →
+    HasPartTerms old.symbols whole (replaced_each q ts) → PlacesOnlyIn old.terms.pass new.pass whole
 
 abbrev pub FillsAll : SymbolsAndTerms → TermsView → List Assigned → List ℕ → Type 0
-FillsAll old new a rs = (ts : List Term) (q : Replacement) (whole : Tree) → ReferToAll old.symbols old.terms rs ts → SaysAll old a q ts → HasPartTerms old.symbols whole (replaced_each q ts) → IsFullIn new.pass whole
+FillsAll old new a rs = (ts : List Term) (q : Replacement) (whole : Tree) → ReferToAll old.symbols old.terms rs ts → SaysAll old a q ts →
+    HasPartTerms old.symbols whole (replaced_each q ts) → IsFullIn new.pass whole
 
 -- a reference, and what is put in for the variables with these leaves
 abbrev pub pairs_of : List Assigned → List ℕ → List ℕ

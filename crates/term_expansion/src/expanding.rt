@@ -10,7 +10,8 @@ ghost use Rattle.term_pool.specs.Building.{IsAppliedLeaf};
 ghost use Rattle.term_pool.specs.Reading.{arguments_of, IsLet};
 ghost use Rattle.term_pool.specs.Views.{TermsView, RefersTo, KeepsTerms};
 ghost use Rattle.term_pool.specs.declared.stop.TermStop.TheVariants as TermStop;
-ghost use Rattle.term_expansion.specs.Expanding.{IsSaid, AreSaid, ExpandsOne, PlacesOne, FillsOne, ExpandsAll, PlacesAll, FillsAll, key_of, IsExpansion, AreValuesGiven};
+ghost use Rattle.term_expansion.specs.Expanding.{IsSaid, AreSaid, ExpandsOne, PlacesOne, FillsOne, ExpandsAll, PlacesAll, FillsAll, key_of, IsExpansion};
+ghost use Rattle.term_expansion.specs.Expanding.{AreValuesGiven};
 ghost use Rattle.term_expansion.specs.Heights.{IsAtMost};
 ghost use Rattle.term_expansion.specs.Needs.{AreNeeds, AreValuesOf};
 ghost use Rattle.term_expansion.specs.LetWork.{IsLetWork};
@@ -108,7 +109,8 @@ fn let_work(
     requires is_let { (t : Term) → RefersTo symbols.now terms.old r t → IsLet t }
     requires low { IsAtMost (both symbols.now terms.old) most r }
     requires needs { AreNeeds (both symbols.now terms.old) needs.old.leaves }
-    ensures work { IfOk result (λ l. (t : Term) → RefersTo symbols.now terms.old r t → IsLetWork (both symbols.now terms.old) l.body l.given.variables.items l.given.values.items t) }
+    ensures work { IfOk result (λ l. (t : Term) → RefersTo symbols.now terms.old r t →
+        IsLetWork (both symbols.now terms.old) l.body l.given.variables.items l.given.values.items t) }
     ensures body_low { IfOk result (λ l. IsAtMost (both symbols.now terms.old) (most - 1) l.body) }
     ensures values_low { IfOk result (λ l. All (IsAtMost (both symbols.now terms.old) (most - 1)) l.given.values.items) }
     ensures one_each { IfOk result (λ l. length l.given.variables.items ≡ length l.given.values.items) }

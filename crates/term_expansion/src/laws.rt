@@ -12,7 +12,11 @@ ghost use Rattle.term_expansion.specs.SymbolsAndTerms.{both};
 /// arguments of an application, and the values and the body of a let. The call does nothing; its contract is the law.
 pub fn parts_are_lower()
     ensures some { (s : Table) (v : TermsView) (most r : ℕ) → IsAtMost (both s v) most r → 0 < most }
-    ensures arguments { (s : Table) (v : TermsView) (most r : ℕ) (list : List ℕ) → IsAtMost (both s v) most r → ((t : Term) → RefersTo s v r t → ReferToAll s v list (arguments_of t)) → All (IsAtMost (both s v) (most - 1)) list }
-    ensures values { (s : Table) (v : TermsView) (most r : ℕ) (vars values : List ℕ) → IsAtMost (both s v) most r → ((t : Term) → RefersTo s v r t → IsLet t) → ((bs : Bindings) (u : Term) → RefersTo s v r (let_in bs u) → AreBindings s v vars values bs) → All (IsAtMost (both s v) (most - 1)) values }
-    ensures body { (s : Table) (v : TermsView) (most r body : ℕ) → IsAtMost (both s v) most r → ((t : Term) → RefersTo s v r t → IsLet t) → ((bs : Bindings) (u : Term) → RefersTo s v r (let_in bs u) → RefersTo s v body u) → IsAtMost (both s v) (most - 1) body }
+    ensures arguments { (s : Table) (v : TermsView) (most r : ℕ) (list : List ℕ) → IsAtMost (both s v) most r →
+        ((t : Term) → RefersTo s v r t → ReferToAll s v list (arguments_of t)) → All (IsAtMost (both s v) (most - 1)) list }
+    ensures values { (s : Table) (v : TermsView) (most r : ℕ) (vars values : List ℕ) → IsAtMost (both s v) most r →
+        ((t : Term) → RefersTo s v r t → IsLet t) → ((bs : Bindings) (u : Term) → RefersTo s v r (let_in bs u) → AreBindings s v vars values bs) →
+        All (IsAtMost (both s v) (most - 1)) values }
+    ensures body { (s : Table) (v : TermsView) (most r body : ℕ) → IsAtMost (both s v) most r → ((t : Term) → RefersTo s v r t → IsLet t) →
+        ((bs : Bindings) (u : Term) → RefersTo s v r (let_in bs u) → RefersTo s v body u) → IsAtMost (both s v) (most - 1) body }
 {}

@@ -32,7 +32,7 @@ pub fn add_all(leaves: &[u32], found: &mut IndexSet<u32>) -> Result<(), Memory>
     Ok(())
 }
 
-/// Adds the leaves but those that are bound. Takes a look into a table for each of both.
+/// Adds the leaves but those that are bound. Takes a look-up in a table for each of both.
 pub fn add_unbound(
     alloc: Global,
     leaves: &[u32],

@@ -8,7 +8,7 @@
 //!   cell, where `assignments` has what is put in.
 //!
 //! What a contract sees: `specs/Values` (what values stand for), `Images` (what is put in for leaves), `Free` (lists of
-//! leaves), `Heights` (how high terms are, which `laws` has a law of). The definition that all answers are those of is
+//! leaves), `Heights` (how high terms are, which `laws` has a law of). The definition that all results are those of is
 //! `replaced` of `rule_model`.
 #![tactic(auto)]
 

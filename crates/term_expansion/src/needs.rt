@@ -57,10 +57,11 @@ pub(crate) fn values_by_leaves(
     Ok(by_leaves)
 }
 
-/// Keeps what was found of a term, and answers it.
+/// Keeps what was found of a term, and returns it.
 fn note(needs: &mut KnownNeeds, r: Ref, found: &[u32]) -> Result<Vec<u32>, Memory>
     ensures leaves { IfOk result (λ leaves. leaves.items ≡ found.now) }
-    ensures noted { OnOk result ((s : Table) (v : TermsView) → HasNeeds (both s v) r found.now → AreNeeds (both s v) needs.old.leaves → AreNeeds (both s v) needs.new.leaves) }
+    ensures noted { OnOk result ((s : Table) (v : TermsView) → HasNeeds (both s v) r found.now → AreNeeds (both s v) needs.old.leaves →
+        AreNeeds (both s v) needs.new.leaves) }
 {
     let kept = Vec::from_slice(needs.alloc, found)?;
     let _ = needs.leaves.insert(r.number(), kept)?;
@@ -156,7 +157,8 @@ fn needs_of_all(
 ) -> Result<(), Memory>
     requires low { All (IsAtMost (both symbols.now terms.old) most) list.now }
     requires needs { AreNeeds (both symbols.now terms.old) needs.old.leaves }
-    ensures adds { OnOk result ((ts : List Term) → ReferToAll symbols.now terms.old list.now ts → AddsLeaves symbols.now found.old.keys found.new.keys (λ x. IsNeededInAny x ts)) }
+    ensures adds { OnOk result ((ts : List Term) → ReferToAll symbols.now terms.old list.now ts →
+        AddsLeaves symbols.now found.old.keys found.new.keys (λ x. IsNeededInAny x ts)) }
     ensures needs { OnOk result (AreNeeds (both symbols.now terms.old) needs.new.leaves) }
     ensures same { terms.new ≡ terms.old }
 {

@@ -35,7 +35,7 @@ fn all_plain(replacement: &[Bound]) -> bool
 /// A term without lets is gone through as `put_in_plain` does. Else each distinct cell is gone through once for each
 /// distinct term that it becomes, with the variables that it needs, and what a let binds is left alone where it is not
 /// needed; then the answer is gone through for its height. Takes memory in the same way, and a few frames of the stack for
-/// each level of the term. Refuses want of memory, and where the pool had no room for a cell of the answer.
+/// each level of the term. Refuses when out of memory, and where the pool had no room for a cell of the answer.
 pub fn put_in(
     alloc: Global,
     symbols: &Symbols,
@@ -46,11 +46,16 @@ pub fn put_in(
     requires what { IsSomeValue (both symbols.now terms.old) what }
     requires low { what.height ≤ 2000 }
     requires replacement { IsSomeReplacement (both symbols.now terms.old) replacement.now }
-    ensures value { (t : Typed) (q : Replacement) → IsValue (both symbols.now terms.old) what t → IsReplacement (both symbols.now terms.old) replacement.now q → IfOk result (λ c. IsValue (both symbols.now terms.new) c (record { tree = replaced q t.tree; sort = t.sort })) }
+    ensures value { (t : Typed) (q : Replacement) → IsValue (both symbols.now terms.old) what t →
+        IsReplacement (both symbols.now terms.old) replacement.now q →
+        IfOk result (λ c. IsValue (both symbols.now terms.new) c (record { tree = replaced q t.tree; sort = t.sort })) }
 
-    // It places only cells of its answer, and is refused for want of room for one.
-    ensures placed { (t : Typed) (q : Replacement) → IsValue (both symbols.now terms.old) what t → IsReplacement (both symbols.now terms.old) replacement.now q → PlacesTerm symbols.now terms.old.pass terms.new.pass (replaced q t.tree) }
-    ensures full { (t : Typed) (q : Replacement) → IsValue (both symbols.now terms.old) what t → IsReplacement (both symbols.now terms.old) replacement.now q → IfErr result (λ e. e ≡ TermStop.PoolFull → LacksRoomFor symbols.now terms.new.pass (replaced q t.tree)) }
+    // It places only cells of its answer, and is refused for lack of room for one.
+    ensures placed { (t : Typed) (q : Replacement) → IsValue (both symbols.now terms.old) what t →
+        IsReplacement (both symbols.now terms.old) replacement.now q → PlacesTerm symbols.now terms.old.pass terms.new.pass (replaced q t.tree) }
+    ensures full { (t : Typed) (q : Replacement) → IsValue (both symbols.now terms.old) what t →
+        IsReplacement (both symbols.now terms.old) replacement.now q →
+        IfErr result (λ e. e ≡ TermStop.PoolFull → LacksRoomFor symbols.now terms.new.pass (replaced q t.tree)) }
     ensures keeps { KeepsTerms terms.old terms.new }
 {
     if what.plain {
@@ -63,7 +68,8 @@ pub fn put_in(
 /// first counts, so the list is gone through from its end.
 fn begin(alloc: Global, replacement: &[Bound]) -> Result<Expansion, Memory>
     ensures expansion { IfOk result (λ e. (s : Table) (v : TermsView) → IsExpansion (both s v) e) }
-    ensures says { IfOk result (λ e. (s : Table) (v : TermsView) (q : Replacement) → IsTable s → length s.leaves ≤ 2 ^ 30 → IsReplacement (both s v) replacement.now q → SaysWhole (both s v) e.assignments q) }
+    ensures says { IfOk result (λ e. (s : Table) (v : TermsView) (q : Replacement) → IsTable s → length s.leaves ≤ 2 ^ 30 →
+        IsReplacement (both s v) replacement.now q → SaysWhole (both s v) e.assignments q) }
 {
     let mut assignments = Assignments::new(alloc);
     let mut at = replacement.len();
@@ -85,9 +91,14 @@ fn put_in_expanded(
 ) -> Result<Value, TermStop>
     requires what { IsSomeValue (both symbols.now terms.old) what }
     requires replacement { IsSomeReplacement (both symbols.now terms.old) replacement.now }
-    ensures value { (t : Typed) (q : Replacement) → IsValue (both symbols.now terms.old) what t → IsReplacement (both symbols.now terms.old) replacement.now q → IfOk result (λ c. IsValue (both symbols.now terms.new) c (record { tree = replaced q t.tree; sort = t.sort })) }
-    ensures placed { (t : Typed) (q : Replacement) → IsValue (both symbols.now terms.old) what t → IsReplacement (both symbols.now terms.old) replacement.now q → PlacesTerm symbols.now terms.old.pass terms.new.pass (replaced q t.tree) }
-    ensures full { (t : Typed) (q : Replacement) → IsValue (both symbols.now terms.old) what t → IsReplacement (both symbols.now terms.old) replacement.now q → IfErr result (λ e. e ≡ TermStop.PoolFull → LacksRoomFor symbols.now terms.new.pass (replaced q t.tree)) }
+    ensures value { (t : Typed) (q : Replacement) → IsValue (both symbols.now terms.old) what t →
+        IsReplacement (both symbols.now terms.old) replacement.now q →
+        IfOk result (λ c. IsValue (both symbols.now terms.new) c (record { tree = replaced q t.tree; sort = t.sort })) }
+    ensures placed { (t : Typed) (q : Replacement) → IsValue (both symbols.now terms.old) what t →
+        IsReplacement (both symbols.now terms.old) replacement.now q → PlacesTerm symbols.now terms.old.pass terms.new.pass (replaced q t.tree) }
+    ensures full { (t : Typed) (q : Replacement) → IsValue (both symbols.now terms.old) what t →
+        IsReplacement (both symbols.now terms.old) replacement.now q →
+        IfErr result (λ e. e ≡ TermStop.PoolFull → LacksRoomFor symbols.now terms.new.pass (replaced q t.tree)) }
     ensures keeps { KeepsTerms terms.old terms.new }
 {
     let _leaves = symbols.count();

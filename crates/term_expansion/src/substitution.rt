@@ -22,7 +22,8 @@ use term_pool::{Image, TermStop, Terms};
 
 /// Puts in the value of a variable, in the place of what was there.
 fn put_image(images: &mut HashMap<u32, Image>, bound: &Bound) -> Result<(), Memory>
-    ensures here { OnOk result (get nat_eq images.new bound.now.variable ≡ Some (record { term = bound.now.value.term; height = bound.now.value.height; highest = 0; plain = bound.now.value.plain })) }
+    ensures here { OnOk result (get nat_eq images.new bound.now.variable ≡ Some
+        (record { term = bound.now.value.term; height = bound.now.value.height; highest = 0; plain = bound.now.value.plain })) }
     ensures others { OnOk result ((k : ℕ) → k ≢ bound.now.variable → get nat_eq images.new k ≡ get nat_eq images.old k) }
 {
     let value = &bound.value;
@@ -34,7 +35,8 @@ fn put_image(images: &mut HashMap<u32, Image>, bound: &Bound) -> Result<(), Memo
 /// What a replacement puts in, by leaves. Of two values for one variable the first counts, so the list is gone through
 /// from its end.
 fn images_of(alloc: Global, replacement: &[Bound]) -> Result<HashMap<u32, Image>, Memory>
-    ensures { IfOk result (λ images. (s : Table) (v : TermsView) (q : Replacement) → IsTable s → IsReplacement (both s v) replacement.now q → ArePutFor (both s v) images q) }
+    ensures { IfOk result (λ images. (s : Table) (v : TermsView) (q : Replacement) → IsTable s → IsReplacement (both s v) replacement.now q →
+        ArePutFor (both s v) images q) }
 {
     let mut images = HashMap::new(alloc);
     let mut at = replacement.len();
@@ -49,7 +51,7 @@ fn images_of(alloc: Global, replacement: &[Bound]) -> Result<HashMap<u32, Image>
 ///
 /// Goes through each distinct cell of the term once, and through no cell of what is put in. Takes memory for each of
 /// the cells, and for each item of the replacement; where that is empty, the answer is the term, at once. Refuses
-/// want of memory, and where the pool had no room for a cell of the answer.
+/// when out of memory, and where the pool had no room for a cell of the answer.
 pub fn put_in_plain(
     alloc: Global,
     symbols: &Symbols,
@@ -60,11 +62,16 @@ pub fn put_in_plain(
     requires what { IsSomeValue (both symbols.now terms.old) what }
     requires plain { what.plain ≡ true }
     requires replacement { IsSomeReplacement (both symbols.now terms.old) replacement.now }
-    ensures value { (t : Typed) (q : Replacement) → IsValue (both symbols.now terms.old) what t → IsReplacement (both symbols.now terms.old) replacement.now q → IfOk result (λ c. IsValue (both symbols.now terms.new) c (record { tree = replaced q t.tree; sort = t.sort })) }
+    ensures value { (t : Typed) (q : Replacement) → IsValue (both symbols.now terms.old) what t →
+        IsReplacement (both symbols.now terms.old) replacement.now q →
+        IfOk result (λ c. IsValue (both symbols.now terms.new) c (record { tree = replaced q t.tree; sort = t.sort })) }
 
-    // It places only cells of its answer, and is refused for want of room for one.
-    ensures placed { (t : Typed) (q : Replacement) → IsValue (both symbols.now terms.old) what t → IsReplacement (both symbols.now terms.old) replacement.now q → PlacesTerm symbols.now terms.old.pass terms.new.pass (replaced q t.tree) }
-    ensures full { (t : Typed) (q : Replacement) → IsValue (both symbols.now terms.old) what t → IsReplacement (both symbols.now terms.old) replacement.now q → IfErr result (λ e. e ≡ TermStop.PoolFull → LacksRoomFor symbols.now terms.new.pass (replaced q t.tree)) }
+    // It places only cells of its answer, and is refused for lack of room for one.
+    ensures placed { (t : Typed) (q : Replacement) → IsValue (both symbols.now terms.old) what t →
+        IsReplacement (both symbols.now terms.old) replacement.now q → PlacesTerm symbols.now terms.old.pass terms.new.pass (replaced q t.tree) }
+    ensures full { (t : Typed) (q : Replacement) → IsValue (both symbols.now terms.old) what t →
+        IsReplacement (both symbols.now terms.old) replacement.now q →
+        IfErr result (λ e. e ≡ TermStop.PoolFull → LacksRoomFor symbols.now terms.new.pass (replaced q t.tree)) }
     ensures keeps { KeepsTerms terms.old terms.new }
 {
     let _leaves = symbols.count();

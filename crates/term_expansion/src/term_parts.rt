@@ -37,7 +37,8 @@ pub(crate) fn head_of(terms: &mut Terms<'_>, r: Ref) -> Option<u32>
 /// The arguments of an application.
 pub fn arguments_of(alloc: Global, terms: &mut Terms<'_>, r: Ref) -> Result<Vec<Ref>, Memory>
     requires { IsKnown terms.old.pass r }
-    ensures arguments { IfOk result (λ list. (s : Table) (t : Term) → RefersTo s terms.old r t → (IsLet t → ⊥) → ReferToAll s terms.old list.items (read.arguments_of t)) }
+    ensures arguments { IfOk result (λ list. (s : Table) (t : Term) → RefersTo s terms.old r t → (IsLet t → ⊥) →
+        ReferToAll s terms.old list.items (read.arguments_of t)) }
     ensures same { terms.new ≡ terms.old }
 {
     let mut list = Vec::new(alloc);
@@ -48,7 +49,8 @@ pub fn arguments_of(alloc: Global, terms: &mut Terms<'_>, r: Ref) -> Result<Vec<
 /// The parts of a let.
 pub fn let_parts(alloc: Global, terms: &mut Terms<'_>, r: Ref) -> Result<LetParts, Memory>
     requires { IsLetTerm terms.old r }
-    ensures bindings { IfOk result (λ l. (s : Table) (bs : Bindings) (u : Term) → RefersTo s terms.old r (let_in bs u) → AreBindings s terms.old l.variables.items l.values.items bs) }
+    ensures bindings { IfOk result (λ l. (s : Table) (bs : Bindings) (u : Term) → RefersTo s terms.old r (let_in bs u) →
+        AreBindings s terms.old l.variables.items l.values.items bs) }
     ensures body { IfOk result (λ l. (s : Table) (bs : Bindings) (u : Term) → RefersTo s terms.old r (let_in bs u) → RefersTo s terms.old l.body u) }
     ensures one_each { IfOk result (λ l. length l.variables.items ≡ length l.values.items) }
     ensures same { terms.new ≡ terms.old }

@@ -10,7 +10,7 @@ use Rattle.term_model.specs.Sorts.{when, sorts_eq, at_least, of_one_sort, choice
 use Rattle.term_model.specs.Arities.{AtLeast, AreAlike}
 use Rattle.term_model.proofs.Tests.{sort_eq_decides, sorts_eq_decides}
 
--- a test that answers a sort answers it exactly where the fact holds that the test decides
+-- a test that returns a sort returns it exactly where the fact holds that the test decides
 pub when_decides : {P : Type 0} (b : Bool) (s u : Sort) → Decides b P → (when b s ≡ Some u) ↔ (P × (u ≡ s))
 when_decides true s u d = (λ e. (d.0 refl, cc), λ h. ap Some (sym h.1))
 when_decides false s u d = (λ e. absurd cc, λ h. absurd (let e = d.1 h.0 in cc))

@@ -13,7 +13,7 @@ use Rattle.term_model.specs.Sorts.{when, sorts_eq, choice_sort, application_sort
 use Rattle.term_model.proofs.Basics.{and-left, and-right, then_branch}
 use Rattle.term_model.proofs.Tests.{sort_eq_decides, var_eq_decides, sorts_eq_decides}
 
--- what a test that answers a sort has told
+-- what a test that returns a sort has told
 pub when-true : (b : Bool) (s u : Sort) → when b s ≡ Some u → b ≡ true
 when-true true s u e = refl
 when-true false s u e = cc

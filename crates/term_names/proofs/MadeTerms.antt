@@ -1,4 +1,4 @@
--- What a call that makes a term has answered and placed.
+-- What a call that makes a term has returned and placed.
 use Rattle.std.proofs.Common.{◌≡◌, ◌⊎◌, inl, inr, Option, Some, Result, Ok, Err, refl, ap}
 use Rattle.std.specs.Result.{IsErrAnd}
 use Rattle.pair_pool.specs.Trees.{Tree}

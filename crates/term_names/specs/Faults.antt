@@ -4,7 +4,7 @@ use Rattle.sexpr.specs.declared.causes.Refusal.{Refusal}
 use Rattle.term_pool.specs.declared.stop.TermStop.{TermStop}
 use Rattle.term_names.specs.declared.faults.ReadFault.{ReadFault}
 
--- The reading ends with this fault of the text. Want of memory may come at any time.
+-- The reading ends with this fault of the text. Out of memory may come at any time.
 abbrev pub IsFaultOf : {A : Type 0} → Result A Refusal → ReadFault → Type 0
 IsFaultOf reading (ReadFault.Text refusal) = reading ≡ Err refusal
 IsFaultOf reading ReadFault.PoolFull = ⊥

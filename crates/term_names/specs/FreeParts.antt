@@ -32,4 +32,5 @@ Bodies = HashMap ℕ (Vec ℕ Global) (BuildHasherDefault FoldHasher)
 
 -- what is kept for a body is right
 pub record AreBodies (w : SymbolsAndTerms) (bodies : Bodies) : Type 0 where
-  pub each : (r : ℕ) (leaves : Vec ℕ Global) → get nat_eq bodies r ≡ Some leaves → (t : Term) → RefersTo w.symbols w.terms r t → AddsLeaves w.symbols [] leaves.items (λ x. IsFree x t)
+  pub each : (r : ℕ) (leaves : Vec ℕ Global) → get nat_eq bodies r ≡ Some leaves → (t : Term) → RefersTo w.symbols w.terms r t →
+      AddsLeaves w.symbols [] leaves.items (λ x. IsFree x t)

@@ -1,4 +1,4 @@
--- Public. What a call that makes a term answers and places.
+-- Public. What a call that makes a term returns and places.
 use Rattle.std.specs.Prelude.{◌≡◌, Option, Some, None, Result, Ok, Err}
 use Rattle.term_model.specs.Terms.{Term}
 use Rattle.term_pool.specs.Views.{TermsView}

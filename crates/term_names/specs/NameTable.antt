@@ -1,5 +1,6 @@
 -- Private. Names by their numbers, and what each means now.
-use Rattle.std.specs.Prelude.{◌≡◌, ◌⊎◌, ℕ, ◌+◌, ◌*◌, ◌%◌, ◌<◌, List, [], ◌∷◌, ◌++◌, Bool, true, false, length, set, slice_get, slice_index_or, Option, Some, None}
+use Rattle.std.specs.Prelude.{◌≡◌, ◌⊎◌, ℕ, ◌+◌, ◌*◌, ◌%◌, ◌<◌, List, [], ◌∷◌, ◌++◌, Bool, true, false, length, set, slice_get, slice_index_or, Option, Some}
+use Rattle.std.specs.Prelude.{None}
 use Rattle.name_set.specs.Names.{StandOnce}
 use Rattle.term_names.specs.declared.entries.Entry.{Entry}
 

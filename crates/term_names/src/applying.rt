@@ -40,8 +40,13 @@ pub fn apply(
 ) -> Result<Option<Value>, ReadFault>
     requires some { from < length values.now }
     requires low { AreLow values.now }
-    requires head { (m : Meaning) × (ts : List Typed) × HeadMeans (both tables.now.symbols.now terms.old) (known_in tables.now.settings.now tables.now.names.now) head m × AreValues (both tables.now.symbols.now terms.old) (drop from values.now) ts }
-    ensures makes { (m : Meaning) (ts : List Typed) → HeadMeans (both tables.now.symbols.now terms.old) (known_in tables.now.settings.now tables.now.names.now) head m → AreValues (both tables.now.symbols.now terms.old) (drop from values.now) ts → Makes terms.old (both tables.now.symbols.now terms.new) (meaning_applied m ts) result }
+    requires head { (m : Meaning) × (ts : List Typed) ×
+        HeadMeans (both tables.now.symbols.now terms.old) (known_in tables.now.settings.now tables.now.names.now) head m ×
+        AreValues (both tables.now.symbols.now terms.old) (drop from values.now) ts }
+    ensures makes { (m : Meaning) (ts : List Typed) →
+        HeadMeans (both tables.now.symbols.now terms.old) (known_in tables.now.settings.now tables.now.names.now) head m →
+        AreValues (both tables.now.symbols.now terms.old) (drop from values.now) ts →
+        Makes terms.old (both tables.now.symbols.now terms.new) (meaning_applied m ts) result }
     ensures keeps { KeepsTerms terms.old terms.new }
 {
     let NameTables {
@@ -70,7 +75,8 @@ fn apply_symbol(
     requires some { from < length values.now }
     requires low { AreLow values.now }
     requires symbol { (m : Meaning) × (ts : List Typed) × IsSymbolOf symbols.now leaf m × AreValues (both symbols.now terms.old) (drop from values.now) ts }
-    ensures makes { (m : Meaning) (ts : List Typed) → IsSymbolOf symbols.now leaf m → AreValues (both symbols.now terms.old) (drop from values.now) ts → Makes terms.old (both symbols.now terms.new) (meaning_applied m ts) result }
+    ensures makes { (m : Meaning) (ts : List Typed) → IsSymbolOf symbols.now leaf m → AreValues (both symbols.now terms.old) (drop from values.now) ts →
+        Makes terms.old (both symbols.now terms.new) (meaning_applied m ts) result }
     ensures keeps { KeepsTerms terms.old terms.new }
 {
     let _leaves = symbols.count();
@@ -99,8 +105,11 @@ fn apply_macro(
     from: usize,
 ) -> Result<Option<Value>, ReadFault>
     requires some { from < length values.now }
-    requires defined { (d : spec.Macro) × (ts : List Typed) × IsMacroOf (both symbols.now terms.old) defined.now d × AreValues (both symbols.now terms.old) (drop from values.now) ts }
-    ensures makes { (d : spec.Macro) (ts : List Typed) → IsMacroOf (both symbols.now terms.old) defined.now d → AreValues (both symbols.now terms.old) (drop from values.now) ts → Makes terms.old (both symbols.now terms.new) (meaning_applied (macro d) ts) result }
+    requires defined { (d : spec.Macro) × (ts : List Typed) × IsMacroOf (both symbols.now terms.old) defined.now d ×
+        AreValues (both symbols.now terms.old) (drop from values.now) ts }
+    ensures makes { (d : spec.Macro) (ts : List Typed) → IsMacroOf (both symbols.now terms.old) defined.now d →
+        AreValues (both symbols.now terms.old) (drop from values.now) ts →
+        Makes terms.old (both symbols.now terms.new) (meaning_applied (macro d) ts) result }
     ensures keeps { KeepsTerms terms.old terms.new }
 {
     if !are_equal(&defined.sorts, values.sorts_from(from)) {

@@ -16,7 +16,7 @@ pub enum ReadFault {
     Text(Refusal),
     /// The pool had no room for a cell of the text's terms.
     PoolFull,
-    /// Want of memory.
+    /// Out of memory.
     Memory,
 }
 

@@ -47,7 +47,8 @@ struct Region {
 /// The leaves of the free variables of a term, where it was named before.
 fn leaves_of_named<'b>(tables: &NameTables<'b, '_>, terms: &Terms<'_>, r: Ref) -> Option<&'b [u32]>
     requires { (sc : Script) × IsScript (both tables.now.symbols.now terms.now) (known_in tables.now.settings.now tables.now.names.now) sc }
-    ensures { IfSome result (λ leaves. (t : Term) → RefersTo tables.now.symbols.now terms.now r t → AddsLeaves tables.now.symbols.now [] leaves.now (λ x. IsFree x t)) }
+    ensures { IfSome result (λ leaves. (t : Term) → RefersTo tables.now.symbols.now terms.now r t →
+        AddsLeaves tables.now.symbols.now [] leaves.now (λ x. IsFree x t)) }
 {
     let NameTables {
         settings,
@@ -83,7 +84,8 @@ fn gather(
     requires bodies { AreBodies (both tables.now.symbols.now terms.old) bodies.old }
     requires covers { CoversFree (both tables.now.symbols.now terms.old) region.old.seen.keys region.old.found.keys }
     requires script { (sc : Script) × IsScript (both tables.now.symbols.now terms.old) (known_in tables.now.settings.now tables.now.names.now) sc }
-    ensures adds { OnOk result ((t : Term) → RefersTo tables.now.symbols.now terms.old r t → AddsLeaves tables.now.symbols.now region.old.found.keys region.new.found.keys (λ x. IsFree x t)) }
+    ensures adds { OnOk result ((t : Term) → RefersTo tables.now.symbols.now terms.old r t →
+        AddsLeaves tables.now.symbols.now region.old.found.keys region.new.found.keys (λ x. IsFree x t)) }
     ensures covers { OnOk result (CoversFree (both tables.now.symbols.now terms.old) region.new.seen.keys region.new.found.keys) }
     ensures bodies { OnOk result (AreBodies (both tables.now.symbols.now terms.old) bodies.new) }
     ensures same { terms.new ≡ terms.old }
@@ -128,7 +130,8 @@ fn gather_all(
     requires bodies { AreBodies (both tables.now.symbols.now terms.old) bodies.old }
     requires covers { CoversFree (both tables.now.symbols.now terms.old) region.old.seen.keys region.old.found.keys }
     requires script { (sc : Script) × IsScript (both tables.now.symbols.now terms.old) (known_in tables.now.settings.now tables.now.names.now) sc }
-    ensures adds { OnOk result ((ts : List Term) → ReferToAll tables.now.symbols.now terms.old list.now ts → AddsLeaves tables.now.symbols.now region.old.found.keys region.new.found.keys (λ x. IsFreeInAny x ts)) }
+    ensures adds { OnOk result ((ts : List Term) → ReferToAll tables.now.symbols.now terms.old list.now ts →
+        AddsLeaves tables.now.symbols.now region.old.found.keys region.new.found.keys (λ x. IsFreeInAny x ts)) }
     ensures covers { OnOk result (CoversFree (both tables.now.symbols.now terms.old) region.new.seen.keys region.new.found.keys) }
     ensures bodies { OnOk result (AreBodies (both tables.now.symbols.now terms.old) bodies.new) }
     ensures same { terms.new ≡ terms.old }
@@ -157,7 +160,8 @@ fn gather_let(
     requires bodies { AreBodies (both tables.now.symbols.now terms.old) bodies.old }
     requires covers { CoversFree (both tables.now.symbols.now terms.old) region.old.seen.keys region.old.found.keys }
     requires script { (sc : Script) × IsScript (both tables.now.symbols.now terms.old) (known_in tables.now.settings.now tables.now.names.now) sc }
-    ensures adds { OnOk result ((t : Term) → RefersTo tables.now.symbols.now terms.old r t → AddsLeaves tables.now.symbols.now region.old.found.keys region.new.found.keys (λ x. IsFree x t)) }
+    ensures adds { OnOk result ((t : Term) → RefersTo tables.now.symbols.now terms.old r t →
+        AddsLeaves tables.now.symbols.now region.old.found.keys region.new.found.keys (λ x. IsFree x t)) }
     ensures covers { OnOk result (CoversFree (both tables.now.symbols.now terms.old) region.new.seen.keys region.new.found.keys) }
     ensures bodies { OnOk result (AreBodies (both tables.now.symbols.now terms.old) bodies.new) }
     ensures same { terms.new ≡ terms.old }
@@ -192,7 +196,8 @@ fn leaves_of(
     requires low { IsAtMost (both tables.now.symbols.now terms.old) most r }
     requires bodies { AreBodies (both tables.now.symbols.now terms.old) bodies.old }
     requires script { (sc : Script) × IsScript (both tables.now.symbols.now terms.old) (known_in tables.now.settings.now tables.now.names.now) sc }
-    ensures leaves { IfOk result (λ leaves. (t : Term) → RefersTo tables.now.symbols.now terms.old r t → AddsLeaves tables.now.symbols.now [] leaves.items (λ x. IsFree x t)) }
+    ensures leaves { IfOk result (λ leaves. (t : Term) → RefersTo tables.now.symbols.now terms.old r t →
+        AddsLeaves tables.now.symbols.now [] leaves.items (λ x. IsFree x t)) }
     ensures bodies { OnOk result (AreBodies (both tables.now.symbols.now terms.old) bodies.new) }
     ensures same { terms.new ≡ terms.old }
 {
@@ -210,7 +215,7 @@ fn leaves_of(
 ///
 /// Goes through each distinct cell once for each distinct body of a let that it stands in, but for those of terms that
 /// were named before, whose leaves are kept, and takes memory for each that it meets there. Takes stack in proportion to
-/// the term's height. Where the table has no variable it does none of this. Refuses want of memory alone.
+/// the term's height. Where the table has no variable it does none of this. Refuses only when out of memory.
 pub fn free_leaves(
     tables: &NameTables<'_, '_>,
     terms: &mut Terms<'_>,
@@ -219,7 +224,8 @@ pub fn free_leaves(
     requires what { IsSomeValue (both tables.now.symbols.now terms.old) what }
     requires low { what.height ≤ 2000 }
     requires script { (sc : Script) × IsScript (both tables.now.symbols.now terms.old) (known_in tables.now.settings.now tables.now.names.now) sc }
-    ensures free { IfOk result (λ leaves. (t : Typed) → IsValue (both tables.now.symbols.now terms.old) what t → AreFreeLeaves tables.now.symbols.now leaves.items (free_variables t.tree)) }
+    ensures free { IfOk result (λ leaves. (t : Typed) → IsValue (both tables.now.symbols.now terms.old) what t →
+        AreFreeLeaves tables.now.symbols.now leaves.items (free_variables t.tree)) }
     ensures keeps { KeepsTerms terms.old terms.new }
     ensures unchanged { IsUnchanged terms.old.pass terms.new.pass }
 {

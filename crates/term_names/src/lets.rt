@@ -31,7 +31,7 @@ pub struct LetVariables<'n> {
 }
 
 /// Puts the variables of a let in scope, the first one innermost. Where lets are replaced each stands for its value, and
-/// otherwise for itself. Refuses want of memory alone.
+/// otherwise for itself. Refuses only when out of memory.
 pub fn bind(
     symbols: &Symbols,
     names: &mut Names,
@@ -39,8 +39,12 @@ pub fn bind(
     replaces_lets: bool,
 ) -> Result<(), Memory>
     requires within { variables.now.from ≤ length variables.now.values.now }
-    requires bound { (v : TermsView) × (bs : List Bound) × AreValuesBound (both symbols.now v) variables.now.leaves.now (drop variables.now.from variables.now.values.now) bs }
-    ensures bound { (v : TermsView) (bs : List Bound) (p : Place) → AreValuesBound (both symbols.now v) variables.now.leaves.now (drop variables.now.from variables.now.values.now) bs → IsScope (both symbols.now v) names.old.scope p.scope → p.settings.replaces_lets ≡ replaces_lets → OnOk result (IsScope (both symbols.now v) names.new.scope (inside bs p).scope) }
+    requires bound { (v : TermsView) × (bs : List Bound) × AreValuesBound (both symbols.now v) variables.now.leaves.now
+        (drop variables.now.from variables.now.values.now) bs }
+    ensures bound { (v : TermsView) (bs : List Bound) (p : Place) →
+        AreValuesBound (both symbols.now v) variables.now.leaves.now (drop variables.now.from variables.now.values.now) bs →
+        IsScope (both symbols.now v) names.old.scope p.scope → p.settings.replaces_lets ≡ replaces_lets →
+        OnOk result (IsScope (both symbols.now v) names.new.scope (inside bs p).scope) }
     ensures inner { OnOk result ((inner : List Scoped) × (names.new.scope ≡ inner ++ names.old.scope) × (length inner ≡ length variables.now.leaves.now)) }
     ensures own { names.new.own ≡ names.old.own }
 {
@@ -65,7 +69,7 @@ pub fn bind(
 }
 
 /// Puts a variable in scope, by its leaf. Where lets are replaced it stands for the value, and otherwise for itself.
-/// Refuses want of memory alone.
+/// Refuses only when out of memory.
 fn bind_one(
     symbols: &Symbols,
     names: &mut Names,
@@ -74,7 +78,9 @@ fn bind_one(
     replaces_lets: bool,
 ) -> Result<(), Memory>
     requires variable { (x : Var) × IsLeaf symbols.now leaf (variable_leaf x) }
-    ensures bound { (v : TermsView) (b : Bound) (bs : List Bound) → IsLeaf symbols.now leaf (variable_leaf b.variable) → IsValue (both symbols.now v) value (record { tree = b.stands_for; sort = b.variable.sort }) → IsScope (both symbols.now v) names.old.scope bs → OnOk result (IsScope (both symbols.now v) names.new.scope ((if replaces_lets then b else itself b.variable) ∷ bs)) }
+    ensures bound { (v : TermsView) (b : Bound) (bs : List Bound) → IsLeaf symbols.now leaf (variable_leaf b.variable) →
+        IsValue (both symbols.now v) value (record { tree = b.stands_for; sort = b.variable.sort }) → IsScope (both symbols.now v) names.old.scope bs →
+        OnOk result (IsScope (both symbols.now v) names.new.scope ((if replaces_lets then b else itself b.variable) ∷ bs)) }
     ensures inner { OnOk result ((e : Scoped) × (names.new.scope ≡ e ∷ names.old.scope)) }
     ensures own { names.new.own ≡ names.old.own }
 {
@@ -94,7 +100,8 @@ fn bind_one(
 /// A variable of this sort as a term, by its leaf.
 pub fn as_itself(leaf: u32, sort: Sort) -> Value
     requires { leaf < 2 ^ 30 }
-    ensures { (s : Table) (v : TermsView) (x : Var) → IsLeaf s leaf (variable_leaf x) → sort ≡ x.sort → IsValue (both s v) result (record { tree = variable x; sort = x.sort }) }
+    ensures { (s : Table) (v : TermsView) (x : Var) → IsLeaf s leaf (variable_leaf x) → sort ≡ x.sort →
+        IsValue (both s v) result (record { tree = variable x; sort = x.sort }) }
 {
     Value {
         term: Ref::leaf(leaf),
@@ -129,8 +136,12 @@ pub fn close(
     requires within { variables.now.from ≤ length variables.now.values.now }
     requires low { AreLow variables.now.values.now }
     requires body_low { body.height ≤ most_height }
-    requires bound { (bs : List Bound) × (t : Typed) × AreValuesBound (both symbols.now terms.old) variables.now.leaves.now (drop variables.now.from variables.now.values.now) bs × IsValue (both symbols.now terms.old) body t }
-    ensures makes { (p : Place) (bs : List Bound) (t : Typed) → AreValuesBound (both symbols.now terms.old) variables.now.leaves.now (drop variables.now.from variables.now.values.now) bs → IsValue (both symbols.now terms.old) body t → p.settings.replaces_lets ≡ replaces_lets → Makes terms.old (both symbols.now terms.new) (Some (let_term p bs t)) result }
+    requires bound { (bs : List Bound) × (t : Typed) × AreValuesBound (both symbols.now terms.old) variables.now.leaves.now
+        (drop variables.now.from variables.now.values.now) bs × IsValue (both symbols.now terms.old) body t }
+    ensures makes { (p : Place) (bs : List Bound) (t : Typed) →
+        AreValuesBound (both symbols.now terms.old) variables.now.leaves.now (drop variables.now.from variables.now.values.now) bs →
+        IsValue (both symbols.now terms.old) body t → p.settings.replaces_lets ≡ replaces_lets →
+        Makes terms.old (both symbols.now terms.new) (Some (let_term p bs t)) result }
     ensures keeps { KeepsTerms terms.old terms.new }
 {
     if replaces_lets {

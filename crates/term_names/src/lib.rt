@@ -8,7 +8,7 @@
 //! - `free`: the free variables of a term. `faults`: why a text is not read.
 //!
 //! What a contract sees: `specs/Standing` (when tables stand for a script, name by name), `InScope` (variables in
-//! scope), `Making` (what a call that makes a term answers and places).
+//! scope), `Making` (what a call that makes a term returns and places).
 #![tactic(auto)]
 
 pub mod applying;

@@ -47,7 +47,10 @@ pub enum Found {
 // A part of its callers, which ask it for each symbol of a text.
 #[inline(always)]
 pub fn find(tables: &NameTables<'_, '_>, name: &[u8]) -> Found
-    ensures { (v : TermsView) (sc : Script) (p : Place) → IsScript (both tables.now.symbols.now v) (known_in tables.now.settings.now tables.now.names.now) sc → IsScope (both tables.now.symbols.now v) tables.now.names.now.scope p.scope → IsFoundMeaning (both tables.now.symbols.now v) (known_in tables.now.settings.now tables.now.names.now) p result (meaning_of p sc name.now) }
+    ensures { (v : TermsView) (sc : Script) (p : Place) →
+        IsScript (both tables.now.symbols.now v) (known_in tables.now.settings.now tables.now.names.now) sc →
+        IsScope (both tables.now.symbols.now v) tables.now.names.now.scope p.scope →
+        IsFoundMeaning (both tables.now.symbols.now v) (known_in tables.now.settings.now tables.now.names.now) p result (meaning_of p sc name.now) }
 {
     let NameTables {
         settings,
@@ -74,7 +77,11 @@ pub fn find(tables: &NameTables<'_, '_>, name: &[u8]) -> Found
 #[inline(always)]
 fn found_of(tables: &NameTables<'_, '_>, entry: KnownEntry) -> Found
     requires there { IsKnownThere (known_in tables.now.settings.now tables.now.names.now) entry }
-    ensures { (v : TermsView) (sc : Script) (p : Place) (name : List ℕ) → IsScript (both tables.now.symbols.now v) (known_in tables.now.settings.now tables.now.names.now) sc → IsScope (both tables.now.symbols.now v) tables.now.names.now.scope p.scope → known_entry (known_in tables.now.settings.now tables.now.names.now) name ≡ Some entry → operator_named name ≡ None → IsFoundMeaning (both tables.now.symbols.now v) (known_in tables.now.settings.now tables.now.names.now) p result (meaning_outside p sc name) }
+    ensures { (v : TermsView) (sc : Script) (p : Place) (name : List ℕ) →
+        IsScript (both tables.now.symbols.now v) (known_in tables.now.settings.now tables.now.names.now) sc →
+        IsScope (both tables.now.symbols.now v) tables.now.names.now.scope p.scope →
+        known_entry (known_in tables.now.settings.now tables.now.names.now) name ≡ Some entry → operator_named name ≡ None →
+        IsFoundMeaning (both tables.now.symbols.now v) (known_in tables.now.settings.now tables.now.names.now) p result (meaning_outside p sc name) }
 {
     match entry {
         KnownEntry::Function(leaf) => Found::Symbol(leaf),
@@ -93,7 +100,8 @@ fn found_of(tables: &NameTables<'_, '_>, entry: KnownEntry) -> Found
 
 /// Whether all these variables are bound here, told by the leaves of a named term.
 fn are_bound(symbols: &Symbols, names: &Names, leaves: &[u32]) -> bool
-    ensures { (v : TermsView) (p : Place) (xs : List Var) → IsScope (both symbols.now v) names.now.scope p.scope → AreFreeLeaves symbols.now leaves.now xs → result ≡ list_all (is_bound p.scope) xs }
+    ensures { (v : TermsView) (p : Place) (xs : List Var) → IsScope (both symbols.now v) names.now.scope p.scope → AreFreeLeaves symbols.now leaves.now xs →
+        result ≡ list_all (is_bound p.scope) xs }
 {
     'leaves: for leaf in leaves {
         if !is_bound_here(symbols, names, *leaf) {
@@ -105,7 +113,8 @@ fn are_bound(symbols: &Symbols, names: &Names, leaves: &[u32]) -> bool
 
 /// Whether the innermost variable of the leaf's name is this very variable. A leaf that is not there has none.
 fn is_bound_here(symbols: &Symbols, names: &Names, leaf: u32) -> bool
-    ensures { (v : TermsView) (p : Place) (x : Var) → IsScope (both symbols.now v) names.now.scope p.scope → IsLeaf symbols.now leaf (variable_leaf x) → result ≡ is_bound p.scope x }
+    ensures { (v : TermsView) (p : Place) (x : Var) → IsScope (both symbols.now v) names.now.scope p.scope → IsLeaf symbols.now leaf (variable_leaf x) →
+        result ≡ is_bound p.scope x }
 {
     if leaf >= symbols.count() {
         return false;
@@ -118,7 +127,8 @@ fn is_bound_here(symbols: &Symbols, names: &Names, leaf: u32) -> bool
 
 /// What is found, as the head of an application. A term takes no arguments.
 pub fn head_of(found: Found) -> Option<Head>
-    ensures means { (w : SymbolsAndTerms) (k : KnownView) (p : Place) (m : Meaning) → IsFoundMeaning w k p found (Some m) → (h : head.Head) × (result ≡ Some h) × HeadMeans w k h m }
+    ensures means { (w : SymbolsAndTerms) (k : KnownView) (p : Place) (m : Meaning) → IsFoundMeaning w k p found (Some m) →
+        (h : head.Head) × (result ≡ Some h) × HeadMeans w k h m }
     ensures unknown { (w : SymbolsAndTerms) (k : KnownView) (p : Place) → IsFoundMeaning w k p found None → result ≡ None }
 {
     match found {

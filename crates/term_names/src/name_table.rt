@@ -115,7 +115,7 @@ impl NameTable {
         Ok(number)
     }
 
-    /// Gives a name an entry in place of the one that it has, if it has any, and answers its number. After a refusal nothing
+    /// Gives a name an entry in place of the one that it has, if it has any, and returns its number. After a refusal nothing
     /// has changed.
     pub(crate) fn put(&mut self, name: &[u8], entry: Entry) -> Result<usize, Memory>
         ensures put { IfOk result (λ k. GetsEntry self.old self.new name.now entry k) }

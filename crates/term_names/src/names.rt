@@ -236,7 +236,12 @@ impl Names {
         body: Value,
     ) -> Result<(), Memory>
         ensures names { OnOk result (Puts self.old.own.names name.now (Entry.Macro (length self.old.own.macros)) self.new.own.names) }
-        ensures macros { OnOk result (self.new.own.macros ≡ self.old.own.macros ++ record { parameters = parameters; sorts = sorts; target = target; body = body } ∷ []) }
+        ensures macros { OnOk result (self.new.own.macros ≡ self.old.own.macros ++ record {
+          parameters = parameters;
+          sorts = sorts;
+          target = target;
+          body = body;
+        } ∷ []) }
         ensures named { self.new.own.named ≡ self.old.own.named }
         ensures scope { self.new.scope ≡ self.old.scope }
         ensures refused { OnErr result (self.new ≡ self.old) }
@@ -270,6 +275,13 @@ impl Names {
         remembered.unwrap();
         self.own.named.push(Named { value, free }).unwrap();
         Ok(())
+    }
+
+    /// How many names were given to terms.
+    pub fn named_count(&self) -> usize
+        ensures { result ≡ length self.now.own.named }
+    {
+        self.own.named.len()
     }
 
     /// A name that was given to the term, if any was.
@@ -308,7 +320,8 @@ impl Names {
 fn held_at(table: &NameTable, held: &[Held], number: usize) -> Option<Bound>
     requires linked { IsHeldLinked table.now.names table.now.innermost (reverse held.now) }
     requires number { number < length table.now.names }
-    ensures { (name : List ℕ) → StandOnce table.now.names → position (bytes_eq name) table.now.names ≡ Some number → result ≡ bound_of (scoped table.now.names (reverse held.now)) name }
+    ensures { (name : List ℕ) → StandOnce table.now.names → position (bytes_eq name) table.now.names ≡ Some number →
+        result ≡ bound_of (scoped table.now.names (reverse held.now)) name }
 {
     let place = table.innermost(number);
     if place == 0 {

@@ -36,7 +36,8 @@ impl Model for Values {
     ghost view = { λ s. values_in s.len s.terms.items s.sorts.items s.heights.items s.plain.items };
 
     ghost invariant = { λ s. AreParts s.len s.terms.items s.sorts.items s.heights.items s.plain.items
-        (values_in s.len s.terms.items s.sorts.items s.heights.items s.plain.items) × HaveRoom s.len s.terms.items s.sorts.items s.heights.items s.plain.items };
+        (values_in s.len s.terms.items s.sorts.items s.heights.items s.plain.items) ×
+        HaveRoom s.len s.terms.items s.sorts.items s.heights.items s.plain.items };
 }
 
 impl Values {

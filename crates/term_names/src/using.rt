@@ -39,8 +39,13 @@ pub fn use_alone(
     terms: &mut Terms<'_>,
     found: Found,
 ) -> Result<Option<Value>, ReadFault>
-    requires found { (p : Place) × (m : Meaning) × IsScope (both tables.now.symbols.now terms.old) tables.now.names.now.scope p.scope × (p.settings.replaces_lets ≡ tables.now.settings.now.replaces_lets) × IsFoundMeaning (both tables.now.symbols.now terms.old) (known_in tables.now.settings.now tables.now.names.now) p found (Some m) }
-    ensures makes { (p : Place) (m : Meaning) → IsScope (both tables.now.symbols.now terms.old) tables.now.names.now.scope p.scope → p.settings.replaces_lets ≡ tables.now.settings.now.replaces_lets → IsFoundMeaning (both tables.now.symbols.now terms.old) (known_in tables.now.settings.now tables.now.names.now) p found (Some m) → Makes terms.old (both tables.now.symbols.now terms.new) (meaning_applied m []) result }
+    requires found { (p : Place) × (m : Meaning) × IsScope (both tables.now.symbols.now terms.old) tables.now.names.now.scope p.scope ×
+        (p.settings.replaces_lets ≡ tables.now.settings.now.replaces_lets) ×
+        IsFoundMeaning (both tables.now.symbols.now terms.old) (known_in tables.now.settings.now tables.now.names.now) p found (Some m) }
+    ensures makes { (p : Place) (m : Meaning) → IsScope (both tables.now.symbols.now terms.old) tables.now.names.now.scope p.scope →
+        p.settings.replaces_lets ≡ tables.now.settings.now.replaces_lets →
+        IsFoundMeaning (both tables.now.symbols.now terms.old) (known_in tables.now.settings.now tables.now.names.now) p found (Some m) →
+        Makes terms.old (both tables.now.symbols.now terms.new) (meaning_applied m []) result }
     ensures keeps { KeepsTerms terms.old terms.new }
 {
     let NameTables {
@@ -93,8 +98,11 @@ fn use_named(
     terms: &mut Terms<'_>,
     named: &Named,
 ) -> Result<Option<Value>, ReadFault>
-    requires named { (p : Place) × (m : Meaning) × IsScope (both tables.now.symbols.now terms.old) tables.now.names.now.scope p.scope × (p.settings.replaces_lets ≡ tables.now.settings.now.replaces_lets) × IsNamedMeant (both tables.now.symbols.now terms.old) p (Some named.now) m }
-    ensures makes { (p : Place) (m : Meaning) → IsScope (both tables.now.symbols.now terms.old) tables.now.names.now.scope p.scope → p.settings.replaces_lets ≡ tables.now.settings.now.replaces_lets → IsNamedMeant (both tables.now.symbols.now terms.old) p (Some named.now) m → Makes terms.old (both tables.now.symbols.now terms.new) (meaning_applied m []) result }
+    requires named { (p : Place) × (m : Meaning) × IsScope (both tables.now.symbols.now terms.old) tables.now.names.now.scope p.scope ×
+        (p.settings.replaces_lets ≡ tables.now.settings.now.replaces_lets) × IsNamedMeant (both tables.now.symbols.now terms.old) p (Some named.now) m }
+    ensures makes { (p : Place) (m : Meaning) → IsScope (both tables.now.symbols.now terms.old) tables.now.names.now.scope p.scope →
+        p.settings.replaces_lets ≡ tables.now.settings.now.replaces_lets → IsNamedMeant (both tables.now.symbols.now terms.old) p (Some named.now) m →
+        Makes terms.old (both tables.now.symbols.now terms.new) (meaning_applied m []) result }
     ensures keeps { KeepsTerms terms.old terms.new }
 {
     let NameTables {
@@ -119,7 +127,8 @@ fn bounds_of(
     leaves: &[u32],
 ) -> Result<Vec<Bound>, Memory>
     requires { AreBoundLeaves symbols.now names.now.scope leaves.now }
-    ensures { IfOk result (λ bounds. (v : TermsView) (p : Place) (xs : List Var) → IsScope (both symbols.now v) names.now.scope p.scope → AreFreeLeaves symbols.now leaves.now xs → list_all (is_bound p.scope) xs ≡ true → PutsInBound (both symbols.now v) bounds.items p.scope xs) }
+    ensures { IfOk result (λ bounds. (v : TermsView) (p : Place) (xs : List Var) → IsScope (both symbols.now v) names.now.scope p.scope →
+        AreFreeLeaves symbols.now leaves.now xs → list_all (is_bound p.scope) xs ≡ true → PutsInBound (both symbols.now v) bounds.items p.scope xs) }
 {
     let mut bounds = Vec::new(alloc);
     'leaves: for leaf in leaves {
@@ -131,7 +140,8 @@ fn bounds_of(
 /// What the variable of this leaf stands for here.
 fn bound_here(symbols: &Symbols, names: &Names, leaf: u32) -> Bound
     requires { IsBoundLeaf symbols.now names.now.scope leaf }
-    ensures { (v : TermsView) (p : Place) (x : Var) → IsScope (both symbols.now v) names.now.scope p.scope → IsLeaf symbols.now leaf (variable_leaf x) → is_bound p.scope x ≡ true → PutsIn (both symbols.now v) result x (replaced_by (replacement p.scope) x) }
+    ensures { (v : TermsView) (p : Place) (x : Var) → IsScope (both symbols.now v) names.now.scope p.scope → IsLeaf symbols.now leaf (variable_leaf x) →
+        is_bound p.scope x ≡ true → PutsIn (both symbols.now v) result x (replaced_by (replacement p.scope) x) }
 {
     names.variable(symbols.name(leaf)).unwrap()
 }

@@ -293,7 +293,7 @@ bindings_known p q ks rs list h built =
 pub bindings_keep : (p q : PassView) (ks rs : List ℕ) (list : ℕ) → All (IsKnown p) rs → ((ts : List Tree) → KnowsAll p rs ts → Builds p q list (list_tree (binding_trees ks ts))) → KeepsPass p q
 bindings_keep p q ks rs list h built = let trees = known_trees p rs h in (built trees.0 trees.1).keeps
 
--- whether it was answered or refused, a pass has kept what it had
+-- whether it succeeded or was refused, a pass has kept what it had
 pub list_result_keeps : {E : Type 0} → (result : Result ℕ E) (p q : PassView) (rs : List ℕ) (f : List Tree → Tree) → All (IsKnown p) rs → IfOk result (λ r. (ts : List Tree) → KnowsAll p rs ts → Builds p q r (f ts)) → OnErr result ((ts : List Tree) → KnowsAll p rs ts → LacksRoom p q (f ts)) → KeepsPass p q
 list_result_keeps (Ok r) p q rs f known built full = let trees = known_trees p rs known in (built trees.0 trees.1).keeps
 list_result_keeps (Err e) p q rs f known built full = let trees = known_trees p rs known in (full trees.0 trees.1).keeps

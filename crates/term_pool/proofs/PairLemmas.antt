@@ -87,7 +87,7 @@ leaf_apart p one parts equal x apart low (cell a b) (cell c d) known other = abs
     go (inl h) = let high = one.high x.left a b known in omega arith
     go (inr h) = let high = one.high x.right c d other in omega arith
 
--- what a look finds is the answer, and where it finds none the pair is one of cells that was not judged
+-- what a look-up finds is the answer, and where it finds none the pair is one of cells that was not judged
 pub record IsOpen (p : PassView) (memo : Answers) (x : Pair) : Type 0 where
   pub cells : AreCells p x
   pub unmet : answer_of memo x ≡ None

@@ -1,4 +1,4 @@
--- Public. What the calls that build terms answer and place.
+-- Public. What the calls that build terms return and place.
 use Rattle.std.specs.Prelude.{◌≡◌, ℕ, pos, ◌⊎◌, List, [], ◌∷◌}
 use Rattle.pair_pool.specs.Trees.{Tree, cell}
 use Rattle.pair_pool.specs.Views.{PassView, Knows, IsPlaced, IsFullFor}

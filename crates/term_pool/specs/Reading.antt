@@ -1,4 +1,4 @@
--- Public. What the calls that read terms answer.
+-- Public. What the calls that read terms return.
 use Rattle.std.specs.Prelude.{◌≡◌, ℕ, ◌<◌, pos, List, [], ◌∷◌, length}
 use Rattle.sym_table.specs.Leaf.{operator}
 use Rattle.sym_table.specs.Table.{Table, IsLeaf}

@@ -48,8 +48,10 @@ pub(crate) fn let_term(
     requires vars { All (λ k. k < 2 ^ 30) vars.now }
     requires values { All (IsKnown pass.old) values.now }
     requires body { IsKnown pass.old body }
-    ensures built { IfOk result (λ r. (ts : List Tree) (u : Tree) → KnowsAll pass.old values.now ts → Knows pass.old body u → Builds pass.old pass.new r (let_term_tree vars.now ts u)) }
-    ensures full { OnErr result ((ts : List Tree) (u : Tree) → KnowsAll pass.old values.now ts → Knows pass.old body u → LacksRoom pass.old pass.new (let_term_tree vars.now ts u)) }
+    ensures built { IfOk result (λ r. (ts : List Tree) (u : Tree) → KnowsAll pass.old values.now ts → Knows pass.old body u →
+        Builds pass.old pass.new r (let_term_tree vars.now ts u)) }
+    ensures full { OnErr result ((ts : List Tree) (u : Tree) → KnowsAll pass.old values.now ts → Knows pass.old body u →
+        LacksRoom pass.old pass.new (let_term_tree vars.now ts u)) }
     ensures of_pool { IsPassOf pool.now pass.new }
 {
     let list = bindings(pool, pass, vars, values)?;

@@ -4,7 +4,8 @@ ghost use Rattle.std.specs.Prelude.{◌≡◌, ℕ, ◌<◌, ◌^◌, None, IfOk
 ghost use Rattle.std.specs.HashMap.{hash_map_len};
 ghost use Rattle.pair_pool.specs.Trees.{Tree};
 ghost use Rattle.pair_pool.specs.Views.{IsPassOf, IsKnown, Knows};
-ghost use Rattle.term_pool.specs.Pairs.{same_terms, as_terms, as_lists, answer_of, AreAnswers, looked, both_of, AreCells, AreTwoItems, IsJudged, IsCrossed, RemembersPair, IsPairVisit};
+ghost use Rattle.term_pool.specs.Pairs.{same_terms, as_terms, as_lists, answer_of, AreAnswers, looked, both_of, AreCells, AreTwoItems, IsJudged, IsCrossed};
+ghost use Rattle.term_pool.specs.Pairs.{RemembersPair, IsPairVisit};
 
 use crate::build::LET;
 use crate::lists::{NIL, parts};

@@ -28,8 +28,10 @@ pub fn references_stay()
 /// A law: the tree of a leaf and of arguments stands for the application of its symbol to what they stand for, and the
 /// tree of variables, values and a body for the let of these. The call does nothing; its contract is the law.
 pub fn trees_are_built_of_parts()
-    ensures application { (s : Table) (head : ℕ) (trees : List Tree) (ts : List Term) (t : Term) → StandForAll s trees ts → IsAppliedLeaf s head ts t → StandsFor s (app_tree head trees) t }
-    ensures let_term { (s : Table) (vars : List ℕ) (trees : List Tree) (body : Tree) (bs : Bindings) (u : Term) → StandForValues s vars trees bs → StandsFor s body u → StandsFor s (let_term_tree vars trees body) (let_in bs u) }
+    ensures application { (s : Table) (head : ℕ) (trees : List Tree) (ts : List Term) (t : Term) → StandForAll s trees ts → IsAppliedLeaf s head ts t →
+        StandsFor s (app_tree head trees) t }
+    ensures let_term { (s : Table) (vars : List ℕ) (trees : List Tree) (body : Tree) (bs : Bindings) (u : Term) → StandForValues s vars trees bs →
+        StandsFor s body u → StandsFor s (let_term_tree vars trees body) (let_in bs u) }
 {}
 
 /// A law: an argument of an application is less high than it, and so are a let's values and its body. The call does

@@ -91,7 +91,7 @@ impl Listing {
         Ok(Part::Cell(number))
     }
 
-    /// Lists those cells of what `r` is known to be that are not listed yet, and answers what it is in the list. Loads
+    /// Lists those cells of what `r` is known to be that are not listed yet, and returns what it is in the list. Loads
     /// each of them once. The cells on the way down to where the walk is stand in a vector, so the walk takes no stack.
     #[tactic(auto, using(std::proofs::lemmas::List::Sums::sum_by_push))]
     pub(crate) fn add(

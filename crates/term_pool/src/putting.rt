@@ -44,7 +44,8 @@ impl Image {
 /// What a part of a cell has become, where the cells up to it have become these: a leaf for which nothing is put in stays.
 fn look(images: &HashMap<u32, Image>, made: &[Image], part: Part) -> Image
     requires { IsBefore (length made.now) part }
-    ensures { (pass : PassView) (f : ℕ → Piece) (trees : List Tree) → ArePiecesOfLeaves pass images.now f → AreImages pass f made.now trees → IsImageOfPiece pass result (put f (tree_of trees part)) }
+    ensures { (pass : PassView) (f : ℕ → Piece) (trees : List Tree) → ArePiecesOfLeaves pass images.now f → AreImages pass f made.now trees →
+        IsImageOfPiece pass result (put f (tree_of trees part)) }
 {
     match part {
         Part::Leaf(k) => match images.get(&k) {
@@ -84,9 +85,11 @@ pub(crate) fn put(
     requires of_pool { IsPassOf pool.now pass.old }
     requires known { IsKnown pass.old r }
     requires images { HasPieceImages pass.old images.now }
-    ensures image { IfOk result (λ d. (f : ℕ → Piece) (t : Tree) → ArePiecesOfLeaves pass.old images.now f → Knows pass.old r t → IsImageOfPiece pass.new d (put f t)) }
+    ensures image { IfOk result (λ d. (f : ℕ → Piece) (t : Tree) → ArePiecesOfLeaves pass.old images.now f → Knows pass.old r t →
+        IsImageOfPiece pass.new d (put f t)) }
     ensures placed { (f : ℕ → Piece) → ArePiecesOfLeaves pass.old images.now f → PlacesPiece pass.old pass.new f r }
-    ensures full { IfErr result (λ e. e ≡ TermStop.PoolFull → (f : ℕ → Piece) → ArePiecesOfLeaves pass.old images.now f → LacksRoomForPiece pass.old pass.new f r) }
+    ensures full { IfErr result (λ e. e ≡ TermStop.PoolFull → (f : ℕ → Piece) → ArePiecesOfLeaves pass.old images.now f →
+        LacksRoomForPiece pass.old pass.new f r) }
     ensures keeps { KeepsPass pass.old pass.new }
     ensures of_pool { IsPassOf pool.now pass.new }
 {

@@ -1,4 +1,4 @@
-//! Why a call that builds terms and takes memory cannot answer.
+//! Why a call that builds terms and takes memory fails.
 
 ghost use Rattle.std.specs.Prelude.{◌≡◌};
 ghost use Rattle.term_pool.specs.declared.stop.TermStop.TheVariants as TermStop;
@@ -11,7 +11,7 @@ use std::alloc::AllocFailed;
 pub enum TermStop {
     /// The pool had no room for a cell of it.
     PoolFull,
-    /// Want of memory.
+    /// Out of memory.
     Memory,
 }
 

@@ -1,4 +1,4 @@
--- Cited by crates above. What calls answer that do one part of a reading after another.
+-- Cited by crates above. What calls return that do one part of a reading after another.
 use Rattle.std.proofs.Common.{◌≡◌, List, Result, Ok, Err, sym, ap, subst}
 use Rattle.std.specs.Prelude.{Contains}
 use Rattle.sexpr.specs.declared.causes.Refusal.{Refusal}
@@ -58,7 +58,7 @@ module _ {S A B T U : Type 0} {read : S → List Term} {s : Table} {old mid : Te
   pub stops : {fault : ReadFault} → ComesTo read old (both s mid) M o (Err fault) → Comes read old (both s mid) N (and_then o next) (Err fault)
   stops h = fails (and_then o next) (part_then read o next keeps) h
 
-  -- The first part has none, and this is what the others answer.
+  -- The first part has none, and this is what the others return.
   pub goes : {t : T} {z : Table} {new : TermsView} {r : Result U ReadFault} → ComesTo read old (both s mid) M o (Ok t) → Keeps s z → KeepsTerms mid new
       → ((a : A) (q : S) → M t a q → Comes read mid (both z new) N (next a q) r) → Comes read old (both z new) N (and_then o next) r
   goes {t} {z} {new} {r} h table terms k =

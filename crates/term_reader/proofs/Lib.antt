@@ -24,3 +24,7 @@ pub mod InnermostForm
 pub mod TakenNames
 pub mod PushedVariables
 pub mod ViewsStay
+pub mod Unnamed
+pub mod LatelyLemmas
+pub mod ReadLately
+pub mod EntriesKept

@@ -1,4 +1,4 @@
--- Cited by crates above. One term more that was read, on the stacks and in the script.
+-- One term more that was read, on the stacks and in the script.
 use Rattle.std.proofs.Common.{◌≤◌, ℕ, zero, suc, sym, subst, List, [], ◌∷◌, ◌++◌, length, take, drop, Option, Some, None}
 use Rattle.std.specs.List.{AllZip}
 use Rattle.std.proofs.lemmas.List.{drop-append-le}

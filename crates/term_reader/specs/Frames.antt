@@ -21,7 +21,8 @@ use Rattle.term_names.specs.Heads.{HeadMeans}
 use Rattle.term_expansion.specs.SymbolsAndTerms.{SymbolsAndTerms}
 
 -- the terms that were read are the values from place `from` on, and the arguments that are left stand from node n on
-pub record HasArgumentsSoFar (items : ItemsView) (w : SymbolsAndTerms) (k : KnownView) (head : Head) (from end n : ℕ) (values : List Value) (m : Meaning) (read : List Typed) : Type 0 where
+pub record HasArgumentsSoFar (items : ItemsView) (w : SymbolsAndTerms) (k : KnownView) (head : Head) (from end n : ℕ) (values : List Value) (m : Meaning)
+    (read : List Typed) : Type 0 where
   pub applies : HeadMeans w k head m
   pub within : from ≤ length values
   pub read_values : AreValues w (drop from values) read
@@ -29,7 +30,8 @@ pub record HasArgumentsSoFar (items : ItemsView) (w : SymbolsAndTerms) (k : Know
 
 -- The variables and values that were read are the leaves from place `first` and the values from place `from` on. The
 -- variable of the term that is read now stands at node `name`, and the pairs that are left from node n on.
-pub record HasBindings (items : ItemsView) (w : SymbolsAndTerms) (from first name repeat body n : ℕ) (values : List Value) (leaves : List ℕ) (read : List Bound) (earlier : List (List ℕ)) (left : LetBinds) : Type 0 where
+pub record HasBindings (items : ItemsView) (w : SymbolsAndTerms) (from first name repeat body n : ℕ) (values : List Value) (leaves : List ℕ)
+    (read : List Bound) (earlier : List (List ℕ)) (left : LetBinds) : Type 0 where
   pub within : from ≤ length values
   pub leaves_within : first ≤ length leaves
   pub read_bound : AreValuesBound w (drop first leaves) (drop from values) read
@@ -39,7 +41,8 @@ pub record HasBindings (items : ItemsView) (w : SymbolsAndTerms) (from first nam
   pub body_here : body < length items.nodes
 
 -- The variables that a let binds, of which there is one or more, stand inside the others.
-pub record HasBody (w : SymbolsAndTerms) (from first : ℕ) (values : List Value) (leaves : List ℕ) (scope : List Scoped) (p : Place) (bound : List Bound) (around : List Scoped) (outer : Place) : Type 0 where
+pub record HasBody (w : SymbolsAndTerms) (from first : ℕ) (values : List Value) (leaves : List ℕ) (scope : List Scoped) (p : Place) (bound : List Bound)
+    (around : List Scoped) (outer : Place) : Type 0 where
   pub within : from ≤ length values
   pub leaves_within : first < length leaves
   pub bound_here : AreValuesBound w (drop first leaves) (drop from values) bound
@@ -58,7 +61,8 @@ pub record WholeReading : Type 0 where
 
 -- By recursion from the innermost: the open forms, with the values and leaves that each owns, are these that wait. The term
 -- that is read now stands at place p and ends before node n.
-abbrev pub AreFrames : ItemsView → WholeReading → SymbolsAndTerms → KnownView → List Frame → List Value → List ℕ → List Scoped → Place → ℕ → List Waiting → Type 0
+abbrev pub AreFrames : ItemsView → WholeReading → SymbolsAndTerms → KnownView → List Frame → List Value → List ℕ → List Scoped → Place → ℕ → List Waiting →
+    Type 0
 AreFrames items g w k [] values leaves scope p n ws =
     (ws ≡ []) × (values ≡ []) × (leaves ≡ []) × (scope ≡ g.around) × (p ≡ g.place) × (n ≡ g.last)
 AreFrames items g w k (Frame.Arguments opened ∷ fs) values leaves scope p n ws =

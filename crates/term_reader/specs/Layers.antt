@@ -24,7 +24,8 @@ forms_at items k m = forms_of (items_at items k m)
 abbrev pub AreBinds : ItemsView → ℕ → LetBinds → ℕ → Type 0
 AreBinds items k no_binds m = k ≡ m
 AreBinds items k (bind x f bs) m =
-    IsSymbolAt items (k + 1) × (x ≡ name_in items (k + 1)) × (k + 2 < length items.nodes) × (f ≡ form_at items (k + 2)) × AreBinds items (end_at items (k + 2)) bs m
+    IsSymbolAt items (k + 1) × (x ≡ name_in items (k + 1)) × (k + 2 < length items.nodes) × (f ≡ form_at items (k + 2)) ×
+    AreBinds items (end_at items (k + 2)) bs m
 
 -- after `:named` stands a symbol, all along a list of attributes
 abbrev pub NamesAreSymbols : Item → Items → Type 0

@@ -24,6 +24,7 @@ pub record Spends (items : ItemsView) (s : Table) (r : ReadingView) (turn : Turn
 
 -- The term c was read, and the next item begins at node n. From these symbols and terms and the reader r it goes on with the
 -- new ones and q.
-pub record Leaves (items : ItemsView) (g : WholeReading) (old : SymbolsAndTerms) (r : ReadingView) (c : Value) (n : ℕ) (new : SymbolsAndTerms) (q : ReadingView) (result : Result Turn ReadFault) : Type 0 where
+pub record Leaves (items : ItemsView) (g : WholeReading) (old : SymbolsAndTerms) (r : ReadingView) (c : Value) (n : ℕ) (new : SymbolsAndTerms)
+    (q : ReadingView) (result : Result Turn ReadFault) : Type 0 where
   pub goes : Goes items g old.terms new q result
   pub spends : n ≤ length items.nodes → IfOk result (λ (next : Turn). Spends items old.symbols r (Turn.Use c n) new.symbols q next)

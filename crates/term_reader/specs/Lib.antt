@@ -13,3 +13,5 @@ pub mod Entering
 pub mod ProblemViews
 pub mod Leaving
 pub mod OpenApplications
+pub mod Lately
+pub mod KeptEntries

@@ -9,6 +9,7 @@ use Rattle.term_names.specs.Entries.{EntriesView, no_entries}
 use Rattle.problem_text.specs.Limits.{most_height}
 use Rattle.problem_text.specs.Names.{Bound, Place, itself}
 use Rattle.problem_text.specs.Problems.{problem}
+use Rattle.term_reader.specs.Lately.{LatelyView, AreRight}
 use Rattle.term_reader.specs.Reading.{IsReaderIdle, terms_read, ComesTo}
 use Rattle.problem_text.specs.TypedTerms.{Typed}
 use Rattle.problem_text.specs.Outcomes.{Outcome}
@@ -41,18 +42,28 @@ pub record IsCounted (source : List ℕ) (replaces_lets : Bool) (t : Term) : Typ
   pub nested : StandsForItems source items
   pub read : Contains (problem replaces_lets items).state.terms t
 
--- What a reader holds, and the variables that were pushed since it read a term, by their leaves, the last one first.
+-- What a reader holds; the variables that were pushed since it read a term, by their leaves, the last one first; and what it
+-- keeps of the lists that it read before.
 pub record ReaderView : Type 0 where
   pub reader : ReadingView
   pub pushed : List ℕ
+  pub lately : LatelyView
 
--- the reader stands for the script and the place, whose scope begins with the variables that were pushed
+-- The reader stands for the script and the place, whose scope begins with the variables that were pushed. What it keeps of lists
+-- is right outside them.
 pub record IsReaderOf (s : Table) (v : TermsView) (r : ReaderView) (sc : Script) (p : Place) : Type 0 where
   pub variables : List Var
   pub around : List Bound
   pub scope : p.scope ≡ map itself variables ++ around
   pub pushed : AreLeavesOf s r.pushed variables
   pub idle : IsReaderIdle (both s v) r.reader sc (record { scope = around; settings = p.settings })
+  pub lists : AreRight (both s v) (record { scope = around; settings = p.settings }) sc r.lately
+
+-- The reader stands for the script and the place, and no variable is left to be put in scope.
+pub record HasEntered (s : Table) (v : TermsView) (r : ReaderView) (sc : Script) (p : Place) : Type 0 where
+  pub none : r.pushed ≡ []
+  pub idle : IsReaderIdle (both s v) r.reader sc p
+  pub lists : AreRight (both s v) p sc r.lately
 
 -- A term was read, and the reader is ready for the next one.
 pub record IsReferenceRead (s : Table) (v : TermsView) (r : ReaderView) (p : Place) (k : ℕ) (t : Typed) (sc : Script) : Type 0 where

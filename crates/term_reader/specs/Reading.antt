@@ -1,4 +1,4 @@
--- Public. What a call answers whose definition comes to an outcome.
+-- Public. What a call returns whose definition comes to an outcome.
 use Rattle.std.specs.Prelude.{◌≡◌, ◌≤◌, List, [], Contains, Result, Ok, Err}
 use Rattle.pair_pool.specs.Views.{PassView}
 use Rattle.sexpr.specs.declared.causes.Refusal.{Refusal}
@@ -38,7 +38,8 @@ IsAnswer read w After o (Ok t) = After t
 IsAnswer read w After o (Err fault) = EndsWith w.symbols w.terms.pass o.result (IsReadBy read o) fault
 
 -- The result is that of a reading that comes to this outcome, and what was placed since are cells of terms that were read.
-pub record Comes {S A T : Type 0} (read : S → List Term) (before : TermsView) (w : SymbolsAndTerms) (After : T → Type 0) (o : Outcome S A) (result : Result T ReadFault) : Type 0 where
+pub record Comes {S A T : Type 0} (read : S → List Term) (before : TermsView) (w : SymbolsAndTerms) (After : T → Type 0) (o : Outcome S A)
+    (result : Result T ReadFault) : Type 0 where
   pub answer : IsAnswer read w After o result
   pub placed : PlacesCellsOf w.symbols before.pass w.terms.pass (IsReadBy read o)
 

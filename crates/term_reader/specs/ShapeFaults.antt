@@ -1,4 +1,4 @@
--- Private. What the parts of a term's shape answer.
+-- Private. What the parts of a term's shape return.
 use Rattle.std.specs.Prelude.{◌≡◌, ℕ, ◌+◌, ◌<◌, pos, List, length, if◌then◌else◌, Bool, true, false, bytes_eq, Option, Some}
 use Rattle.problem_text.specs.Forms.{Form, faulty, number, symbol, application, let_form, annotated, LetBinds}
 use Rattle.text_items.specs.ItemsAt.{ItemsView, end_at, item_at}

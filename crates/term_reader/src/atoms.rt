@@ -33,7 +33,7 @@ use text_items::nodes::ItemText;
 use text_items::refusals::refused;
 use text_items::shapes::{name_of, place_at};
 
-/// The value of a numeral, whose leaf is added where it is not there. Refused for want of memory alone.
+/// The value of a numeral, whose leaf is added where it is not there. Refused only when out of memory.
 pub(crate) fn number_value(symbols: &mut Symbols, n: i128) -> Result<Value, ReadFault>
     requires not_negative { pos 0 ≤ℤ n }
     requires room { length symbols.old.leaves < 2 ^ 30 }
@@ -63,7 +63,9 @@ pub(crate) fn symbol_value(
 ) -> Result<Value, ReadFault>
     requires name { IsSymbolAt items.now k }
     requires reader { (sc : Script) × (p : Place) × ReaderStands (both symbols.now terms.old) (reader_in settings.now reader.now) sc p }
-    ensures reads { (sc : Script) (p : Place) → ReaderStands (both symbols.now terms.old) (reader_in settings.now reader.now) sc p → ComesTo terms_read terms.old (both symbols.now terms.new) (IsReadAlone (both symbols.now terms.new) sc) (term_from (symbol (name_in items.now k)) p sc) result }
+    ensures reads { (sc : Script) (p : Place) → ReaderStands (both symbols.now terms.old) (reader_in settings.now reader.now) sc p →
+        ComesTo terms_read terms.old (both symbols.now terms.new) (IsReadAlone (both symbols.now terms.new) sc)
+        (term_from (symbol (name_in items.now k)) p sc) result }
     ensures keeps { KeepsTerms terms.old terms.new }
 {
     let place = place_at(items, k);
@@ -89,7 +91,8 @@ pub(crate) fn head_at(
     k: usize,
 ) -> Option<Head>
     requires { IsSymbolAt items.now k }
-    ensures { (v : TermsView) (sc : Script) (p : Place) → ReaderStands (both symbols.now v) (reader_in settings.now reader.now) sc p → IsHeadFound (both symbols.now v) (known_in settings.now reader.now.names) result (meaning_of p sc (name_in items.now k).name) }
+    ensures { (v : TermsView) (sc : Script) (p : Place) → ReaderStands (both symbols.now v) (reader_in settings.now reader.now) sc p →
+        IsHeadFound (both symbols.now v) (known_in settings.now reader.now.names) result (meaning_of p sc (name_in items.now k).name) }
 {
     let tables = NameTables {
         settings,

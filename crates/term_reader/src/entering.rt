@@ -1,5 +1,5 @@
 //! Reading a term from its top.
-ghost use Rattle.std.specs.Prelude.{◌≡◌, ◌≤◌, ◌<◌, ◌^◌, ◌+◌, ◌∷◌, length, IfOk, IfErr, OnErr};
+ghost use Rattle.std.specs.Prelude.{◌≡◌, ◌≤◌, ◌<◌, ◌^◌, ◌+◌, ◌∷◌, length, IfOk, IfErr, OnOk, OnErr};
 ghost use Rattle.sym_table.specs.Table.{Table};
 ghost use Rattle.term_pool.specs.Views.{TermsView};
 ghost use Rattle.text_items.specs.Stepping.{AreInside};
@@ -40,12 +40,15 @@ pub(crate) fn enter(
     requires at { (g : WholeReading) × IsAt items.now g (both symbols.old terms.old) (reader_in settings.now reader.old) k }
     requires inside { AreInside items.now }
     requires room { bound_of symbols.old items.now.nodes reader.old.frames k ≤ 2 ^ 30 }
-    ensures goes { (g : WholeReading) → IsAt items.now g (both symbols.old terms.old) (reader_in settings.now reader.old) k → Goes items.now g terms.old (both symbols.new terms.new) (reader_in settings.now reader.new) result }
+    ensures goes { (g : WholeReading) → IsAt items.now g (both symbols.old terms.old) (reader_in settings.now reader.old) k →
+        Goes items.now g terms.old (both symbols.new terms.new) (reader_in settings.now reader.new) result }
     ensures inside { IfOk result (λ t. node_of t ≤ length items.now.nodes) }
-    ensures few { IfOk result (λ t. bound_of symbols.new items.now.nodes reader.new.frames (node_of t) ≤ bound_of symbols.old items.now.nodes reader.old.frames k) }
+    ensures few { IfOk result (λ t. bound_of symbols.new items.now.nodes reader.new.frames
+        (node_of t) ≤ bound_of symbols.old items.now.nodes reader.old.frames k) }
     ensures few_at_all { OnErr result (length symbols.new.leaves ≤ bound_of symbols.old items.now.nodes reader.old.frames k) }
     ensures progress { IfOk result (λ t. effort items.now.nodes reader.new.frames t < effort items.now.nodes reader.old.frames (turn.Read k)) }
     ensures grow { GrowByTerms (both symbols.old terms.old) (both symbols.new terms.new) }
+    ensures own { OnOk result (reader.new.names.own ≡ reader.old.names.own) }
 {
     // A place in the list of nodes, or behind it, is a number that fits.
     let _count = items.count();
@@ -83,11 +86,16 @@ fn enter_application(
     k: usize,
     parts: &ApplicationParts,
 ) -> Result<Turn, ReadFault>
-    requires { (v : TermsView) × (g : WholeReading) × HasTop items.now g (both symbols.now v) (reader_in settings.now reader.old) k (top.Application parts.now.head parts.now.first parts.now.end) }
-    ensures goes { (v : TermsView) (g : WholeReading) → HasTop items.now g (both symbols.now v) (reader_in settings.now reader.old) k (top.Application parts.now.head parts.now.first parts.now.end) → Goes items.now g v (both symbols.now v) (reader_in settings.now reader.new) result }
+    requires { (v : TermsView) × (g : WholeReading) × HasTop items.now g (both symbols.now v) (reader_in settings.now reader.old) k
+        (top.Application parts.now.head parts.now.first parts.now.end) }
+    ensures goes { (v : TermsView) (g : WholeReading) →
+        HasTop items.now g (both symbols.now v) (reader_in settings.now reader.old) k (top.Application parts.now.head parts.now.first parts.now.end) →
+        Goes items.now g v (both symbols.now v) (reader_in settings.now reader.new) result }
     ensures inside { IfOk result (λ t. node_of t ≤ length items.now.nodes) }
-    ensures few { IfOk result (λ t. bound_of symbols.now items.now.nodes reader.new.frames (node_of t) ≤ bound_of symbols.now items.now.nodes reader.old.frames k) }
+    ensures few { IfOk result (λ t. bound_of symbols.now items.now.nodes reader.new.frames
+        (node_of t) ≤ bound_of symbols.now items.now.nodes reader.old.frames k) }
     ensures progress { IfOk result (λ t. effort items.now.nodes reader.new.frames t < effort items.now.nodes reader.old.frames (turn.Read k)) }
+    ensures own { OnOk result (reader.new.names.own ≡ reader.old.names.own) }
 {
     let ApplicationParts { head, first, end } = *parts;
     let Some(applied) = head_at(settings, items, symbols, reader, head) else {
@@ -113,10 +121,13 @@ fn enter_let(
     body: usize,
 ) -> Result<Turn, ReadFault>
     requires { (s : Table) × (v : TermsView) × (g : WholeReading) × HasTop items.now g (both s v) (reader_in settings.now reader.old) k (top.Let first body) }
-    ensures goes { (s : Table) (v : TermsView) (g : WholeReading) → HasTop items.now g (both s v) (reader_in settings.now reader.old) k (top.Let first body) → Goes items.now g v (both s v) (reader_in settings.now reader.new) result }
+    ensures goes { (s : Table) (v : TermsView) (g : WholeReading) →
+        HasTop items.now g (both s v) (reader_in settings.now reader.old) k (top.Let first body) →
+        Goes items.now g v (both s v) (reader_in settings.now reader.new) result }
     ensures inside { IfOk result (λ t. node_of t ≤ length items.now.nodes) }
     ensures few { (s : Table) → IfOk result (λ t. bound_of s items.now.nodes reader.new.frames (node_of t) ≤ bound_of s items.now.nodes reader.old.frames k) }
     ensures progress { IfOk result (λ t. effort items.now.nodes reader.new.frames t < effort items.now.nodes reader.old.frames (turn.Read k)) }
+    ensures own { OnOk result (reader.new.names.own ≡ reader.old.names.own) }
 {
     // A place in the list of nodes, or behind it, is a number that fits.
     let _count = items.count();
@@ -135,7 +146,7 @@ fn enter_let(
     open_form(reader, Frame::Bindings(form), first + 2)
 }
 
-/// Opens a form, and then reads the term at node `next`. Refused for want of memory alone.
+/// Opens a form, and then reads the term at node `next`. Refused only when out of memory.
 fn open_form(reader: &mut Reader, frame: Frame, next: usize) -> Result<Turn, ReadFault>
     ensures opened { IfOk result (λ t. (t ≡ turn.Read next) × (reader.new ≡ record reader.old { frames = frame ∷ reader.old.frames })) }
     ensures fault { IfErr result (λ f. f ≡ fault.Memory) }

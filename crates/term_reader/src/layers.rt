@@ -185,7 +185,8 @@ fn symbol_list_layer(items: &ItemText<'_, '_>, k: usize, first: usize, name: &[u
 fn let_layer(items: &ItemText<'_, '_>, k: usize, first: usize) -> Layer
     requires applied { IsApplied items.now k first }
     requires inside { AreInside items.now }
-    ensures { IsLayer items.now k result (spec.unless_faulty (spec.let_fault (place_of (item_at items.now k)) (arguments_of items.now k first)) (spec.let_form (place_of (item_at items.now k)) (binds_of (item_at items.now first)) (spec.first_form (forms_of (others_of items.now k first))))) }
+    ensures { IsLayer items.now k result (spec.unless_faulty (spec.let_fault (place_of (item_at items.now k)) (arguments_of items.now k first))
+        (spec.let_form (place_of (item_at items.now k)) (binds_of (item_at items.now first)) (spec.first_form (forms_of (others_of items.now k first))))) }
 {
     let list = items.node(k);
     if let Some(at) = let_fault(items, list.token.start, first, list.next) {
@@ -202,7 +203,8 @@ fn let_layer(items: &ItemText<'_, '_>, k: usize, first: usize) -> Layer
 fn annotation_layer(items: &ItemText<'_, '_>, k: usize, first: usize) -> Layer
     requires applied { IsApplied items.now k first }
     requires inside { AreInside items.now }
-    ensures { IsLayer items.now k result (spec.unless_faulty (spec.annotation_fault (place_of (item_at items.now k)) (arguments_of items.now k first)) (spec.annotated (place_of (item_at items.now k)) (form_of (item_at items.now first)) (spec.names_given (arguments_of items.now k first)))) }
+    ensures { IsLayer items.now k result (spec.unless_faulty (spec.annotation_fault (place_of (item_at items.now k)) (arguments_of items.now k first))
+        (spec.annotated (place_of (item_at items.now k)) (form_of (item_at items.now first)) (spec.names_given (arguments_of items.now k first)))) }
 {
     let list = items.node(k);
     if let Some(at) = annotation_fault(items, list.token.start, first, list.next) {

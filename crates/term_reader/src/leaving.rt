@@ -1,5 +1,5 @@
 //! What is done with a term that was read.
-ghost use Rattle.std.specs.Prelude.{◌≡◌, ◌≤◌, ◌<◌, ◌^◌, length, IfOk, OnErr};
+ghost use Rattle.std.specs.Prelude.{◌≡◌, ◌≤◌, ◌<◌, ◌^◌, length, IfOk, OnErr, OnOk};
 ghost use Rattle.term_pool.specs.Views.{KeepsTerms};
 ghost use Rattle.term_reader.specs.Frames.{WholeReading};
 ghost use Rattle.term_reader.specs.Leaving.{with_open, Leaves};
@@ -11,6 +11,7 @@ ghost use Rattle.term_reader.specs.declared.frames.Frame.TheVariants as frame;
 ghost use Rattle.text_items.specs.ItemsAt.{ItemsView};
 ghost use Rattle.term_reader.specs.declared.reader.Turn.TheVariants as turn;
 ghost use Rattle.term_expansion.specs.SymbolsAndTerms.{both};
+ghost use Rattle.term_reader.specs.KeptEntries.{KeepsEntries};
 
 use crate::attributes::TermAttributes;
 use crate::frames::{Frame, OpenArguments};
@@ -28,6 +29,7 @@ use term_pool::Terms;
 use text_items::nodes::ItemText;
 
 /// Goes on with the innermost open form, whose next term was read.
+#[tactic(auto, using(crate::proofs::EntriesKept::none_named))]
 pub(crate) fn leave(
     settings: &ReadSettings<'_>,
     items: &ItemText<'_, '_>,
@@ -40,12 +42,16 @@ pub(crate) fn leave(
     requires open { 0 < length reader.old.frames }
     requires inside { read.next ≤ length items.now.nodes }
     requires room { bound_of symbols.old items.now.nodes reader.old.frames read.next ≤ 2 ^ 30 }
-    ensures goes { (g : WholeReading) → HasRead items.now g (both symbols.old terms.old) (reader_in settings.now reader.old) read.value read.next → Goes items.now g terms.old (both symbols.new terms.new) (reader_in settings.now reader.new) result }
+    ensures goes { (g : WholeReading) → HasRead items.now g (both symbols.old terms.old) (reader_in settings.now reader.old) read.value read.next →
+        Goes items.now g terms.old (both symbols.new terms.new) (reader_in settings.now reader.new) result }
     ensures inside { IfOk result (λ t. node_of t ≤ length items.now.nodes) }
-    ensures few { IfOk result (λ t. bound_of symbols.new items.now.nodes reader.new.frames (node_of t) ≤ bound_of symbols.old items.now.nodes reader.old.frames read.next) }
+    ensures few { IfOk result (λ t. bound_of symbols.new items.now.nodes reader.new.frames
+        (node_of t) ≤ bound_of symbols.old items.now.nodes reader.old.frames read.next) }
     ensures few_at_all { OnErr result (length symbols.new.leaves ≤ bound_of symbols.old items.now.nodes reader.old.frames read.next) }
-    ensures progress { IfOk result (λ t. effort items.now.nodes reader.new.frames t < effort items.now.nodes reader.old.frames (turn.Use read.value read.next)) }
+    ensures progress { IfOk result (λ t. effort items.now.nodes reader.new.frames t < effort items.now.nodes reader.old.frames
+        (turn.Use read.value read.next)) }
     ensures grow { GrowByTerms (both symbols.old terms.old) (both symbols.new terms.new) }
+    ensures own { OnOk result (KeepsEntries reader.old.names reader.new.names) }
 {
     // An application stays where it is until its last argument is read.
     if reader.frames.wants_more(read.next) {
@@ -81,9 +87,14 @@ fn leave_arguments(
     value: Value,
     form: &OpenArguments,
 ) -> Result<Turn, ReadFault>
-    requires read { (items : ItemsView) × (g : WholeReading) × HasRead items g (both symbols.now terms.old) (with_open (reader_in settings.now reader.old) (frame.Arguments form.now)) value form.now.end }
-    ensures leaves { (items : ItemsView) (g : WholeReading) → HasRead items g (both symbols.now terms.old) (with_open (reader_in settings.now reader.old) (frame.Arguments form.now)) value form.now.end → Leaves items g (both symbols.now terms.old) (with_open (reader_in settings.now reader.old) (frame.Arguments form.now)) value form.now.end (both symbols.now terms.new) (reader_in settings.now reader.new) result }
+    requires read { (items : ItemsView) × (g : WholeReading) ×
+        HasRead items g (both symbols.now terms.old) (with_open (reader_in settings.now reader.old) (frame.Arguments form.now)) value form.now.end }
+    ensures leaves { (items : ItemsView) (g : WholeReading) →
+        HasRead items g (both symbols.now terms.old) (with_open (reader_in settings.now reader.old) (frame.Arguments form.now)) value form.now.end →
+        Leaves items g (both symbols.now terms.old) (with_open (reader_in settings.now reader.old) (frame.Arguments form.now)) value form.now.end
+        (both symbols.now terms.new) (reader_in settings.now reader.new) result }
     ensures keeps { KeepsTerms terms.old terms.new }
+    ensures own { OnOk result (reader.new.names.own ≡ reader.old.names.own) }
 {
     reader.values.push(value)?;
     let tables = NameTables {
@@ -106,9 +117,15 @@ fn leave_annotated(
     reader: &mut Reader,
     value: Value,
 ) -> Result<Turn, ReadFault>
-    requires read { (g : WholeReading) × HasRead attributes.now.items.now g (both symbols.now terms.old) (with_open (reader_in settings.now reader.old) (frame.Names attributes.now.end)) value attributes.now.first }
-    ensures leaves { (g : WholeReading) → HasRead attributes.now.items.now g (both symbols.now terms.old) (with_open (reader_in settings.now reader.old) (frame.Names attributes.now.end)) value attributes.now.first → Leaves attributes.now.items.now g (both symbols.now terms.old) (with_open (reader_in settings.now reader.old) (frame.Names attributes.now.end)) value attributes.now.first (both symbols.now terms.new) (reader_in settings.now reader.new) result }
+    requires read { (g : WholeReading) × HasRead attributes.now.items.now g (both symbols.now terms.old)
+        (with_open (reader_in settings.now reader.old) (frame.Names attributes.now.end)) value attributes.now.first }
+    ensures leaves { (g : WholeReading) →
+        HasRead attributes.now.items.now g (both symbols.now terms.old) (with_open (reader_in settings.now reader.old) (frame.Names attributes.now.end))
+        value attributes.now.first → Leaves attributes.now.items.now g (both symbols.now terms.old)
+        (with_open (reader_in settings.now reader.old) (frame.Names attributes.now.end)) value attributes.now.first (both symbols.now terms.new)
+        (reader_in settings.now reader.new) result }
     ensures keeps { KeepsTerms terms.old terms.new }
+    ensures own { OnOk result (KeepsEntries reader.old.names reader.new.names) }
 {
     // The value is needed again once its names are given, so it is lent and copied.
     let term = &value;

@@ -40,12 +40,17 @@ pub(crate) fn leave_binding(
     read: TermRead,
     form: &OpenBindings,
 ) -> Result<Turn, ReadFault>
-    requires read { (v : TermsView) × (g : WholeReading) × HasRead items.now g (both symbols.old v) (with_open (reader_in settings.now reader.old) (frame.Bindings form.now)) read.value read.next }
+    requires read { (v : TermsView) × (g : WholeReading) ×
+        HasRead items.now g (both symbols.old v) (with_open (reader_in settings.now reader.old) (frame.Bindings form.now)) read.value read.next }
     requires inside { read.next ≤ length items.now.nodes }
     requires room { bound_of symbols.old items.now.nodes (frame.Bindings form.now ∷ reader.old.frames) read.next ≤ 2 ^ 30 }
-    ensures leaves { (v : TermsView) (g : WholeReading) → HasRead items.now g (both symbols.old v) (with_open (reader_in settings.now reader.old) (frame.Bindings form.now)) read.value read.next → Leaves items.now g (both symbols.old v) (with_open (reader_in settings.now reader.old) (frame.Bindings form.now)) read.value read.next (both symbols.new v) (reader_in settings.now reader.new) result }
+    ensures leaves { (v : TermsView) (g : WholeReading) →
+        HasRead items.now g (both symbols.old v) (with_open (reader_in settings.now reader.old) (frame.Bindings form.now)) read.value read.next →
+        Leaves items.now g (both symbols.old v) (with_open (reader_in settings.now reader.old) (frame.Bindings form.now)) read.value read.next
+        (both symbols.new v) (reader_in settings.now reader.new) result }
     ensures symbols { AddsNoSymbols symbols.old symbols.new }
     ensures one_more { length symbols.new.leaves ≤ length symbols.old.leaves + 1 }
+    ensures own { OnOk result (reader.new.names.own ≡ reader.old.names.own) }
 {
     let TermRead { value, next: n } = read;
     let OpenBindings {
@@ -93,7 +98,7 @@ pub(crate) fn leave_binding(
     Ok(Turn::Read(n + 2))
 }
 
-/// Puts the leaf of a variable behind the others. Its name stands at node `name`. Refuses want of memory alone.
+/// Puts the leaf of a variable behind the others. Its name stands at node `name`. Refuses only when out of memory.
 fn add_variable(
     items: &ItemText<'_, '_>,
     symbols: &mut Symbols,
@@ -103,7 +108,8 @@ fn add_variable(
 ) -> Result<(), ReadFault>
     requires name { IsSymbolAt items.now name }
     requires room { length symbols.old.leaves < 2 ^ 30 }
-    ensures added { OnOk result ((k : ℕ) × IsLeaf symbols.new k (leaf.variable (name_in items.now name).name sort) × (leaves.new.items ≡ leaves.old.items ++ k ∷ [])) }
+    ensures added { OnOk result ((k : ℕ) × IsLeaf symbols.new k (leaf.variable (name_in items.now name).name sort) ×
+        (leaves.new.items ≡ leaves.old.items ++ k ∷ [])) }
     ensures symbols { AddsNoSymbols symbols.old symbols.new }
     ensures one_more { length symbols.new.leaves ≤ length symbols.old.leaves + 1 }
     ensures memory { IfErr result (λ fault. fault ≡ ReadFault.Memory) }
@@ -122,9 +128,14 @@ pub(crate) fn leave_body(
     read: TermRead,
     form: &OpenBody,
 ) -> Result<Turn, ReadFault>
-    requires read { (items : ItemsView) × (g : WholeReading) × HasRead items g (both symbols.now terms.old) (with_open (reader_in settings.now reader.old) (frame.Body form.now)) read.value read.next }
-    ensures leaves { (items : ItemsView) (g : WholeReading) → HasRead items g (both symbols.now terms.old) (with_open (reader_in settings.now reader.old) (frame.Body form.now)) read.value read.next → Leaves items g (both symbols.now terms.old) (with_open (reader_in settings.now reader.old) (frame.Body form.now)) read.value read.next (both symbols.now terms.new) (reader_in settings.now reader.new) result }
+    requires read { (items : ItemsView) × (g : WholeReading) ×
+        HasRead items g (both symbols.now terms.old) (with_open (reader_in settings.now reader.old) (frame.Body form.now)) read.value read.next }
+    ensures leaves { (items : ItemsView) (g : WholeReading) →
+        HasRead items g (both symbols.now terms.old) (with_open (reader_in settings.now reader.old) (frame.Body form.now)) read.value read.next →
+        Leaves items g (both symbols.now terms.old) (with_open (reader_in settings.now reader.old) (frame.Body form.now)) read.value read.next
+        (both symbols.now terms.new) (reader_in settings.now reader.new) result }
     ensures keeps { KeepsTerms terms.old terms.new }
+    ensures own { OnOk result (reader.new.names.own ≡ reader.old.names.own) }
 {
     let TermRead { value, next } = read;
     let OpenBody {

@@ -7,7 +7,7 @@
 //! - `problem`: a problem that was read; `single_terms`: [`TermReader`], which reads single terms behind one.
 //!   `view_laws`: what these stand for stays.
 //!
-//! What a contract sees: `specs/Reading` (what a call answers whose definition comes to an outcome), `ReadingViews` (what a
+//! What a contract sees: `specs/Reading` (what a call returns whose definition comes to an outcome), `ReadingViews` (what a
 //! reader of terms holds, with the settings of the reading), `ProblemViews` (what a problem and a reader of terms stand for).
 #![tactic(auto)]
 
@@ -17,6 +17,7 @@ mod entering;
 pub mod flags;
 pub mod frame_stacks;
 pub mod frames;
+pub mod lately;
 mod layers;
 mod leaving;
 mod leaving_lets;
@@ -25,6 +26,7 @@ mod naming;
 pub mod problem;
 pub mod reader;
 pub mod reading;
+pub mod reading_once;
 pub mod repeats;
 mod settling;
 mod single_terms;

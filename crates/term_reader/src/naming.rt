@@ -1,5 +1,5 @@
 //! Names that attributes give to terms (SMT-LIB 2.6, on attributes of terms).
-ghost use Rattle.std.specs.Prelude.{◌≡◌, ◌≤◌, [], ◌∷◌};
+ghost use Rattle.std.specs.Prelude.{◌≡◌, ◌≤◌, [], ◌∷◌, OnOk};
 ghost use Rattle.pair_pool.specs.Views.{IsUnchanged};
 ghost use Rattle.sym_table.specs.Table.{Table};
 ghost use Rattle.term_pool.specs.Views.{TermsView, KeepsTerms};
@@ -16,6 +16,7 @@ ghost use Rattle.problem_text.specs.Terms.{with_names};
 ghost use Rattle.term_expansion.specs.Values.{IsValue};
 ghost use Rattle.term_names.specs.declared.names.Which.{Which};
 ghost use Rattle.term_expansion.specs.SymbolsAndTerms.{both};
+ghost use Rattle.term_reader.specs.KeptEntries.{KeepsEntries};
 
 use crate::attributes::{TermAttributes, next_name};
 use crate::taken::is_taken;
@@ -42,7 +43,8 @@ struct TermToName<'n> {
 /// function, a macro or a named term.
 ///
 /// Goes through the distinct cells of the term once where there is a name. Refuses at the first name that is taken, and
-/// want of memory.
+/// out of memory.
+#[tactic(auto, using(crate::proofs::EntriesKept::none_named))]
 pub(crate) fn give_names(
     settings: &ReadSettings<'_>,
     attributes: &TermAttributes<'_, '_, '_>,
@@ -55,11 +57,15 @@ pub(crate) fn give_names(
     requires term { (t : Typed) × IsValue (both symbols.now terms.old) value t }
     requires low { value.height ≤ most_height }
     requires script { (sc : Script) × IsScript (both symbols.now terms.old) (known_in settings.now names.old) sc }
-    ensures given { (t : Typed) (sc : Script) → IsValue (both symbols.now terms.old) value t → IsScript (both symbols.now terms.old) (known_in settings.now names.old) sc → GivesNames (both symbols.now terms.new) (known_in settings.now names.new) t (with_names t (names_at attributes.now.items.now attributes.now.first attributes.now.end) sc) result }
+    ensures given { (t : Typed) (sc : Script) → IsValue (both symbols.now terms.old) value t →
+        IsScript (both symbols.now terms.old) (known_in settings.now names.old) sc →
+        GivesNames (both symbols.now terms.new) (known_in settings.now names.new) t
+        (with_names t (names_at attributes.now.items.now attributes.now.first attributes.now.end) sc) result }
     ensures macros { (w : Which) → macro_of (known_in settings.now names.new) w ≡ macro_of (known_in settings.now names.old) w }
     ensures scope { names.new.scope ≡ names.old.scope }
     ensures keeps { KeepsTerms terms.old terms.new }
     ensures unchanged { IsUnchanged terms.old.pass terms.new.pass }
+    ensures own { OnOk result (KeepsEntries names.old names.new) }
 {
     let TermAttributes { items, first, end } = *attributes;
     if next_name(items, first, end).is_none() {
@@ -86,10 +92,15 @@ fn give_each(
     term: &TermToName<'_>,
 ) -> Result<(), ReadFault>
     requires attributes { AreTermAttributes attributes.now.items.now attributes.now.first attributes.now.end }
-    requires script { (s : Table) × (v : TermsView) × (t : Typed) × (sc : Script) × IsFreeIn (both s v) term.now.value.now term.now.free.now t × IsScript (both s v) (known_in settings.now names.old) sc }
-    ensures given { (s : Table) (v : TermsView) (t : Typed) (sc : Script) → IsFreeIn (both s v) term.now.value.now term.now.free.now t → IsScript (both s v) (known_in settings.now names.old) sc → GivesNames (both s v) (known_in settings.now names.new) t (with_names t (names_at attributes.now.items.now attributes.now.first attributes.now.end) sc) result }
+    requires script { (s : Table) × (v : TermsView) × (t : Typed) × (sc : Script) × IsFreeIn (both s v) term.now.value.now term.now.free.now t ×
+        IsScript (both s v) (known_in settings.now names.old) sc }
+    ensures given { (s : Table) (v : TermsView) (t : Typed) (sc : Script) → IsFreeIn (both s v) term.now.value.now term.now.free.now t →
+        IsScript (both s v) (known_in settings.now names.old) sc →
+        GivesNames (both s v) (known_in settings.now names.new) t
+        (with_names t (names_at attributes.now.items.now attributes.now.first attributes.now.end) sc) result }
     ensures macros { (w : Which) → macro_of (known_in settings.now names.new) w ≡ macro_of (known_in settings.now names.old) w }
     ensures scope { names.new.scope ≡ names.old.scope }
+    ensures own { OnOk result (KeepsEntries names.old names.new) }
 {
     let TermAttributes { items, first, end } = *attributes;
     let mut k = first;
@@ -103,6 +114,7 @@ fn give_each(
 }
 
 /// Gives a term the name at node `at`.
+#[tactic(auto, using(crate::proofs::EntriesKept::one_named))]
 fn give_name(
     settings: &ReadSettings<'_>,
     items: &ItemText<'_, '_>,
@@ -112,9 +124,12 @@ fn give_name(
 ) -> Result<(), ReadFault>
     requires name { IsSymbolAt items.now at }
     requires script { (s : Table) × (v : TermsView) × (sc : Script) × IsScript (both s v) (known_in settings.now names.old) sc }
-    ensures given { (s : Table) (v : TermsView) (t : Typed) (sc : Script) → IsFreeIn (both s v) term.now.value.now term.now.free.now t → IsScript (both s v) (known_in settings.now names.old) sc → GivesNames (both s v) (known_in settings.now names.new) t (with_names t (name_in items.now at ∷ []) sc) result }
+    ensures given { (s : Table) (v : TermsView) (t : Typed) (sc : Script) → IsFreeIn (both s v) term.now.value.now term.now.free.now t →
+        IsScript (both s v) (known_in settings.now names.old) sc →
+        GivesNames (both s v) (known_in settings.now names.new) t (with_names t (name_in items.now at ∷ []) sc) result }
     ensures macros { (w : Which) → macro_of (known_in settings.now names.new) w ≡ macro_of (known_in settings.now names.old) w }
     ensures scope { names.new.scope ≡ names.old.scope }
+    ensures own { OnOk result (KeepsEntries names.old names.new) }
 {
     let name = name_of(items, at);
     if is_taken(settings, names, name) {

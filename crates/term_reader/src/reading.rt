@@ -8,6 +8,7 @@ ghost use Rattle.problem_text.specs.Scripts.{Script};
 ghost use Rattle.term_names.specs.Standing.{GrowByTerms};
 ghost use Rattle.problem_text.specs.Terms.{read_term};
 ghost use Rattle.term_expansion.specs.SymbolsAndTerms.{both};
+ghost use Rattle.term_reader.specs.KeptEntries.{KeepsEntries};
 
 use crate::entering::enter;
 use crate::leaving::leave;
@@ -34,11 +35,14 @@ pub fn read(
     requires item { k < length items.now.nodes }
     requires idle { (sc : Script) × (p : Place) × IsReaderIdle (both symbols.old terms.old) (reader_in settings.now reader.old) sc p }
     requires room { length symbols.old.leaves + (length items.now.nodes - k) ≤ 2 ^ 30 }
-    ensures reads { (sc : Script) (p : Place) → IsReaderIdle (both symbols.old terms.old) (reader_in settings.now reader.old) sc p → ComesTo terms_read terms.old (both symbols.new terms.new) (IsTermRead (both symbols.new terms.new) (reader_in settings.now reader.new) p) (read_term (item_at items.now k) p sc) result }
+    ensures reads { (sc : Script) (p : Place) → IsReaderIdle (both symbols.old terms.old) (reader_in settings.now reader.old) sc p →
+        ComesTo terms_read terms.old (both symbols.new terms.new) (IsTermRead (both symbols.new terms.new) (reader_in settings.now reader.new) p)
+        (read_term (item_at items.now k) p sc) result }
     ensures few { length symbols.new.leaves ≤ length symbols.old.leaves + (length items.now.nodes - k) }
     // Each leaf that is added has a node of the item.
     ensures spent { OnOk result (length symbols.new.leaves ≤ length symbols.old.leaves + (end_at items.now k - k)) }
     ensures grow { GrowByTerms (both symbols.old terms.old) (both symbols.new terms.new) }
+    ensures own { OnOk result (KeepsEntries reader.old.names reader.new.names) }
 {
     items.items_in_items();
     let mut turn = Turn::Read(k);

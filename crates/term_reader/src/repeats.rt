@@ -19,7 +19,7 @@ use text_items::shapes::name_of;
 /// there is none.
 ///
 /// The pairs stand from `first` to before `body`. Each costs a look-up by its name. One pair alone takes no memory. Refused
-/// for want of memory alone.
+/// only when out of memory.
 pub(crate) fn first_repeat(
     alloc: Global,
     items: &ItemText<'_, '_>,
@@ -82,7 +82,8 @@ pub(crate) fn next_pair(items: &ItemText<'_, '_>, k: usize) -> usize
 /// Whether the name is a built-in word or stands among the earlier ones, where it is put otherwise.
 fn is_repeated<'a>(earlier: &mut IndexSet<&'a [u8]>, name: &'a [u8]) -> Result<bool, ReadFault>
     ensures answer { IfOk result (λ repeated. repeated ≡ (spec.is_built_in name.now || has_name earlier.old.keys name.now)) }
-    ensures put { IfOk result (λ repeated. repeated ≡ false → (q : List ℕ) → has_name earlier.new.keys q ≡ (bytes_eq q name.now || has_name earlier.old.keys q)) }
+    ensures put { IfOk result (λ repeated. repeated ≡ false → (q : List ℕ) →
+        has_name earlier.new.keys q ≡ (bytes_eq q name.now || has_name earlier.old.keys q)) }
     ensures fault { IfErr result (λ fault. fault ≡ ReadFault.Memory) }
 {
     if is_built_in(name) {

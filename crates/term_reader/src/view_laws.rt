@@ -11,12 +11,14 @@ ghost use Rattle.term_names.specs.Standing.{AddsNoSymbols};
 
 /// What a reader of terms stands for stays as the table gets numerals and variables, and as the pool grows.
 pub fn readers_stay()
-    ensures { (s z : Table) (v w : TermsView) (r : ReaderView) (sc : Script) (p : Place) → AddsNoSymbols s z → KeepsTerms v w → IsReaderOf s v r sc p → IsReaderOf z w r sc p }
+    ensures { (s z : Table) (v w : TermsView) (r : ReaderView) (sc : Script) (p : Place) → AddsNoSymbols s z → KeepsTerms v w → IsReaderOf s v r sc p →
+        IsReaderOf z w r sc p }
 {}
 
 /// What a problem stands for stays as the table gets numerals and variables, and as the pool grows.
 pub fn problems_stay()
-    ensures { (s z : Table) (v w : TermsView) (p : ProblemView) (sc : Script) → AddsNoSymbols s z → KeepsTerms v w → IsProblemOf s v p sc → IsProblemOf z w p sc }
+    ensures { (s z : Table) (v w : TermsView) (p : ProblemView) (sc : Script) → AddsNoSymbols s z → KeepsTerms v w → IsProblemOf s v p sc →
+        IsProblemOf z w p sc }
 {}
 
 /// A variable that is found in the table, or added to it, adds no sort and no function.

@@ -17,7 +17,7 @@ use Rattle.text_items.proofs.OpenLists.{GoesOn, item_begins, goes_on, whole_read
 pub record Continues (text : List ℕ) (whole : Item) (rest : List Token) (nodes : List Node) (inner place : ℕ) : Type 0 where
   pub tokens : List Token
   pub read : AreTokens text place tokens
-  pub on : GoesOn text whole rest nodes inner tokens
+  pub on : GoesOn text whole rest nodes inner tokens place
 
 -- The item that begins with `first` is read so far.
 pub record IsReadSoFar (old : Lexer) (first : Token) (l : Lexer) (nodes : List Node) (inner : ℕ) : Type 0 where
@@ -46,7 +46,7 @@ module _ (old : Lexer) (first : Token) (there : (i : Item) × (rest : List Token
         later = omega arith;
         inside = omega arith;
         few = omega arith;
-        some = inner_there (source old) there.0 there.1 nodes inner on.tokens on.on;
+        some = inner_there (source old) there.0 there.1 nodes inner on.tokens (position old) on.on;
         continues = begins;
       }
     where
@@ -54,7 +54,7 @@ module _ (old : Lexer) (first : Token) (there : (i : Item) × (rest : List Token
       begins i rest g = record {
         tokens = g.after;
         read = g.read;
-        on = item_begins (source old) i rest [] nodes [] i 0 inner first g.after rest (record { some = some; within = within }) (refl, refl, refl, refl) g.item added;
+        on = subst (λ n. GoesOn (source old) i rest nodes inner g.after n) (sym behind) (item_begins (source old) i rest [] nodes [] i 0 inner first g.after rest (record { some = some; within = within }) (λ later. absurd (omega arith)) [] tt (refl, refl, refl, refl) g.item added);
       }
 
   module _ (l : Lexer) (nodes : List Node) (inner : ℕ) (so_far : IsReadSoFar old first l nodes inner) where
@@ -64,14 +64,14 @@ module _ (old : Lexer) (first : Token) (there : (i : Item) × (rest : List Token
       others : List Token
       next : next_token (source old) (position l) ≡ Ok (Some token)
       read : AreTokens (source old) token.end others
-      on : GoesOn (source old) i rest nodes inner (token ∷ others)
+      on : GoesOn (source old) i rest nodes inner (token ∷ others) (position l)
 
     comes : 0 < inner → (i : Item) (rest : List Token) → GoesOnWith old first i rest → Comes i rest
     comes some i rest g =
         let k = so_far.continues i rest g in
-        let n = goes_further (source old) i rest nodes inner k.tokens some k.on in
+        let n = goes_further (source old) i rest nodes inner k.tokens (position l) some k.on in
         let read = subst (λ ts. AreTokens (source old) (position l) ts) n.first k.read in
-        record { token = n.token; others = n.others; next = read.0; read = read.1; on = subst (λ ts. GoesOn (source old) i rest nodes inner ts) n.first k.on }
+        record { token = n.token; others = n.others; next = read.0; read = read.1; on = subst (λ ts. GoesOn (source old) i rest nodes inner ts (position l)) n.first k.on }
 
     -- no fault and no end comes where a list is open
     pub next_comes : (read : Read) → (inner ≡ 0 → ⊥) → read ≡ next_token (source l) (position l) → (t : Token) × (read ≡ Ok (Some t))
@@ -95,7 +95,7 @@ module _ (old : Lexer) (first : Token) (there : (i : Item) × (rest : List Token
           later = omega arith;
           inside = omega arith;
           few = omega arith;
-          some = inner_there (source old) there.0 there.1 after now on.tokens on.on;
+          some = inner_there (source old) there.0 there.1 after now on.tokens (position m) on.on;
           continues = goes some within;
         }
       where
@@ -103,21 +103,21 @@ module _ (old : Lexer) (first : Token) (there : (i : Item) × (rest : List Token
         goes some within i rest g =
             let c = comes some i rest g in
             let same = token_same c.token t (sym c.next ∙ sym (ap (λ s. next_token s (position l)) so_far.same_text) ∙ sym next) in
-            let on = subst (λ u. GoesOn (source old) i rest nodes inner (u ∷ c.others)) same c.on in
+            let on = subst (λ u. GoesOn (source old) i rest nodes inner (u ∷ c.others) (position l)) same c.on in
             record {
               tokens = c.others;
               read = subst (λ n. AreTokens (source old) n c.others) (ap (λ (u : Token). u.end) same ∙ sym place) c.read;
-              on = goes_on (source old) i rest nodes after inner now t c.others some (record { some = span.some; within = within }) on added;
+              on = subst (λ n. GoesOn (source old) i rest after now c.others n) (sym place) (goes_on (source old) i rest nodes after inner now t c.others (position l) some (sym (next ∙ ap (λ s. next_token s (position l)) so_far.same_text)) (record { after = span.after; some = span.some; within = within }) on added);
             }
 
     pub item_there : inner ≡ 0 → (i : Item) (rest : List Token) → GoesOnWith old first i rest → AreItsNodes (source l) nodes i
     item_there none i rest g =
         let k = so_far.continues i rest g in
-        let w = whole_read (source old) i rest nodes inner k.tokens none k.on in
+        let w = whole_read (source old) i rest nodes inner k.tokens (position l) none k.on in
         subst (λ s. AreItsNodes s nodes i) (sym so_far.same_text) (its_nodes (source old) nodes i w.there)
 
     pub rest_there : inner ≡ 0 → (i : Item) (rest : List Token) → GoesOnWith old first i rest → AreTokens (source l) (position l) rest
     rest_there none i rest g =
         let k = so_far.continues i rest g in
-        let w = whole_read (source old) i rest nodes inner k.tokens none k.on in
+        let w = whole_read (source old) i rest nodes inner k.tokens (position l) none k.on in
         subst (λ s. AreTokens s (position l) rest) (sym so_far.same_text) (subst (λ ts. AreTokens (source old) (position l) ts) w.rests k.read)

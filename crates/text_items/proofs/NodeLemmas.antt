@@ -7,13 +7,14 @@ use Rattle.sexpr.specs.declared.lexing.TokenKind.{TokenKind}
 use Rattle.sexpr.specs.declared.lexing.TokenKind.TheVariants.{Open, Close, Text, Quoted, Word}
 use Rattle.sexpr.specs.Tokens.{token_text}
 use Rattle.sexpr.specs.Items.{Item, word, quoted, string, list, Items, no_items, item, place_of}
+use Rattle.sexpr.specs.Spans.{IsListAt}
 use Rattle.text_items.specs.declared.nodes.Node.{Node}
 use Rattle.text_items.specs.ItemShapes.{items_of}
 use Rattle.text_items.specs.ItemsAt.{ItemsView, end_by, end_in, item_of_token, item_of_node, item_at, items_at}
 use Rattle.text_items.specs.Nesting.{IsNested, AreNested, AreItsNodes}
 use Rattle.text_items.specs.Nodes.{HasNode, IsTokenNode, IsNode, AreNodes}
 use Rattle.text_items.specs.Spelling.{is_list_item}
-use Rattle.text_items.specs.Stepping.{BeginsItem, AreInside, IsItemNode}
+use Rattle.text_items.specs.Stepping.{BeginsItem, AreInside, IsItemNode, IsListThere}
 use Rattle.text_items.proofs.ItemsAtLemmas.{item_is, items_are, no_items_are}
 use Rattle.text_items.proofs.NodeRanges.{node_after, nodes_order}
 
@@ -78,6 +79,21 @@ module _ (source : List ℕ) (nodes : List Node) where
         nested = λ j low high. n.nested j (omega arith) high;
       }
 
+  -- the bytes of a list in another one
+  pub list_there : (k : ℕ) (node : Node) → AreNested source nodes → slice_get nodes k ≡ Some node → 0 < k → node.token.kind ≡ Open → IsListThere view k (token_text source node.token)
+  list_there k node nested here later opens =
+      let n = nested k node here in
+      record {
+        at = node.token.start;
+        end = node.token.end;
+        inside = items_at view (k + 1) node.next;
+        there = n.list_here later opens;
+        same = refl;
+        is = item_is view k (slice_get_within nodes k node here) ∙ ap (λ o. item_of_node source o (items_at view (k + 1) (end_in nodes k))) here
+            ∙ ap (λ m. item_of_token node.token.kind node.token.start (token_text source node.token) (items_at view (k + 1) m)) (ends_there k node here n.behind n.inside)
+            ∙ ap (λ q. item_of_token q node.token.start (token_text source node.token) (items_at view (k + 1) node.next)) opens;
+      }
+
   -- nested nodes are those of items in items
   pub are_inside : AreNested source nodes → AreInside view
   are_inside nested = record { ends = λ k j later before. ends k j (slice_get nodes k) refl later before; alone = λ k inside h. alone k (slice_get nodes k) refl h }
@@ -115,7 +131,7 @@ module _ (source : List ℕ) (nodes : List Node) where
     item_there k (word place spelling) m h = token_there k m Word place spelling h _ (λ inside. refl)
     item_there k (quoted place spelling) m h = token_there k m Quoted place spelling h _ (λ inside. refl)
     item_there k (string place spelling) m h = token_there k m Text place spelling h _ (λ inside. refl)
-    item_there k (list place items) m (node, has, are) =
+    item_there k (list place items) m (node, has, are, at) =
         let ends = ends_there k node has.here (rw has.next has.behind) (rw has.next has.inside) ∙ has.next in
         record {
           is = item_is view k (slice_get_within nodes k node has.here) ∙ ap (λ o. item_of_node source o (items_at view (k + 1) (end_in nodes k))) has.here
@@ -162,8 +178,8 @@ module _ (source : List ℕ) (nodes : List Node) where
 
   -- each node of an item is nested
   nested_by : (k place m : ℕ) (kind : TokenKind) (first : Node) → HasNode source nodes k kind place m first → (kind ≡ Close → ⊥) → ((kind ≡ Open → ⊥) → m ≡ k + 1) → ((j : ℕ) → k < j → j < m → end_in nodes j ≤ m)
-      → (j : ℕ) → j ≡ k → (node : Node) → slice_get nodes j ≡ Some node → IsNested source nodes j node
-  nested_by k place m kind first has opens alone within j e node here =
+      → (0 < k → kind ≡ Open → IsListAt source first.token.start first.token.end (items_at view (k + 1) first.next)) → (j : ℕ) → j ≡ k → (node : Node) → slice_get nodes j ≡ Some node → IsNested source nodes j node
+  nested_by k place m kind first has opens alone within at j e node here =
       let there : slice_get nodes j ≡ Some first = ap (λ q. slice_get nodes q) e ∙ has.here in
       let same : first ≡ node = cc (there, here) in
       subst (λ (n : Node). IsNested source nodes j n) same (record {
@@ -174,21 +190,28 @@ module _ (source : List ℕ) (nodes : List Node) where
         inside = omega (arith, has.next, has.inside);
         alone = λ h. has.next ∙ alone (λ k. h (has.same_kind ∙ k)) ∙ ap (λ q. q + 1) (sym e);
         nested = λ i low high. let n = has.next in let w = within i (omega arith) (omega arith) in omega arith;
+        list_here = λ some is_open. subst (λ q. IsListAt source first.token.start first.token.end (items_at view (q + 1) first.next)) (sym e) (at (subst (λ q. 0 < q) e some) (sym has.same_kind ∙ is_open));
       })
 
-  nested_alone : (k place m : ℕ) (kind : TokenKind) (spelling : List ℕ) → IsTokenNode source nodes k kind place spelling m → (kind ≡ Close → ⊥) → (j : ℕ) → k ≤ j → j < m → (node : Node) → slice_get nodes j ≡ Some node → IsNested source nodes j node
-  nested_alone k place m kind spelling h opens j low high node here =
-      let a = h.alone in nested_by k place m kind h.node h.has opens (λ no. a) (λ i low high. absurd (omega arith)) j (omega arith) node here
+  nested_alone : (k place m : ℕ) (kind : TokenKind) (spelling : List ℕ) → IsTokenNode source nodes k kind place spelling m → (kind ≡ Close → ⊥) → (kind ≡ Open → ⊥) → (j : ℕ) → k ≤ j → j < m → (node : Node) → slice_get nodes j ≡ Some node → IsNested source nodes j node
+  nested_alone k place m kind spelling h opens never j low high node here =
+      let a = h.alone in nested_by k place m kind h.node h.has opens (λ no. a) (λ i low high. absurd (omega arith)) (λ some is_open. absurd (never is_open)) j (omega arith) node here
 
   mutual
     in_item : (k : ℕ) (i : Item) (m : ℕ) → IsNode source nodes k i m → (j : ℕ) → k ≤ j → j < m → (node : Node) → slice_get nodes j ≡ Some node → IsNested source nodes j node
-    in_item k (word p s) m h j low high node here = nested_alone k p m Word s h (λ e. cc) j low high node here
-    in_item k (quoted p s) m h j low high node here = nested_alone k p m Quoted s h (λ e. cc) j low high node here
-    in_item k (string p s) m h j low high node here = nested_alone k p m Text s h (λ e. cc) j low high node here
-    in_item k (list p items) m (first, has, are) j low high node here = go (nat_eq j k) refl (λ later. in_items (k + 1) items m are j later high node here)
+    in_item k (word p s) m h j low high node here = nested_alone k p m Word s h (λ e. cc) (λ e. cc) j low high node here
+    in_item k (quoted p s) m h j low high node here = nested_alone k p m Quoted s h (λ e. cc) (λ e. cc) j low high node here
+    in_item k (string p s) m h j low high node here = nested_alone k p m Text s h (λ e. cc) (λ e. cc) j low high node here
+    in_item k (list p items) m (first, has, are, at) j low high node here = go (nat_eq j k) refl (λ later. in_items (k + 1) items m are j later high node here)
       where
+        list_here_of : 0 < k → IsListAt source first.token.start first.token.end (items_at view (k + 1) first.next)
+        list_here_of some =
+            subst (λ is. IsListAt source first.token.start first.token.end is) (sym (ap (λ n. items_at view (k + 1) n) has.next ∙ items_there (k + 1) items m are has.inside))
+            (subst (λ n. IsListAt source n first.token.end items) (sym has.same_place) (at some))
+
         go : (b : Bool) → nat_eq j k ≡ b → (k + 1 ≤ j → IsNested source nodes j node) → IsNested source nodes j node
-        go true e behind = nested_by k p m Open first has (λ h. cc) (λ no. absurd (no refl)) (λ i low high. ends_in_item k (list p items) m (first, has, are) i (omega arith) high) j (grind (arith, nat_tests)) node here
+        go true e behind = nested_by k p m Open first has (λ h. cc) (λ no. absurd (no refl)) (λ i low high. ends_in_item k (list p items) m (first, has, are, at) i (omega arith) high)
+            (λ some is_open. list_here_of some) j (grind (arith, nat_tests)) node here
         go false e behind = behind (grind (arith, nat_tests))
 
     in_items : (k : ℕ) (items : Items) (m : ℕ) → AreNodes source nodes k items m → (j : ℕ) → k ≤ j → j < m → (node : Node) → slice_get nodes j ≡ Some node → IsNested source nodes j node

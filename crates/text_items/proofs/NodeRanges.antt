@@ -69,8 +69,8 @@ module _ (source : List ℕ) (old new : List Node) (a b : ℕ) (same : Kept old 
     node_kept k (word place spelling) m low high is = token_kept k _ place spelling m low high is
     node_kept k (quoted place spelling) m low high is = token_kept k _ place spelling m low high is
     node_kept k (string place spelling) m low high is = token_kept k _ place spelling m low high is
-    node_kept k (list place items) m low high (node, has, are) =
-        (node, has_kept k _ place m node low high has, nodes_kept (k + 1) items m (omega arith) high are)
+    node_kept k (list place items) m low high (node, has, are, at) =
+        (node, has_kept k _ place m node low high has, nodes_kept (k + 1) items m (omega arith) high are, at)
 
     pub nodes_kept : (k : ℕ) (items : Items) (m : ℕ) → a ≤ k → m ≤ b → AreNodes source old k items m → AreNodes source new k items m
     nodes_kept k no_items m low high are = are

@@ -25,7 +25,7 @@ module _ (nodes : List Node) (inner : ℕ) (t : Token) where
   placed_added Quoted next now e = alone next now e
   placed_added Word next now e = alone next now e
 
-  pub closed_added : (kind : TokenKind) (behind now : ℕ) (after : List Node) → placed kind inner behind ≡ None → IsListClosed nodes (inner - 1) (length nodes) after now → IsAdded nodes inner t kind after now
+  pub closed_added : (kind : TokenKind) (behind now : ℕ) (after : List Node) → placed kind inner behind ≡ None → IsListClosed nodes (inner - 1) (length nodes) t.end after now → IsAdded nodes inner t kind after now
   closed_added Open behind now after e h = let never : ⊥ = cc in absurd never
   closed_added Close behind now after e h = h
   closed_added Text behind now after e h = let never : ⊥ = cc in absurd never

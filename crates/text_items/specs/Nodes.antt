@@ -5,6 +5,7 @@ use Rattle.sexpr.specs.declared.lexing.TokenKind.{TokenKind}
 use Rattle.sexpr.specs.declared.lexing.TokenKind.TheVariants.{Open, Text, Quoted, Word}
 use Rattle.sexpr.specs.Tokens.{token_text}
 use Rattle.sexpr.specs.Items.{Item, word, quoted, string, list, Items, no_items, item}
+use Rattle.sexpr.specs.Spans.{IsListAt}
 use Rattle.text_items.specs.declared.nodes.Node.{Node}
 
 -- Node k is a token of this kind that begins at this place, lies in the text, and is the first of an item that ends
@@ -34,6 +35,7 @@ abbrev mutual
   IsNode source nodes k (string place spelling) m = IsTokenNode source nodes k Text place spelling m
   IsNode source nodes k (list place items) m =
       (node : Node) × HasNode source nodes k Open place m node × AreNodes source nodes (k + 1) items m
+      × (0 < k → IsListAt source place node.token.end items)
 
   -- the nodes from k on, up to m, are those of the items, one after another
   pub AreNodes : List ℕ → List Node → ℕ → Items → ℕ → Type 0

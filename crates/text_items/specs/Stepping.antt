@@ -1,5 +1,5 @@
 -- Public. Items where nodes stand, one after another.
-use Rattle.std.specs.Prelude.{◌≡◌, ℕ, ◌+◌, ◌<◌, ◌≤◌, if◌then◌else◌, List, length, Bool, true, false, Option, Some, None, Result, Ok, Err}
+use Rattle.std.specs.Prelude.{◌≡◌, ℕ, ◌+◌, ◌<◌, ◌≤◌, if◌then◌else◌, List, length, slice_range, Bool, true, false, Option, Some, None, Result, Ok, Err}
 use Rattle.sexpr.specs.declared.causes.Cause.TheVariants.{BadCommand}
 use Rattle.sexpr.specs.declared.causes.Refusal.{Refusal}
 use Rattle.sexpr.specs.declared.lexing.TokenKind.{TokenKind}
@@ -7,6 +7,7 @@ use Rattle.sexpr.specs.declared.lexing.TokenKind.TheVariants.{Open, Text, Quoted
 use Rattle.sexpr.specs.Tokens.{token_text}
 use Rattle.sexpr.specs.Words.{is_symbol}
 use Rattle.sexpr.specs.Items.{Item, word, quoted, string, list, Items, no_items, item, place_of}
+use Rattle.sexpr.specs.Spans.{IsListAt}
 use Rattle.text_items.specs.declared.nodes.Node.{Node}
 use Rattle.text_items.specs.ItemShapes.{Name, name_at, symbol_fault, items_of}
 use Rattle.text_items.specs.ItemsAt.{ItemsView, end_at, item_at, items_at}
@@ -27,6 +28,15 @@ EndBy items k m = (j : ℕ) → k ≤ j → j < m → end_at items j ≤ m
 pub record AreInside (items : ItemsView) : Type 0 where
   pub ends : (k j : ℕ) → k < j → j < end_at items k → end_at items j ≤ end_at items k
   pub alone : (k : ℕ) → k < length items.nodes → is_list_item (item_at items k) ≡ false → end_at items k ≡ k + 1
+
+-- A list stands at the node, in these bytes.
+pub record IsListThere (items : ItemsView) (k : ℕ) (bytes : List ℕ) : Type 0 where
+  pub at : ℕ
+  pub end : ℕ
+  pub inside : Items
+  pub there : IsListAt items.source at end inside
+  pub same : slice_range items.source at end ≡ bytes
+  pub is : item_at items k ≡ list at inside
 
 -- The node is the first of the item at k.
 pub record IsItemNode (items : ItemsView) (k : ℕ) (node : Node) : Type 0 where

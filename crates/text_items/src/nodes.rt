@@ -1,5 +1,5 @@
 //! The items of a text as a flat list of nodes.
-ghost use Rattle.std.specs.Prelude.{◌≡◌, ◌+◌, ◌-◌, ◌<◌, ◌≤◌, List, length, slice_get, Some, option_copied, OnOk};
+ghost use Rattle.std.specs.Prelude.{◌≡◌, ◌+◌, ◌-◌, ◌<◌, ◌≤◌, List, length, slice_get, Some, option_copied, OnOk, IfSome};
 ghost use Rattle.sexpr.specs.Items.{Item, name_spelled};
 ghost use Rattle.sexpr.specs.Source as at;
 ghost use Rattle.sexpr.specs.Tokens.{AreTokens, token_text};
@@ -7,7 +7,7 @@ ghost use Rattle.sexpr.specs.declared.lexing.Token.{Token};
 ghost use Rattle.text_items.specs.Lexers.{GoesOnWith};
 ghost use Rattle.text_items.specs.ItemsAt.{ItemsView};
 ghost use Rattle.text_items.specs.Nesting.{AreNested, AreItsNodes};
-ghost use Rattle.text_items.specs.Stepping.{AreInside, IsItemNode};
+ghost use Rattle.text_items.specs.Stepping.{AreInside, IsItemNode, IsListThere};
 ghost use Rattle.text_items.specs.Adding.{placed, IsListClosed};
 
 use sexpr::{Lexer, Token, TokenKind, symbol_name};
@@ -73,6 +73,21 @@ impl<'n, 't> ItemText<'n, 't> {
         node_at(self.nodes, k)
     }
 
+    /// The bytes of the list at `k`, where it stands in another one.
+    pub fn list_bytes(&self, k: usize) -> Option<&'t [u8]>
+        requires { k < length self.now.nodes }
+        ensures { IfSome result (λ list. IsListThere self.now k list.now) }
+    {
+        let token = node_at(self.nodes, k).token;
+        if k == 0 {
+            return None;
+        }
+        match token.kind {
+            TokenKind::Open => Some(self.text.text(&token)),
+            _ => None,
+        }
+    }
+
     /// How a token of the text is spelled.
     #[inline(always)]
     pub fn spelling(&self, token: &Token) -> &'t [u8]
@@ -104,7 +119,7 @@ fn node_at(nodes: &[Node], k: usize) -> Node
 
 /// Reads the item that begins with `first`, the token that the lexer gave last, in place of what `nodes` held.
 ///
-/// The lexer stands behind the item then. Refused only for want of memory, where nothing is said of the nodes. The
+/// The lexer stands behind the item then. Refused only when out of memory, where nothing is said of the nodes. The
 /// text is read once, and the memory is that of the nodes, however deep the lists are nested.
 pub fn read_item(
     lexer: &mut Lexer<'_>,
@@ -116,7 +131,8 @@ pub fn read_item(
     requires some { first.start < first.end }
     requires within { first.end ≤ length (at.source lexer.old) }
     ensures item { (i : Item) (rest : List Token) → GoesOnWith lexer.old first i rest → OnOk result (AreItsNodes (at.source lexer.new) nodes.new.items i) }
-    ensures behind { (i : Item) (rest : List Token) → GoesOnWith lexer.old first i rest → OnOk result (AreTokens (at.source lexer.new) (at.position lexer.new) rest) }
+    ensures behind { (i : Item) (rest : List Token) → GoesOnWith lexer.old first i rest →
+        OnOk result (AreTokens (at.source lexer.new) (at.position lexer.new) rest) }
     ensures source { at.source lexer.new ≡ at.source lexer.old }
     ensures position { at.position lexer.old ≤ at.position lexer.new }
     ensures inside { at.position lexer.new ≤ length (at.source lexer.new) }
@@ -155,7 +171,7 @@ pub fn read_item(
             nodes.push(Node { token, next })?;
             inner = after;
         } else {
-            inner = close(inner, nodes);
+            inner = close(inner, end, nodes);
         }
     }
     *lexer = reading;
@@ -176,16 +192,18 @@ fn placed(kind: TokenKind, inner: usize, behind: usize) -> Option<(usize, usize)
     }
 }
 
-/// Closes the innermost open list before the next node. What `inner` is then comes back.
+/// Closes the innermost open list before the next node, where its closing bracket ends at `end`. What `inner` is then comes
+/// back.
 #[inline(always)]
-fn close(inner: usize, nodes: &mut Vec<Node>) -> usize
+fn close(inner: usize, end: u64, nodes: &mut Vec<Node>) -> usize
     requires some { 0 < inner }
     requires there { inner ≤ length nodes.old.items }
-    ensures { IsListClosed nodes.old.items (inner - 1) (length nodes.old.items) nodes.new.items result }
+    ensures { IsListClosed nodes.old.items (inner - 1) (length nodes.old.items) end nodes.new.items result }
 {
     let place = nodes.len();
     let list = &mut nodes[inner - 1];
     let around = list.next;
     list.next = place;
+    list.token.end = end;
     around
 }

@@ -16,10 +16,12 @@ pub fn consequence_is_sound<A>()
 /// Where a table names the atoms so that no two have one name and none has two, whatever is said of clauses is said of
 /// the same clauses with the names for their atoms, and the other way round.
 pub fn renaming_keeps_consequence<A, B>()
-    ensures follows { (names : List (A × B)) (premises : List (List (Literal A))) (named : List (List (Literal B))) (goal : List (Literal A)) (named_goal : List (Literal B)) →
+    ensures follows { (names : List (A × B)) (premises : List (List (Literal A))) (named : List (List (Literal B)))
+        (goal : List (Literal A)) (named_goal : List (Literal B)) →
         KeepsAtomsApart (IsName names) → AreAllImages (IsName names) premises named → AreLiteralImages (IsName names) goal named_goal →
         Follows premises goal ↔ Follows named named_goal }
-    ensures trails { (names : List (A × B)) (premises : List (List (Literal A))) (named : List (List (Literal B))) (goal : List (Literal A)) (named_goal : List (Literal B)) →
+    ensures trails { (names : List (A × B)) (premises : List (List (Literal A))) (named : List (List (Literal B)))
+        (goal : List (Literal A)) (named_goal : List (Literal B)) →
         KeepsAtomsApart (IsName names) → AreAllImages (IsName names) premises named → AreLiteralImages (IsName names) goal named_goal →
         (units : List (ℕ × ℕ)) (last : ℕ) → Leads premises goal units last ↔ Leads named named_goal units last }
     ensures contradictions { (names : List (A × B)) (goal : List (Literal A)) (named_goal : List (Literal B)) →

@@ -13,7 +13,7 @@ use std::alloc::Global;
 use term_model::Sort;
 
 impl Symbols {
-    /// Declares a function of these arguments' sorts and this target sort, and answers its leaf, which is new
+    /// Declares a function of these arguments' sorts and this target sort, and returns its leaf, which is new
     /// (SMT-LIB 2.6, "Commands").
     ///
     /// A name is refused where it is a built-in word or a declared function. After a refusal the table is as

@@ -10,7 +10,7 @@ use crate::words::is_built_in;
 use term_model::Sort;
 
 impl Symbols {
-    /// Declares a sort, and answers its number in the order of declaration (SMT-LIB 2.6, "Commands").
+    /// Declares a sort, and returns its number in the order of declaration (SMT-LIB 2.6, "Commands").
     ///
     /// A name is refused where it is a built-in word or a declared sort. After a refusal the table is as before.
     pub fn declare_sort(&mut self, name: &[u8]) -> Result<u32, NameFault>

@@ -21,9 +21,10 @@ impl<'a> Terms<'a> {
     pub fn app(&mut self, head: u32, args: &[Ref]) -> Result<Ref, PoolFull>
         requires head { head < 2 ^ 30 }
         requires args { All (IsKnown self.old.pass) args.now }
-        ensures term { IfOk result (λ r. (s : Table) (ts : List Term) (t : Term) → ReferToAll s self.old args.now ts → IsAppliedLeaf s head ts t → RefersTo s self.new r t) }
+        ensures term { IfOk result (λ r. (s : Table) (ts : List Term) (t : Term) → ReferToAll s self.old args.now ts → IsAppliedLeaf s head ts t →
+            RefersTo s self.new r t) }
 
-        // It places only cells of its answer's tree, and is refused for want of room for one.
+        // It places only cells of its answer's tree, and is refused for lack of room for one.
         ensures built { IfOk result (λ r. (ts : List Tree) → KnowsAll self.old.pass args.now ts → Builds self.old.pass self.new.pass r (app_tree head ts)) }
         ensures full { OnErr result ((ts : List Tree) → KnowsAll self.old.pass args.now ts → LacksRoom self.old.pass self.new.pass (app_tree head ts)) }
         ensures known { IfOk result (IsKnown self.new.pass) }
@@ -42,11 +43,14 @@ impl<'a> Terms<'a> {
         requires vars { All (λ k. k < 2 ^ 30) vars.now }
         requires values { All (IsKnown self.old.pass) values.now }
         requires body { IsKnown self.old.pass body }
-        ensures term { IfOk result (λ r. (s : Table) (bs : Bindings) (u : Term) → AreBindings s self.old vars.now values.now bs → RefersTo s self.old body u → RefersTo s self.new r (let_in bs u)) }
+        ensures term { IfOk result (λ r. (s : Table) (bs : Bindings) (u : Term) → AreBindings s self.old vars.now values.now bs →
+            RefersTo s self.old body u → RefersTo s self.new r (let_in bs u)) }
 
-        // It places only cells of its answer's tree, and is refused for want of room for one.
-        ensures built { IfOk result (λ r. (ts : List Tree) (u : Tree) → KnowsAll self.old.pass values.now ts → Knows self.old.pass body u → Builds self.old.pass self.new.pass r (let_term_tree vars.now ts u)) }
-        ensures full { OnErr result ((ts : List Tree) (u : Tree) → KnowsAll self.old.pass values.now ts → Knows self.old.pass body u → LacksRoom self.old.pass self.new.pass (let_term_tree vars.now ts u)) }
+        // It places only cells of its answer's tree, and is refused for lack of room for one.
+        ensures built { IfOk result (λ r. (ts : List Tree) (u : Tree) → KnowsAll self.old.pass values.now ts → Knows self.old.pass body u →
+            Builds self.old.pass self.new.pass r (let_term_tree vars.now ts u)) }
+        ensures full { OnErr result ((ts : List Tree) (u : Tree) → KnowsAll self.old.pass values.now ts → Knows self.old.pass body u →
+            LacksRoom self.old.pass self.new.pass (let_term_tree vars.now ts u)) }
         ensures known { IfOk result (IsKnown self.new.pass) }
         ensures keeps { KeepsTerms self.old self.new }
     {

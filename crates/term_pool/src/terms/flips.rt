@@ -20,8 +20,8 @@ impl<'a> Terms<'a> {
     ///
     /// Equal references are answered at once, and terms with other heads after two loads. Otherwise it compares pairs of
     /// cells, each pair that it meets once: it takes time and memory in proportion to them, no stack, and places no cell.
-    /// Terms that differ in flips alone and share no equalities have about as many such pairs as cells. Refuses want of
-    /// memory alone.
+    /// Terms that differ in flips alone and share no equalities have about as many such pairs as cells. Refuses only when
+    /// out of memory.
     pub fn same_up_to_flips(
         &mut self,
         alloc: Global,
@@ -31,7 +31,8 @@ impl<'a> Terms<'a> {
     ) -> Result<bool, Memory>
         requires one { IsKnown self.old.pass a }
         requires other { IsKnown self.old.pass b }
-        ensures same { IfOk result (λ yes. (t u : Term) → RefersTo symbols.now self.old a t → RefersTo symbols.now self.old b u → IsTrue yes ↔ EqualUpToFlips t u) }
+        ensures same { IfOk result (λ yes. (t u : Term) → RefersTo symbols.now self.old a t → RefersTo symbols.now self.old b u →
+            IsTrue yes ↔ EqualUpToFlips t u) }
         ensures keeps { KeepsTerms self.old self.new }
         ensures unchanged { IsUnchanged self.old.pass self.new.pass }
     {

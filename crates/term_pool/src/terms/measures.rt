@@ -20,7 +20,7 @@ impl<'a> Terms<'a> {
     /// than the highest of its values and its body. It fits, since no term is higher than its pool has references.
     ///
     /// Loads each distinct cell of the term once, and takes memory for each: once there are many of them, 4 bytes for
-    /// each place of the pool besides, and at most a constant times the pool's words. Refuses want of memory alone.
+    /// each place of the pool besides, and at most a constant times the pool's words. Refuses only when out of memory.
     pub fn height(&mut self, alloc: Global, r: Ref) -> Result<u32, Memory>
         requires { IsKnown self.old.pass r }
         ensures height { IfOk result (λ h. (s : Table) (t : Term) → IsTable s → RefersTo s self.old r t → h ≡ height t) }
@@ -33,7 +33,7 @@ impl<'a> Terms<'a> {
 
     /// How many distinct cells there are among the references and below them.
     ///
-    /// Loads each distinct cell once, and takes memory as `height` does. Refuses want of memory alone.
+    /// Loads each distinct cell once, and takes memory as `height` does. Refuses only when out of memory.
     pub fn cells_of(&mut self, alloc: Global, list: &[Ref]) -> Result<u64, Memory>
         requires { All (IsKnown self.old.pass) list.now }
         ensures count { IfOk result (λ n. (trees : List Tree) → KnowsAll self.old.pass list.now trees → CountsCells trees n) }

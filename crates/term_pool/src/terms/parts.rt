@@ -37,11 +37,12 @@ impl<'a> Terms<'a> {
     }
 
     /// Adds the arguments of an application to a list, in order: none where it is a leaf. Of a let it says nothing.
-    /// Refuses want of memory alone.
+    /// Refuses only when out of memory.
     pub fn arguments(&mut self, r: Ref, into: &mut Vec<Ref>) -> Result<(), Memory>
         requires { IsKnown self.old.pass r }
         ensures kept { OnOk result (take (length into.old.items) into.new.items ≡ into.old.items) }
-        ensures arguments { OnOk result ((s : Table) (t : Term) → RefersTo s self.old r t → (IsLet t → ⊥) → ReferToAll s self.new (drop (length into.old.items) into.new.items) (arguments_of t)) }
+        ensures arguments { OnOk result ((s : Table) (t : Term) → RefersTo s self.old r t → (IsLet t → ⊥) →
+            ReferToAll s self.new (drop (length into.old.items) into.new.items) (arguments_of t)) }
         ensures known { OnOk result (All (IsKnown self.new.pass) (drop (length into.old.items) into.new.items)) }
         ensures keeps { KeepsTerms self.old self.new }
         ensures unchanged { IsUnchanged self.old.pass self.new.pass }
@@ -55,8 +56,8 @@ impl<'a> Terms<'a> {
         items(self.pool, &mut self.pass, list, into)
     }
 
-    /// Adds the bindings of a let to two lists, in order: the leaves of the variables, and the values. Refuses want of
-    /// memory alone.
+    /// Adds the bindings of a let to two lists, in order: the leaves of the variables, and the values. Refuses only when
+    /// out of memory.
     pub fn bindings(
         &mut self,
         r: Ref,
@@ -66,7 +67,8 @@ impl<'a> Terms<'a> {
         requires { IsLetTerm self.old r }
         ensures kept_vars { OnOk result (take (length vars.old.items) vars.new.items ≡ vars.old.items) }
         ensures kept_values { OnOk result (take (length values.old.items) values.new.items ≡ values.old.items) }
-        ensures bindings { OnOk result ((s : Table) (bs : Bindings) (u : Term) → RefersTo s self.old r (let_in bs u) → AreBindings s self.new (drop (length vars.old.items) vars.new.items) (drop (length values.old.items) values.new.items) bs) }
+        ensures bindings { OnOk result ((s : Table) (bs : Bindings) (u : Term) → RefersTo s self.old r (let_in bs u) →
+            AreBindings s self.new (drop (length vars.old.items) vars.new.items) (drop (length values.old.items) values.new.items) bs) }
         ensures keeps { KeepsTerms self.old self.new }
         ensures unchanged { IsUnchanged self.old.pass self.new.pass }
     {

@@ -20,7 +20,7 @@ impl<'a> Terms<'a> {
     /// Where a let's head is no leaf for which something is put in, this is the term with its leaves replaced; what
     /// its lets bind it does not ask. Loads each distinct cell of the term once, looks its two parts up in a table, interns
     /// one cell for each, and takes memory as `height` does. Takes no stack. Refuses where the pool had no room for a cell
-    /// of the answer, and for want of memory.
+    /// of the answer, and when out of memory.
     pub fn with_images(
         &mut self,
         alloc: Global,
@@ -29,11 +29,13 @@ impl<'a> Terms<'a> {
     ) -> Result<Image, TermStop>
         requires known { IsKnown self.old.pass r }
         requires images { HasPieceImages self.old.pass images.now }
-        ensures image { IfOk result (λ d. (f : ℕ → Piece) (t : Tree) → ArePiecesOfLeaves self.old.pass images.now f → Knows self.old.pass r t → IsImageOfPiece self.new.pass d (put f t)) }
+        ensures image { IfOk result (λ d. (f : ℕ → Piece) (t : Tree) → ArePiecesOfLeaves self.old.pass images.now f → Knows self.old.pass r t →
+            IsImageOfPiece self.new.pass d (put f t)) }
 
-        // It places only cells of its answer's tree, and is refused for want of room for one.
+        // It places only cells of its answer's tree, and is refused for lack of room for one.
         ensures placed { (f : ℕ → Piece) → ArePiecesOfLeaves self.old.pass images.now f → PlacesPiece self.old.pass self.new.pass f r }
-        ensures full { IfErr result (λ e. e ≡ TermStop.PoolFull → (f : ℕ → Piece) → ArePiecesOfLeaves self.old.pass images.now f → LacksRoomForPiece self.old.pass self.new.pass f r) }
+        ensures full { IfErr result (λ e. e ≡ TermStop.PoolFull → (f : ℕ → Piece) → ArePiecesOfLeaves self.old.pass images.now f →
+            LacksRoomForPiece self.old.pass self.new.pass f r) }
         ensures keeps { KeepsTerms self.old self.new }
     {
         put(alloc, self.pool, &mut self.pass, images, r)

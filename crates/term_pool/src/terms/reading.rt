@@ -67,7 +67,8 @@ impl<'a> Terms<'a> {
     /// The binding of a let at place `i`, counted from 0: the leaf of its variable, and its value.
     pub fn let_binding(&mut self, r: Ref, i: u32) -> (u32, Ref)
         requires { HasBinding self.old r i }
-        ensures binding { (s : Table) (t : Term) (x : Var) (u : Term) → RefersTo s self.old r t → slice_get (bindings_of t) i ≡ Some (x, u) → IsLeaf s result.0 (variable_leaf x) × RefersTo s self.new result.1 u }
+        ensures binding { (s : Table) (t : Term) (x : Var) (u : Term) → RefersTo s self.old r t → slice_get (bindings_of t) i ≡ Some (x, u) →
+            IsLeaf s result.0 (variable_leaf x) × RefersTo s self.new result.1 u }
         ensures known { IsKnown self.new.pass result.1 }
         ensures keeps { KeepsTerms self.old self.new }
         ensures unchanged { IsUnchanged self.old.pass self.new.pass }

@@ -18,8 +18,8 @@ returns-in-Err-PoolFull c = λ bits places.
     let z = c.read_proof.new.symbols in
     let old = c.args.terms.pass in
     let new = c.read_proof.new.terms.pass in
-    let P : Term → Type 0 = IsCountedOfProof t.proof.now (settings_of t.options.replaces_lets) before.script in
-    let Q : Term → Type 0 = IsReadOf t.problem.now t.options.replaces_lets t.proof.now in
+    let P : Term → Type 0 = IsCountedOfProof t.proof.now (settings_of t.options) before.script in
+    let Q : Term → Type 0 = IsReadOf t.problem.now t.options t.proof.now in
     let more : (u : Term) → P u → Q u = λ u h. inr (record { script = before.script; stands = before.stands; counted = h }) in
     let placed : PlacesCellsOf z old new P = rw (c.flags_of-flags.ensures) at (c.read_proof.ensures.placed before.script before.is) in
     let lacks : LacksCellOf z new P = rw (c.flags_of-flags.ensures) at (c.read_proof.ensures.full before.script before.is (c.in-Err-PoolFull.is ∙ ap Err c.in-Err-PoolFull.field-0-is)) in
@@ -28,7 +28,7 @@ returns-in-Err-PoolFull c = λ bits places.
     has_more_cells z new Q c.pool_full.ensures.table (c.read_proof.ensures.keeps.pass.shares ∙ c.requires.shares)
     c.pool_full.ensures.one_reference c.pool_full.ensures.in_order holds (lacks_more z new P Q more lacks) (2 ^ bits)
     (c.read_proof.ensures.keeps.pass.places ∙ places) in
-    rw c.pool_full.ensures.full (more_cells_of Q (NeedsRoom t.problem.now t.options.replaces_lets t.proof.now) (2 ^ bits) (λ u h. inl h) cells)
+    rw c.pool_full.ensures.full (more_cells_of Q (NeedsRoom t.problem.now t.options t.proof.now) (2 ^ bits) (λ u h. inl h) cells)
 
 pub judge_read-requires-clause-read : goal.judge_read-requires-clause-read
 judge_read-requires-clause-read c =
@@ -37,7 +37,7 @@ judge_read-requires-clause-read c =
     let z = c.read_proof.new.symbols in
     let w = c.read_proof.new.terms in
     let stays : IsProblemOf z w c.args.problem.now before.script = c.problems_stay.ensures c.args.symbols.now z c.args.terms w c.args.problem.now before.script c.read_proof.ensures.symbols c.read_proof.ensures.keeps before.is in
-    let read : IsProofOf t.proof.now (settings_of t.options.replaces_lets) before.script z w c.in-Ok.proof = search (rules, c.read_proof.ensures.proof before.script before.is, c.in-Ok.is, c.flags_of-flags.ensures) in
+    let read : IsProofOf t.proof.now (settings_of t.options) before.script z w c.in-Ok.proof = search (rules, c.read_proof.ensures.proof before.script before.is, c.in-Ok.is, c.flags_of-flags.ensures) in
     record { script = before.script; problem_text = before.stands; assertions = stays.assertions; read = read }
 
 pub judge_read-requires-clause-holds : goal.judge_read-requires-clause-holds
@@ -47,8 +47,8 @@ judge_read-requires-clause-holds c =
     let z = c.read_proof.new.symbols in
     let old = c.args.terms.pass in
     let new = c.read_proof.new.terms.pass in
-    let P : Term → Type 0 = IsCountedOfProof t.proof.now (settings_of t.options.replaces_lets) before.script in
-    let Q : Term → Type 0 = IsReadOf t.problem.now t.options.replaces_lets t.proof.now in
+    let P : Term → Type 0 = IsCountedOfProof t.proof.now (settings_of t.options) before.script in
+    let Q : Term → Type 0 = IsReadOf t.problem.now t.options t.proof.now in
     let placed : PlacesCellsOf z old new P = rw (c.flags_of-flags.ensures) at (c.read_proof.ensures.placed before.script before.is) in
     holds_more c.args.symbols.now z old new P Q (λ u h. inr (record { script = before.script; stands = before.stands; counted = h })) c.read_proof.ensures.symbols.keeps c.read_proof.ensures.keeps.pass c.requires.holds placed
 

@@ -25,7 +25,7 @@ judge_commands-requires-clause-asserted c = record { assertions = c.requires.rea
 pub judge_commands-requires-clause-short : goal.judge_commands-requires-clause-short
 judge_commands-requires-clause-short c =
     let text = c.args.texts.now.proof.now in
-    let settings = settings_of c.args.texts.now.options.replaces_lets in
+    let settings = settings_of c.args.texts.now.options in
     let script = c.requires.read.script in
     let read = c.requires.read.read in
     short_stands _ _ c.args.proof.now read.proof (c.proofs_correspond.ensures _ _ c.args.proof.now read.proof read.refer) (record {
@@ -41,7 +41,7 @@ judge_commands-requires-clause-sorted c = λ of i stands.
     let read = c.requires.read.read in
     let sound = c.scripts_are_well_sorted.ensures texts.problem.now texts.options.replaces_lets script c.requires.read.problem_text in
     let scoped = c.scripts_are_closed.ensures texts.problem.now texts.options.replaces_lets script c.requires.read.problem_text in
-    let sorted = c.proofs_have_scoped_terms.ensures texts.proof.now (settings_of texts.options.replaces_lets) script read.proof read.after sound scoped read.stands in
+    let sorted = c.proofs_have_scoped_terms.ensures texts.proof.now (settings_of texts.options) script read.proof read.after sound scoped read.stands in
     let same : of ≡ read.proof = c.proofs_stand_for_one.ensures.one _ _ c.args.proof.now of read.proof c.count-leaves.ensures.table c.one_to_one.ensures stands read.refer in
     subst (λ p. IsClauseOfTruths (clause_at p i)) (sym same) (clauses_of_truths read.proof i sorted)
 
@@ -62,11 +62,11 @@ returns-in-Err-PoolFull c = λ bits places.
     let old = c.args.terms.pass in
     let new = c.judge_commands.new.terms.pass in
     let P : Term → Type 0 = IsPlacedOf both.read.proof in
-    let Q : Term → Type 0 = NeedsRoom t.problem.now t.options.replaces_lets t.proof.now in
+    let Q : Term → Type 0 = NeedsRoom t.problem.now t.options t.proof.now in
     let more : (u : Term) → P u → Q u = λ u h. inr (record { script = both.script; commands = both.read.proof; after = both.read.after; problem_text = both.problem_text; proof_text = both.read.stands; placed = h }) in
     let placed : PlacesCellsOf s old new P = c.judge_commands.ensures.placed both.read.proof both.read.refer in
     let lacks : LacksCellOf s new P = c.in-Err-PoolFull.ensures.full c.in-Err-PoolFull.field-0-is both.read.proof both.read.refer in
-    let held : HoldsOnly s old Q = holds_kind s old (IsReadOf t.problem.now t.options.replaces_lets t.proof.now) Q (λ u h. inl h) c.requires.holds in
+    let held : HoldsOnly s old Q = holds_kind s old (IsReadOf t.problem.now t.options t.proof.now) Q (λ u h. inl h) c.requires.holds in
     let holds : HoldsOnly s new Q = holds_more s s old new P Q more (keeps_table s) c.judge_commands.ensures.keeps.pass held placed in
     let cells : HasMoreCells Q (2 ^ bits) =
     has_more_cells s new Q c.pool_full.ensures.table (c.judge_commands.ensures.keeps.pass.shares ∙ c.requires.shares)

@@ -15,7 +15,7 @@ returns-in-Err-PoolFull c = λ bits places.
     let s = c.read_problem.new.symbols in
     let new = c.read_problem.new.terms.pass in
     let P : Term → Type 0 = IsCounted t.problem.now t.options.replaces_lets in
-    let Q : Term → Type 0 = IsReadOf t.problem.now t.options.replaces_lets t.proof.now in
+    let Q : Term → Type 0 = IsReadOf t.problem.now t.options t.proof.now in
     let more : (u : Term) → P u → Q u = λ u h. inl h in
     let placed : PlacesCellsOf s c.args.terms.pass new P = rw (c.flags_of-flags.ensures) at c.read_problem.ensures.placed in
     let lacks : LacksCellOf s new P = rw (c.flags_of-flags.ensures) at (c.read_problem.ensures.full (c.in-Err-PoolFull.is ∙ ap Err c.in-Err-PoolFull.field-0-is)) in
@@ -24,7 +24,7 @@ returns-in-Err-PoolFull c = λ bits places.
     has_more_cells s new Q c.pool_full.ensures.table (c.read_problem.ensures.keeps.pass.shares ∙ c.requires.shares)
     c.pool_full.ensures.one_reference c.pool_full.ensures.in_order holds (lacks_more s new P Q more lacks) (2 ^ bits)
     (c.read_problem.ensures.keeps.pass.places ∙ places) in
-    rw c.pool_full.ensures.full (more_cells_of Q (NeedsRoom t.problem.now t.options.replaces_lets t.proof.now) (2 ^ bits) (λ u h. inl h) cells)
+    rw c.pool_full.ensures.full (more_cells_of Q (NeedsRoom t.problem.now t.options t.proof.now) (2 ^ bits) (λ u h. inl h) cells)
 
 pub judge_proof-requires-clause-holds : goal.judge_proof-requires-clause-holds
 judge_proof-requires-clause-holds c =
@@ -32,6 +32,6 @@ judge_proof-requires-clause-holds c =
     let s = c.read_problem.new.symbols in
     let new = c.read_problem.new.terms.pass in
     let P : Term → Type 0 = IsCounted t.problem.now t.options.replaces_lets in
-    let Q : Term → Type 0 = IsReadOf t.problem.now t.options.replaces_lets t.proof.now in
+    let Q : Term → Type 0 = IsReadOf t.problem.now t.options t.proof.now in
     let placed : PlacesCellsOf s c.args.terms.pass new P = rw (c.flags_of-flags.ensures) at c.read_problem.ensures.placed in
     holds_placed s c.args.terms.pass new P Q (λ u h. inl h) c.requires.nothing placed

@@ -22,8 +22,9 @@ pub returns : goal.returns
 returns c = λ a h.
     let f = found_of c.in-Some.check.now in
     let rows : rows_of f ≡ h.rows = rows_are _ h.rows (subcommand_rows_of c.args.matches.now) _ c.in-Some.ensures.rows h.met in
-    asked_is _ _ _ _ a
+    asked_is _ _ _ _ _ a
     (value_is f (codes "proof") h.rows a.proof _ c.in-Some-get_str.ensures rows h.proof)
     (value_is f (codes "problem") h.rows a.problem _ c.in-Some-get_str-2.ensures rows h.problem)
     (flag_is f (codes "expand") h.rows _ _ rows h.expand c.get_flag.ensures.value c.get_flag.ensures.other)
     (flag_is f (codes "ignore") h.rows _ _ rows h.ignore c.get_flag-2.ensures.value c.get_flag-2.ensures.other)
+    (flag_is f (codes "strict") h.rows _ _ rows h.strict c.get_flag-3.ensures.value c.get_flag-3.ensures.other)

@@ -3,7 +3,7 @@ use Rattle.std.proofs.Common.{◌≡◌, ℤ, to_z, of_z, sym, subst, ◌∙◌,
 use Rattle.std.specs.Int.{w128}
 use Rattle.std.proofs.lemmas.Bool.{false≢true}
 use Rattle.std.proofs.lemmas.Int.{ints}
-use Rattle.rule_model.specs.Arithmetic.{limit}
+use Rattle.rule_model.specs.Arith.{limit}
 use Rattle.linear_lines.specs.Lines.{IsSumOf}
 use Rattle.line_judging.specs.declared.judging.Absurdity.{Absurdity}
 use Rattle.line_judging.proofs.BoundLemmas.{absurd_by}

@@ -2,7 +2,7 @@
 use Rattle.std.proofs.Common.{◌≡◌, ◌≤◌, ◌<◌, ◌+◌, ℤ, ◌++◌, ◌∷◌, [], unsigned_abs, List, to_z, of_z, sym, subst, arith}
 use Rattle.std.specs.Int.{w128}
 use Rattle.std.proofs.lemmas.Int.{ints}
-use Rattle.rule_model.specs.Arithmetic.{limit}
+use Rattle.rule_model.specs.Arith.{limit}
 use Rattle.scaled_sums.specs.declared.coefficients.Coefficient.{Coefficient}
 use Rattle.scaled_sums.specs.Coefficients.{AreApart, sizes_of}
 use Rattle.linear_lines.specs.Lines.{IsFormOf, IsSumOf}

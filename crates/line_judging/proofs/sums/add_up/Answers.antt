@@ -5,7 +5,7 @@ use Rattle.std.specs.List.{AllZip}
 use Rattle.std.proofs.lemmas.Int.{ints}
 use Rattle.std.proofs.lemmas.List.{take_more, take_all}
 use Rattle.std.proofs.lemmas.List.Elements.{All-take}
-use Rattle.rule_model.specs.Arithmetic.{limit}
+use Rattle.rule_model.specs.Arith.{limit}
 use Rattle.linear_lines.specs.Lines.{StandsForLine, IsSumOf}
 use Rattle.line_judging.specs.Totals.{IsTotal}
 use Rattle.line_judging.specs.Weights.{IsLineOfTerms}

@@ -1,7 +1,7 @@
 -- The lines so far.
 use Rattle.std.proofs.Common.{◌≡◌, take, List}
 use Rattle.std.specs.List.{AllZip}
-use Rattle.rule_model.specs.Arithmetic.{CoefficientLine}
+use Rattle.rule_model.specs.Arith.{CoefficientLine}
 use Rattle.linear_lines.specs.Lines.{StandsForLine}
 use Rattle.line_judging.specs.Totals.{IsTotal}
 use Rattle.line_judging.proofs.sums.add_up.Given as goal

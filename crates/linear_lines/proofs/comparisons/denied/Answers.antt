@@ -1,7 +1,7 @@
 -- Behind its `not`s a literal is a term with a truth.
 use Rattle.std.proofs.Common.{◌≡◌, sym, ap, ◌∙◌, subst, rules}
 use Rattle.term_model.specs.Sorts.{IsWellSorted}
-use Rattle.rule_model.specs.Arithmetic.{denial}
+use Rattle.rule_model.specs.Arith.{denial}
 use Rattle.linear_lines.specs.Comparisons.{IsNumberComparison}
 use Rattle.linear_lines.specs.ComparisonReads.{said_by}
 use Rattle.linear_lines.proofs.ComparisonLemmas.{denied_is, under_nots}

@@ -1,6 +1,6 @@
 -- A denominator at a time.
 use Rattle.std.proofs.Common.{ℕ, ◌≤◌, IfNone, sym, subst}
-use Rattle.rule_model.specs.Arithmetic.{limit}
+use Rattle.rule_model.specs.Arith.{limit}
 use Rattle.linear_lines.specs.Lines.{IsMultiple}
 use Rattle.linear_lines.proofs.MultipleLemmas.{least_start, least_more, wide_multiple}
 use Rattle.linear_lines.proofs.multiples.least_multiple.Goals as goal

@@ -2,7 +2,7 @@
 use Rattle.std.proofs.Common.{◌≡◌, ◌≢◌, ◌↔◌, ◌≤◌, ◌<◌, ℕ, ℤ, pos, neg_ℤ, ◌+◌, ◌*◌, ◌/◌, ◌++◌, ◌+ℤ◌, ◌*ℤ◌, max, unsigned_abs, [], ◌∷◌, map, IsTrue, to_z, of_z, FitsSigned, sym, ap, subst, ◌∙◌, arith}
 use Rattle.std.specs.Int.{w128}
 use Rattle.std.proofs.lemmas.Int.{ints, fits_signed_from_abs}
-use Rattle.rule_model.specs.Arithmetic.{equals, signed_by, bound_by, IsWhole, limit}
+use Rattle.rule_model.specs.Arith.{equals, signed_by, bound_by, IsWhole, limit}
 use Rattle.scaled_sums.specs.Coefficients.{sum_at, sizes_of, scale}
 use Rattle.scaled_sums.specs.Relations.{relation_meant, IsBoundOf}
 use Rattle.linear_lines.specs.Lines.{IsSumOf}

@@ -2,7 +2,7 @@
 use Rattle.std.proofs.Common.{◌≡◌, ◌≤◌, ◌+◌, ◌*◌, ℤ, neg_ℤ, to_z, of_z, unsigned_abs, sym, ap, subst, ◌∙◌, arith}
 use Rattle.std.specs.Int.{w128}
 use Rattle.std.proofs.lemmas.Int.{ints}
-use Rattle.rule_model.specs.Arithmetic.{bound_by}
+use Rattle.rule_model.specs.Arith.{bound_by}
 use Rattle.scaled_sums.specs.Relations.{relation_meant}
 use Rattle.linear_lines.proofs.SumLemmas.{bound_fits}
 use Rattle.linear_lines.proofs.sums.own_bound.Goals as goal

@@ -2,7 +2,7 @@
 use Rattle.std.proofs.Common.{◌≡◌, ◌↔◌, ℕ, ℤ, ◌*ℤ◌, IsTrue, to_z, of_z, subst, arith}
 use Rattle.std.specs.Int.{w128}
 use Rattle.std.proofs.lemmas.Int.{ints}
-use Rattle.rule_model.specs.Arithmetic.{IsWhole}
+use Rattle.rule_model.specs.Arith.{IsWhole}
 use Rattle.scaled_sums.specs.Coefficients.{sum_at}
 use Rattle.linear_lines.proofs.SumLemmas.{no_equation}
 use Rattle.linear_lines.proofs.sums.rounds.Goals as goal

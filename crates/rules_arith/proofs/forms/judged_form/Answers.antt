@@ -1,7 +1,7 @@
 -- The sides of the equality are terms of Int with linear forms.
 use Rattle.std.proofs.Common.{[], refl, sym, subst}
 use Rattle.std.proofs.lemmas.Bool.{false≢true}
-use Rattle.rule_model.specs.Arithmetic.{MeetsFormSimplification, IsWideFormSimplification}
+use Rattle.rule_model.specs.Arith.{MeetsFormSimplification, IsWideFormSimplification}
 use Rattle.rules_arith.specs.Answers.{Tells}
 use Rattle.rules_arith.proofs.FormLemmas.{sorted_are_terms, sides_sorted, states_none, left_is_none, right_is_none, form_tells}
 use Rattle.rules_arith.proofs.forms.judged_form.Goals as goal

@@ -1,8 +1,6 @@
-use Rattle.std.proofs.Common.{◌↔◌, ◌∷◌, [], ◌∙◌, List, IsTrue, sym, subst}
+use Rattle.std.proofs.Common.{◌↔◌, ◌∷◌, [], ◌∙◌, List, IsTrue, sym}
 use Rattle.rule_model.specs.Clausal.{as_it_stands}
 use Rattle.rule_model.specs.Congruence.{Equates, AreCongruent, AreCongruentTruths}
-use Rattle.term_model.specs.declared.symbols.Sort.{Sort}
-use Rattle.term_model.specs.Sorts.{IsOf}
 use Rattle.term_model.specs.Terms.{Term}
 use Rattle.term_pool.specs.Views.{RefersTo}
 use Rattle.rules_congruence.specs.Sides.{IsGiven}
@@ -10,12 +8,13 @@ use Rattle.rules_congruence.specs.Uses.{Together}
 use Rattle.rules_congruence.proofs.Literals.{equates_both, equates_none}
 use Rattle.rules_congruence.proofs.Options.{if_ok}
 use Rattle.rules_congruence.proofs.PartLemmas.{left_is_term, right_is_term}
-use Rattle.rules_congruence.proofs.PredicateLemmas.{truth_is_term, left_sorted, truth_of, right_sort, truths_by, no_truths}
+use Rattle.rules_congruence.proofs.PredicateLemmas.{left_sorted, equality_of, right_sort, truths_by, no_truths}
 use Rattle.rules_congruence.proofs.predicates.equates_truths.Goals as goal
+use Rattle.sort_check.proofs.Leaves.{sorted_is_term}
 use Rattle.term_parts.proofs.PartLemmas.{false_is}
 
 pub sides_of-requires : goal.sides_of-requires
-sides_of-requires c = truth_is_term c.args.symbols.now c.args.terms.now c.args.literal c.requires
+sides_of-requires c = sorted_is_term c.args.symbols.now c.args.terms.now c.args.literal c.requires
 
 pub returns-in_default-clause-equates : goal.returns-in_default-clause-equates
 returns-in_default-clause-equates c ps t given refers =
@@ -41,7 +40,8 @@ returns-clause-equates c =
     c.are_congruent.result
     (λ yes h ps t given refers.
     let sides = c.in-Some.ensures.sides t refers in
-    let whole = subst (λ x. IsOf x Sort.Bool) sides.is (truth_of s v (c.equal_exactly_where_terms_are.ensures s c.count-leaves.ensures.table) c.args.literal c.requires t refers) in
+    let one = c.equal_exactly_where_terms_are.ensures s c.count-leaves.ensures.table in
+    let whole = equality_of s v one c.args.literal c.requires t sides.left sides.right refers sides.is in
     let left = ((rw c.sides_of.ensures.same at c.is_truth.ensures.truth) sides.left sides.left_refers).0 c.if-not-is_truth.false in
     equates_both s v (AreCongruentTruths (Together c.args.uses)) ps c.in-Some.sides t sides
     (truths_by (Together c.args.uses) ps sides.left sides.right left (right_sort sides.left sides.right whole left)
@@ -50,8 +50,8 @@ returns-clause-equates c =
 
 pub are_congruent-requires-clause-left : goal.are_congruent-requires-clause-left
 are_congruent-requires-clause-left c =
-    rw (c.is_truth.ensures.same, c.sides_of.ensures.same) (left_is_term c.args.symbols.now c.args.terms.now as_it_stands c.args.literal c.in-Some.sides (truth_is_term c.args.symbols.now c.args.terms.now c.args.literal c.requires) c.in-Some.ensures.sides)
+    rw (c.is_truth.ensures.same, c.sides_of.ensures.same) (left_is_term c.args.symbols.now c.args.terms.now as_it_stands c.args.literal c.in-Some.sides (sorted_is_term c.args.symbols.now c.args.terms.now c.args.literal c.requires) c.in-Some.ensures.sides)
 
 pub are_congruent-requires-clause-right : goal.are_congruent-requires-clause-right
 are_congruent-requires-clause-right c =
-    rw (c.is_truth.ensures.same, c.sides_of.ensures.same) (right_is_term c.args.symbols.now c.args.terms.now as_it_stands c.args.literal c.in-Some.sides (truth_is_term c.args.symbols.now c.args.terms.now c.args.literal c.requires) c.in-Some.ensures.sides)
+    rw (c.is_truth.ensures.same, c.sides_of.ensures.same) (right_is_term c.args.symbols.now c.args.terms.now as_it_stands c.args.literal c.in-Some.sides (sorted_is_term c.args.symbols.now c.args.terms.now c.args.literal c.requires) c.in-Some.ensures.sides)

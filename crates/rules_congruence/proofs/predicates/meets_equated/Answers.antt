@@ -1,13 +1,13 @@
 use Rattle.std.proofs.Common.{◌↔◌, ◌∷◌, [], List, IsTrue}
 use Rattle.rule_model.specs.Congruence.{Equates, AreCongruentTruths, Denies}
 use Rattle.term_model.specs.Terms.{Term}
-use Rattle.term_pool.specs.Views.{RefersTo}
+use Rattle.term_pool.specs.Views.{RefersTo, ReferToAll}
 use Rattle.rules_congruence.specs.Sides.{IsGiven}
 use Rattle.rules_congruence.specs.Uses.{Together}
-use Rattle.rules_congruence.specs.Steps.{ReferTo, ReferToClauses}
+use Rattle.term_parts.specs.Judging.{ReferToClauses}
 use Rattle.rules_congruence.proofs.Literals.{equates_one, front_terms, split_refers, denies_both, denies_none, not_denying}
 use Rattle.rules_congruence.proofs.Options.{if_ok}
-use Rattle.rules_congruence.proofs.PredicateLemmas.{truths_are_terms, last_truth}
+use Rattle.rules_congruence.proofs.PredicateLemmas.{sorted_are_terms, last_sorted}
 use Rattle.rules_congruence.proofs.TurningLemmas.{none_premised}
 use Rattle.rules_congruence.proofs.predicates.meets_equated.Goals as goal
 use Rattle.term_parts.proofs.PartLemmas.{false_is}
@@ -18,7 +18,7 @@ returns-in_default-clause-met c ps ts premises clause =
 
 pub denied-requires : goal.denied-requires
 denied-requires c =
-    (front_terms c.args.symbols.now c.args.terms.now c.args.clause.now c.in-Some.split.0.now c.in-Some.split.1 c.in-Some.ensures.split.1 (truths_are_terms c.args.symbols.now c.args.terms.now c.args.clause.now c.requires.clause)).0
+    (front_terms c.args.symbols.now c.args.terms.now c.args.clause.now c.in-Some.split.0.now c.in-Some.split.1 c.in-Some.ensures.split.1 (sorted_are_terms c.args.symbols.now c.args.terms.now c.args.clause.now c.requires.clause)).0
 
 pub returns-in_default-2-clause-met : goal.returns-in_default-2-clause-met
 returns-in_default-2-clause-met c ps ts premises clause =
@@ -27,12 +27,12 @@ returns-in_default-2-clause-met c ps ts premises clause =
 
 pub equates_truths-requires : goal.equates_truths-requires
 equates_truths-requires c =
-    rw c.denied.ensures.same (last_truth c.args.symbols.now c.args.terms.now c.args.clause.now c.in-Some.split.0.now c.in-Some.split.1 c.in-Some.ensures.split.1 c.requires.clause)
+    rw c.denied.ensures.same (last_sorted c.args.symbols.now c.args.terms.now c.args.clause.now c.in-Some.split.0.now c.in-Some.split.1 c.in-Some.ensures.split.1 c.requires.clause)
 
 pub returns-clause-met : goal.returns-clause-met
 returns-clause-met c =
     if_ok (λ yes. (ps : List (List Term)) (t : Term) → IsGiven c.args.symbols.now c.args.terms.now c.in-Some-2.given.pairs.items c.in-Some-2.given.only ps → RefersTo c.args.symbols.now c.args.terms.now c.in-Some.split.1 t → IsTrue yes ↔ Equates (AreCongruentTruths (Together c.args.uses)) ps (t ∷ []))
-    (λ yes. (ps : List (List Term)) (ts : List Term) → ReferToClauses c.args.symbols.now c.args.terms.now c.args.premises.now ps → ReferTo c.args.symbols.now c.args.terms.now c.args.clause.now ts → IsTrue yes ↔ Denies (Equates (AreCongruentTruths (Together c.args.uses))) ps ts)
+    (λ yes. (ps : List (List Term)) (ts : List Term) → ReferToClauses c.args.symbols.now c.args.terms.now c.args.premises.now ps → ReferToAll c.args.symbols.now c.args.terms.now c.args.clause.now ts → IsTrue yes ↔ Denies (Equates (AreCongruentTruths (Together c.args.uses))) ps ts)
     c.equates_truths.result
     (λ yes h ps ts premises clause.
     let more = split_refers c.args.symbols.now c.args.terms.now c.args.clause.now c.in-Some.split.0.now c.in-Some.split.1 ts c.in-Some.ensures.split.1 clause in

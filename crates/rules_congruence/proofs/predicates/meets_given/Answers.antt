@@ -1,10 +1,10 @@
 use Rattle.std.proofs.Common.{◌↔◌, ◌∷◌, ◌++◌, [], List, IsTrue, refl}
 use Rattle.rule_model.specs.Congruence.{Denies}
 use Rattle.term_model.specs.Terms.{Term}
-use Rattle.term_pool.specs.Views.{RefersTo}
+use Rattle.term_pool.specs.Views.{RefersTo, ReferToAll}
 use Rattle.rules_congruence.specs.Predicates.{GivesOther}
 use Rattle.rules_congruence.specs.Sides.{IsGiven}
-use Rattle.rules_congruence.specs.Steps.{ReferTo, ReferToClauses}
+use Rattle.term_parts.specs.Judging.{ReferToClauses}
 use Rattle.rules_congruence.proofs.Literals.{front_terms}
 use Rattle.rules_congruence.proofs.Options.{if_ok}
 use Rattle.rules_congruence.proofs.PredicateLemmas.{gives_two, split_two, denies_two, denies_two_none, not_denying_two}
@@ -38,7 +38,7 @@ gives_other-requires-clause-second c =
 pub returns-clause-met : goal.returns-clause-met
 returns-clause-met c =
     if_ok (λ yes. (ps : List (List Term)) (t u : Term) → IsGiven c.args.symbols.now c.args.terms.now c.in-Some-2.given.pairs.items c.in-Some-2.given.only ps → RefersTo c.args.symbols.now c.args.terms.now c.in-Some.split.1 t → RefersTo c.args.symbols.now c.args.terms.now c.in-Some.split.2 u → IsTrue yes ↔ GivesOther c.args.uses ps (t ∷ u ∷ []))
-    (λ yes. (ps : List (List Term)) (ts : List Term) → ReferToClauses c.args.symbols.now c.args.terms.now c.args.premises.now ps → ReferTo c.args.symbols.now c.args.terms.now c.args.clause.now ts → IsTrue yes ↔ Denies (GivesOther c.args.uses) ps ts)
+    (λ yes. (ps : List (List Term)) (ts : List Term) → ReferToClauses c.args.symbols.now c.args.terms.now c.args.premises.now ps → ReferToAll c.args.symbols.now c.args.terms.now c.args.clause.now ts → IsTrue yes ↔ Denies (GivesOther c.args.uses) ps ts)
     c.gives_other.result
     (λ yes h ps ts premises clause.
     let more = split_two c.args.symbols.now c.args.terms.now c.args.clause.now c.in-Some.split.0.now c.in-Some.split.1 c.in-Some.split.2 ts c.in-Some.ensures.split.1 clause in

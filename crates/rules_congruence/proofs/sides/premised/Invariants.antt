@@ -1,7 +1,7 @@
 use Rattle.std.proofs.Common.{◌≡◌, List, take}
 use Rattle.term_model.specs.Terms.{Term}
 use Rattle.rules_congruence.specs.Sides.{IsGiven}
-use Rattle.rules_congruence.specs.Steps.{ReferToClauses}
+use Rattle.term_parts.specs.Judging.{ReferToClauses}
 use Rattle.rules_congruence.proofs.sides.premised.Given as goal
 
 abbrev pub invariant-loop-premise : goal.invariant-loop-premise

@@ -1,12 +1,11 @@
 use Rattle.std.proofs.Common.{List, []}
 use Rattle.std.proofs.lemmas.List.Elements.{All-head}
 use Rattle.term_model.specs.Terms.{Term}
-use Rattle.term_pool.specs.Views.{IsTerm, RefersTo}
+use Rattle.term_pool.specs.Views.{IsTerm, RefersTo, ReferToAll}
 use Rattle.rule_model.specs.Clausal.{as_it_stands}
 use Rattle.term_parts.specs.Parts.{AreSidesOf}
 use Rattle.term_parts.proofs.Options.{if_some, if_none}
 use Rattle.rules_congruence.specs.Sides.{IsUnitOf}
-use Rattle.rules_congruence.specs.Steps.{ReferTo}
 use Rattle.rules_congruence.proofs.GivenLemmas.{unit_of, no_unit_of, not_one_literal}
 use Rattle.rules_congruence.proofs.sides.unit_sides.Goals as goal
 
@@ -21,7 +20,7 @@ sides_of-requires c =
 pub returns-clause-unit : goal.returns-clause-unit
 returns-clause-unit c =
     if_some (λ p. (t : Term) → RefersTo c.args.symbols.now c.args.terms.now c.in-Some.literal t → AreSidesOf c.args.symbols.now c.args.terms.now as_it_stands p t)
-    (λ p. (clause : List Term) → ReferTo c.args.symbols.now c.args.terms.now c.args.clause.now clause → IsUnitOf c.args.symbols.now c.args.terms.now p clause)
+    (λ p. (clause : List Term) → ReferToAll c.args.symbols.now c.args.terms.now c.args.clause.now clause → IsUnitOf c.args.symbols.now c.args.terms.now p clause)
     c.sides_of.result
     (λ p sides clause refers. unit_of c.args.symbols.now c.args.terms.now c.args.clause.now c.in-Some.literal p clause c.in-Some.ensures.one sides refers)
     c.sides_of.ensures.sides

@@ -1,12 +1,15 @@
 use Rattle.std.proofs.lemmas.Result.{IfOk-weaker}
-use Rattle.rules_ite.proofs.CheckLemmas.{truths_are_terms}
-use Rattle.rules_ite.proofs.RuleLemmas.{choice_is}
+use Rattle.rule_model.specs.declared.kinds.Family.{Family}
+use Rattle.term_parts.proofs.JudgingLemmas.{met_of}
+use Rattle.rules_ite.specs.Steps.{MeetsDefinition}
+use Rattle.rules_ite.proofs.CheckLemmas.{asks}
 use Rattle.rules_ite.proofs.checks.meets.Goals as goal
 
-pub is_instance-requires-clause-clause : goal.is_instance-requires-clause-clause
-is_instance-requires-clause-clause c = truths_are_terms c.args.symbols.now c.args.terms.now c.args.clause.now c.requires.clause
+pub returns-clause-met : goal.returns-clause-met
+returns-clause-met c =
+    IfOk-weaker c.meets_definition.result _ _ (λ b test. met_of MeetsDefinition Family.Ite b c.requires.family asks test) c.meets_definition.ensures.meets
 
-pub returns-in-Some-clause-meets : goal.returns-in-Some-clause-meets
-returns-in-Some-clause-meets c =
-    IfOk-weaker c.is_instance.result _ _ (λ b test ps ts premises clause.
-    choice_is ps ts c.args.rule c.in-Some.parts b c.in-Some.ensures (λ of has. test of ps ts has premises clause)) c.is_instance.ensures.instance
+pub returns-clause-sound : goal.returns-clause-sound
+returns-clause-sound c =
+    IfOk-weaker c.meets_definition.result _ _ (λ b test yes mode j stands.
+    c.conditions_keep_truth.ensures j ((met_of MeetsDefinition Family.Ite b c.requires.family asks test mode j stands).0 yes)) c.meets_definition.ensures.meets

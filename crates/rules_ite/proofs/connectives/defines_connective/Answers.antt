@@ -1,5 +1,5 @@
 use Rattle.std.proofs.lemmas.Result.{IfOk-weaker}
-use Rattle.rule_model.specs.Definitions.{connective_definitions}
+use Rattle.rule_model.specs.Ite.{connective_definitions}
 use Rattle.rules_ite.specs.Connectives.{schemas_of}
 use Rattle.rules_ite.proofs.ConnectiveLemmas.{connective_is}
 use Rattle.rules_ite.proofs.connectives.defines_connective.Goals as goal

@@ -2,7 +2,7 @@ use Rattle.std.proofs.Common.{◌≡◌, ◌↔◌, List, drop}
 use Rattle.std.specs.List.{AllZip}
 use Rattle.term_model.specs.Terms.{Term}
 use Rattle.term_pool.specs.Views.{RefersTo, ReferToAll}
-use Rattle.rule_model.specs.Definitions.{IsInequality}
+use Rattle.rule_model.specs.Ite.{IsInequality}
 use Rattle.rules_ite.proofs.distinct.is_apart_from.Given as goal
 
 abbrev pub invariant-loop-place : goal.invariant-loop-place

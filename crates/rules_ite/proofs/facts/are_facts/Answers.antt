@@ -1,5 +1,5 @@
 use Rattle.std.proofs.Common.{◌∙◌, refl, arith}
-use Rattle.rule_model.specs.Definitions.{IsFactOfChoice}
+use Rattle.rule_model.specs.Ite.{IsFactOfChoice}
 use Rattle.rules_ite.proofs.EachLemmas.{one_fails, one_more, all_hold}
 use Rattle.rules_ite.proofs.facts.are_facts.Goals as goal
 

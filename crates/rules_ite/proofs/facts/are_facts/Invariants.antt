@@ -1,7 +1,7 @@
 use Rattle.std.proofs.Common.{◌≡◌, List}
 use Rattle.term_model.specs.Terms.{Term}
 use Rattle.term_pool.specs.Views.{ReferToAll}
-use Rattle.rule_model.specs.Definitions.{IsFactOfChoice}
+use Rattle.rule_model.specs.Ite.{IsFactOfChoice}
 use Rattle.rules_ite.proofs.EachLemmas.{Below}
 use Rattle.rules_ite.proofs.facts.are_facts.Given as goal
 

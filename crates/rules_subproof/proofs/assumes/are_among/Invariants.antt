@@ -1,5 +1,5 @@
 use Rattle.std.proofs.Common.{ℕ, ◌≤◌, Contains}
-use Rattle.rule_model.specs.Closings.{IsAssumeIn}
+use Rattle.rule_model.specs.Subproof.{IsAssumeIn}
 use Rattle.rules_subproof.proofs.assumes.are_among.Given as goal
 
 abbrev pub invariant-commands : goal.invariant-commands

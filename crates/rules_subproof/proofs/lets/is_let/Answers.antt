@@ -1,7 +1,7 @@
 use Rattle.std.proofs.Common.{◌≡◌, ◌↔◌, ◌∙◌, Some, map, IsTrue, false, sym, subst}
 use Rattle.term_model.specs.FreeVariables.{bound_terms}
 use Rattle.term_model.specs.Terms.{Var, Term}
-use Rattle.rule_model.specs.Closings.{AreLinkedTo}
+use Rattle.rule_model.specs.Subproof.{AreLinkedTo}
 use Rattle.rule_model.specs.Reading.{closes_at, premises_at, bindings_at}
 use Rattle.rules_subproof.specs.Lets.{clauses_at}
 use Rattle.rules_subproof.proofs.LetClosing.{no_assumes_too, at_scope, never_met, one_each, closing_equates, closing_binds, let_met}

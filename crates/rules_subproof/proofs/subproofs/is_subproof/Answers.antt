@@ -1,7 +1,7 @@
 use Rattle.std.proofs.Common.{◌≡◌, ◌∙◌, ◌∷◌, List, [], Some, sym, ap, length, false, IsTrue, refl, arith}
 use Rattle.std.proofs.lemmas.Bool.{eqb-true, eq-eqb}
 use Rattle.std.proofs.lemmas.List.{length-append}
-use Rattle.rule_model.specs.Closings.{negations}
+use Rattle.rule_model.specs.Subproof.{negations}
 use Rattle.rule_model.specs.Reading.{premises_at, last_inside_at}
 use Rattle.term_pool.specs.Bindings.{IsBindingOf}
 use Rattle.term_pool.specs.Views.{RefersTo}

@@ -3,7 +3,7 @@ use Rattle.std.proofs.Common.{◌≡◌, ℤ, pos, neg_ℤ, ◌+ℤ◌, ◌-ℤ�
 use Rattle.std.specs.Int.{w128}
 use Rattle.std.proofs.lemmas.Int.{ints}
 use Rattle.std.specs.Int.{int_rem_euclid}
-use Rattle.rule_model.specs.Arithmetic.{IsRoundedUp}
+use Rattle.rule_model.specs.Arith.{IsRoundedUp}
 use Rattle.scaled_sums.proofs.Wholes.{rounded, rounded_by_one}
 use Rattle.scaled_sums.proofs.bounds.rounded_up.Goals as goal
 

@@ -2,7 +2,7 @@
 use Rattle.std.proofs.Common.{◌<◌, sym, subst, ◌∙◌, rules}
 use Rattle.std.specs.List.Sorted.{IsNonDecreasingBy, IsPermutation}
 use Rattle.std.proofs.lemmas.List.Sorted.{IsNonDecreasingBy-from_sort_by_key}
-use Rattle.rule_model.specs.Arithmetic.{limit}
+use Rattle.rule_model.specs.Arith.{limit}
 use Rattle.scaled_sums.specs.declared.coefficients.Coefficient.{Coefficient}
 use Rattle.scaled_sums.proofs.Sums.{moved, sizes_moved}
 use Rattle.scaled_sums.proofs.cancelling.cancels.Goals as goal

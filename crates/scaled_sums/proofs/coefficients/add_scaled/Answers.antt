@@ -3,7 +3,7 @@ use Rattle.std.proofs.Common.{◌≡◌, ◌+◌, ◌*◌, ◌<◌, ◌+ℤ◌, 
 use Rattle.std.specs.Int.{w128}
 use Rattle.std.proofs.lemmas.Int.{ints}
 use Rattle.std.proofs.lemmas.List.{take_all}
-use Rattle.rule_model.specs.Arithmetic.{limit}
+use Rattle.rule_model.specs.Arith.{limit}
 use Rattle.scaled_sums.specs.Coefficients.{sum_at, sizes_of, scale}
 use Rattle.scaled_sums.proofs.coefficients.add_scaled.Goals as goal
 use Rattle.scaled_sums.proofs.Sums.{scaled_within, joined, scaled_number, sizes_joined, sizes_scaled}

@@ -4,7 +4,7 @@ use Rattle.std.specs.Int.{w128}
 use Rattle.std.proofs.lemmas.Int.{ints}
 use Rattle.std.proofs.lemmas.List.{take_all, take_more}
 use Rattle.std.proofs.lemmas.List.Elements.{All-push}
-use Rattle.rule_model.specs.Arithmetic.{IsWhole, limit}
+use Rattle.rule_model.specs.Arith.{IsWhole, limit}
 use Rattle.scaled_sums.specs.declared.coefficients.Coefficient.{Coefficient}
 use Rattle.scaled_sums.specs.Coefficients.{sum_at}
 use Rattle.scaled_sums.proofs.coefficients.are_whole.Goals as goal

@@ -3,7 +3,7 @@ use Rattle.term_model.specs.Terms.{Term}
 use Rattle.term_pool.specs.Views.{ReferToAll}
 use Rattle.rule_model.specs.Schemas.{Schema}
 use Rattle.schema_match.specs.Schemas.{AreSchemas, IsInstanceOfOne}
-use Rattle.schema_match.specs.Steps.{ReferToClauses}
+use Rattle.term_parts.specs.Judging.{ReferToClauses}
 use Rattle.schema_match.proofs.instances.is_instance_of_one.Given as goal
 
 abbrev pub invariant-loop-schema : goal.invariant-loop-schema

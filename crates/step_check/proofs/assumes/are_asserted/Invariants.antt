@@ -8,4 +8,4 @@ invariant-literals l =
     (l.terms ≡ l.initial.terms)
     × (references_of l.asserted ≡ references_of l.initial.asserted)
     × AreAssertionsReady l.terms l.asserted
-    × AreAssertedTo l.symbols l.initial.terms (references_of l.initial.asserted) l.clause l.r-index
+    × AreAssertedTo l.mode l.symbols l.initial.terms (references_of l.initial.asserted) l.clause l.r-index

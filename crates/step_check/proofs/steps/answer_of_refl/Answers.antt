@@ -1,10 +1,12 @@
-use Rattle.std.proofs.Common.{◌≤◌, ◌∙◌, sym, subst}
+use Rattle.std.proofs.Common.{◌≤◌, ◌∙◌, ap, sym, subst}
 use Rattle.std.proofs.lemmas.Result.{IfOk-weaker, IfErr-weaker}
 use Rattle.sym_table.proofs.Tables.{keeps_table}
+use Rattle.rule_model.specs.declared.kinds.Family.{Family}
+use Rattle.rule_model.specs.RuleNames.{kind_of}
 use Rattle.rule_model.specs.Scopes.{subproofs_in}
 use Rattle.term_pool.proofs.Keeping.{terms-trans}
 use Rattle.step_check.proofs.Growing.{lacks_side, lacks_image, places_image, places_side}
-use Rattle.step_check.proofs.KindLemmas.{tells_of_refl}
+use Rattle.step_check.proofs.JudgingLemmas.{tells_of_family}
 use Rattle.step_check.proofs.steps.answer_of_refl.Goals as goal
 
 pub enter-requires-clause-scope : goal.enter-requires-clause-scope
@@ -25,10 +27,11 @@ returns-clause-met c =
     let s = c.args.subject.now.symbols.now in
     let v = c.args.terms.now in
     let refs = c.args.subject.now.proof.now in
-    tells_of_refl s v refs c.args.i (λ of stand. c.commands_correspond.ensures.rule s v refs of c.args.i stand) c.check.result c.requires.refl c.check.ensures.narrow
+    rw c.mode_of.ensures at
+    (tells_of_family c.mode_of.result s v refs c.args.i (λ of stand. c.commands_correspond.ensures.rule s v refs of c.args.i stand) Family.Refl c.check.result (λ e. cc) (ap kind_of c.requires.refl) c.check.ensures.narrow
     (IfOk-weaker c.check.result _ _
     (λ answer met of stand. met of (c.proofs_stay.ensures s s v c.enter.new.terms refs of (keeps_table s) c.enter.ensures.keeps stand))
-    c.check.ensures.met)
+    c.check.ensures.met))
 
 pub returns-clause-placed : goal.returns-clause-placed
 returns-clause-placed c of stand =

@@ -25,4 +25,4 @@ returns-clause-may c =
     IfOk-weaker c.are_asserted.result _ _ (λ told tells of qs stand all.
     let outer : scope_at of i ≡ 0 = sym (c.commands_correspond.ensures.scope s v refs of i stand) ∙ (sym c.scope_of.ensures ∙ c.if-scope_of-ne0.false) in
     outer_assume c.args.subject.now.flags qs of i told outer
-    (tells qs (clause_at of i) all (rw c.clause.ensures (c.terms_correspond.ensures.clause s v refs of i stand)))) c.are_asserted.ensures.asserted
+    (tells qs (clause_at of i) all (rw c.clause.ensures (c.terms_correspond.ensures.clause s v refs of i stand)))) (rw c.mode_of-mode.ensures at c.are_asserted.ensures.asserted)

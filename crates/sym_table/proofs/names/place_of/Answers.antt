@@ -1,4 +1,4 @@
--- The place that the set answers is that of the name, which stands there once.
+-- The place that the set returns is that of the name, which stands there once.
 use Rattle.std.proofs.Common.{◌≡◌, Option, Some, None, sym, slice_get, position, bytes_eq, IfSome, IfNone, ℕ}
 use Rattle.sym_table.specs.Names.{Lacks}
 use Rattle.sym_table.proofs.Places.{position-there}

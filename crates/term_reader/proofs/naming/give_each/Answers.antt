@@ -2,6 +2,7 @@ use Rattle.std.proofs.Common.{arith, ◌∙◌, refl}
 use Rattle.std.proofs.lemmas.Result.{err_from_is_err_and}
 use Rattle.term_names.specs.Scope.{known_in}
 use Rattle.term_reader.proofs.NamesLeft.{left_start, left_end, left_stop, left_on}
+use Rattle.term_reader.proofs.EntriesKept.{none_named, kept_then}
 use Rattle.term_reader.proofs.naming.give_each.Goals as goal
 
 pub each-init : goal.each-init
@@ -10,6 +11,7 @@ each-init c = record {
   left = left_start _ _ _ _ _ _;
   macros = λ w. refl;
   scope = refl;
+  own = none_named _ _ refl;
 }
 
 pub returns-in_default-clause-given : goal.returns-in_default-clause-given
@@ -56,4 +58,8 @@ each-preserved c = record {
       (λ now is_now. c.in_ok-give_name.ensures.given s v t now free is_now);
   macros = λ w. c.in_ok-give_name.ensures.macros w ∙ c.each.invariant.macros w;
   scope = c.in_ok-give_name.ensures.scope ∙ c.each.invariant.scope;
+  own = kept_then _ _ _ c.each.invariant.own c.in_ok-give_name.ensures.own;
 }
+
+pub returns-in_default-clause-own : goal.returns-in_default-clause-own
+returns-in_default-clause-own c = c.each.invariant.own

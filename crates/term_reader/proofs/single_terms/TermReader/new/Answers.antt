@@ -9,12 +9,16 @@ use Rattle.term_reader.proofs.PushedVariables.{reader_settled}
 use Rattle.term_reader.proofs.single_terms.TermReader.new.Goals as goal
 
 pub returns : goal.returns
-returns c s v sc h = reader_settled s v _ _ sc _ (ap reverse c.new-2.ensures.items) (record {
-  script = rw c.new.ensures.own (subst (λ (p : ProblemView). IsScript (both s v) (record { base = p.entries; own = no_entries }) sc)
-      (sym c.problem.view_is) h.script);
-  scope = subst (λ es. IsScope (both s v) es []) (sym c.new.ensures.scope) tt;
-  settings = refl;
-  no_values = c.new.ensures.values;
-  no_leaves = c.new.ensures.leaves;
-  no_frames = c.new.ensures.frames;
+returns c s v sc h = reader_settled s v _ sc _ (record {
+  none = ap reverse c.new-2.ensures.items;
+  idle = record {
+    script = rw c.new.ensures.own (subst (λ (p : ProblemView). IsScript (both s v) (record { base = p.entries; own = no_entries }) sc)
+        (sym c.problem.view_is) h.script);
+    scope = subst (λ es. IsScope (both s v) es []) (sym c.new.ensures.scope) tt;
+    settings = refl;
+    no_values = c.new.ensures.values;
+    no_leaves = c.new.ensures.leaves;
+    no_frames = c.new.ensures.frames;
+  };
+  lists = c.new-3.ensures (both s v) _ sc;
 })

@@ -1,0 +1,92 @@
+-- Lists from which an item is removed, and lists without repeats, one item more.
+use Rattle.std.proofs.Common.{◌≡◌, ◌≢◌, ◌⊎◌, inl, inr, List, [], ◌∷◌, ◌++◌, refl, sym, ◌∙◌, ap, subst, Contains}
+use Rattle.std.proofs.lemmas.List.{append-nil, append_assoc}
+use Rattle.std.proofs.lemmas.List.Elements.{Contains-append_left}
+use Rattle.term_model.proofs.Lists.{contains_none, contains_cases, contains_head, contains_later}
+use Rattle.rule_model.specs.Resolution.{LeavesWithout, IsFirstsOf, IsJoined}
+use Rattle.clause_chain.specs.Adding.{AddsMissing, AddsOthers, StandsBefore}
+use Rattle.clause_chain.specs.declared.signed_term.SignedTerm.{SignedTerm}
+
+-- what is not removed is left
+pub kept_without : {X : Type 0} (p : X) (xs rest : List X) (u : X) → LeavesWithout p xs rest → Contains xs u → (u ≡ p) ⊎ Contains rest u
+kept_without p [] rest u w c = absurd (contains_none u c)
+kept_without p (x ∷ xs) rest u (inl (same, w)) c =
+    elim (contains_cases x u xs c) [ inl here ↦ inl (sym here ∙ same) | inr later ↦ kept_without p xs rest u w later ]
+kept_without p (x ∷ xs) rest u (inr (other, (us, e, w))) c =
+    elim (contains_cases x u xs c) [
+      | inl here ↦ inr (rw (e, ← here) (contains_head x us))
+      | inr later ↦ elim (kept_without p xs us u w later) [ inl same ↦ inl same | inr left ↦ inr (rw e (contains_later x u us left)) ]
+    ]
+
+-- what is removed is one item more
+pub without_last : {X : Type 0} (p : X) (xs rest : List X) (x : X) → LeavesWithout p xs rest → x ≡ p → LeavesWithout p (xs ++ x ∷ []) rest
+without_last p [] rest x w same = inl (same, w)
+without_last p (y ∷ xs) rest x (inl (here, w)) same = inl (here, without_last p xs rest x w same)
+without_last p (y ∷ xs) rest x (inr (other, (us, e, w))) same = inr (other, (us, e, without_last p xs us x w same))
+
+pub kept_last : {X : Type 0} (p : X) (xs rest : List X) (x : X) → LeavesWithout p xs rest → x ≢ p → LeavesWithout p (xs ++ x ∷ []) (rest ++ x ∷ [])
+kept_last p [] rest x w other = inr (other, ([], rw w refl, refl))
+kept_last p (y ∷ xs) rest x (inl (here, w)) other = inl (here, kept_last p xs rest x w other)
+kept_last p (y ∷ xs) rest x (inr (differs, (us, e, w))) other = inr (differs, (us ++ x ∷ [], rw e refl, kept_last p xs us x w other))
+
+-- an item more of which the first ones are told
+pub repeated_last : {X : Type 0} (seen xs rest : List X) (x : X) → IsFirstsOf seen xs rest → Contains (seen ++ rest) x → IsFirstsOf seen (xs ++ x ∷ []) rest
+repeated_last seen [] rest x f has = inl (subst (λ l. Contains l x) (rw f (append-nil seen)) has, f)
+repeated_last seen (y ∷ xs) rest x (inl (before, f)) has = inl (before, repeated_last seen xs rest x f has)
+repeated_last seen (y ∷ xs) rest x (inr (new, (us, e, f))) has =
+    inr (new, (us, e, repeated_last (seen ++ y ∷ []) xs us x f (rw (append_assoc seen (y ∷ []) us) (rw e at has))))
+
+pub new_last : {X : Type 0} (seen xs rest : List X) (x : X) → IsFirstsOf seen xs rest → (Contains (seen ++ rest) x → ⊥)
+    → IsFirstsOf seen (xs ++ x ∷ []) (rest ++ x ∷ [])
+new_last seen [] rest x f lacks =
+    inr (λ has. lacks (Contains-append_left seen rest x has), ([], rw f refl, refl))
+new_last seen (y ∷ xs) rest x (inl (before, f)) lacks = inl (before, new_last seen xs rest x f lacks)
+new_last seen (y ∷ xs) rest x (inr (new, (us, e, f))) lacks =
+    inr (new, (us ++ x ∷ [], rw e refl, new_last (seen ++ y ∷ []) xs us x f (λ has. lacks (rw e (rw (append_assoc seen (y ∷ []) us) at has)))))
+
+-- one item more of those that are added in turn
+pub added_same : (there : SignedTerm) (old items now : List SignedTerm) (x : SignedTerm) → AddsOthers there old items now → x ≡ there
+    → AddsOthers there old (items ++ x ∷ []) now
+added_same there old items now x adds same = record {
+  rest = adds.rest;
+  others = without_last there items adds.rest x adds.others same;
+  more = adds.more;
+  firsts = adds.firsts;
+  appended = adds.appended;
+}
+
+pub added_other : (there : SignedTerm) (old items now : List SignedTerm) (x : SignedTerm) (new : List SignedTerm) → AddsOthers there old items now
+    → x ≢ there → AddsMissing now x new → AddsOthers there old (items ++ x ∷ []) new
+added_other there old items now x new adds other (inl (has, same)) = record {
+  rest = adds.rest ++ x ∷ [];
+  others = kept_last there items adds.rest x adds.others other;
+  more = adds.more;
+  firsts = repeated_last old adds.rest adds.more x adds.firsts (rw adds.appended at has);
+  appended = same ∙ adds.appended;
+}
+added_other there old items now x new adds other (inr (lacks, more)) = record {
+  rest = adds.rest ++ x ∷ [];
+  others = kept_last there items adds.rest x adds.others other;
+  more = adds.more ++ x ∷ [];
+  firsts = new_last old adds.rest adds.more x adds.firsts (λ has. lacks (rw adds.appended has));
+  appended = more ∙ ap (λ l. l ++ x ∷ []) adds.appended ∙ append_assoc old adds.more (x ∷ []);
+}
+
+-- what an item added does to the first ones of a list
+pub firsts_more : (items now : List SignedTerm) (x : SignedTerm) (new : List SignedTerm) → IsFirstsOf [] items now → AddsMissing now x new
+    → IsFirstsOf [] (items ++ x ∷ []) new
+firsts_more items now x new firsts (inl (has, same)) = rw same (repeated_last [] items now x firsts has)
+firsts_more items now x new firsts (inr (lacks, more)) = rw more (new_last [] items now x firsts lacks)
+
+-- an item taken from a list, and the others of a premise behind what is left
+pub joined_by : (left kept premise new : List SignedTerm) (here there : SignedTerm) → Contains left here → Contains premise there
+    → LeavesWithout here left kept → StandsBefore kept → AddsOthers there kept premise new → IsJoined left premise here there new
+joined_by left kept premise new here there on_left on_right taken alone adds = record {
+  on_left = on_left;
+  on_right = on_right;
+  left_rest = kept;
+  left_is = taken;
+  right_rest = adds.rest;
+  right_is = adds.others;
+  firsts = rw adds.appended (alone adds.rest adds.more adds.firsts);
+}

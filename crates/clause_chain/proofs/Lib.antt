@@ -1,0 +1,5 @@
+pub mod Joining
+pub mod Keys
+pub mod Leaving
+pub mod Alone
+pub mod Onwards
