@@ -1,0 +1,3 @@
+mod PivotLemmas
+mod ReadAlike
+mod AlikeLaws
