@@ -74,7 +74,7 @@ fn pairs(pool: &Pool, pass: &mut Pass, count: u32) -> Result<u64, PoolFull>
 fn chain(pool: &Pool, pass: &mut Pass, count: u32) -> Result<Ref, PoolFull>
     requires { IsPassOf pool.now pass.old }
     ensures of_pool { IsPassOf pool.now pass.new }
-    ensures known { IfOk result (λ r. IsKnown pass.new r) }
+    ensures known { IfOk result (λ r. IsKnown pass.new.view r) }
 {
     let mut last = Ref::leaf(0);
     'links: for k in 0..count {
@@ -86,7 +86,7 @@ fn chain(pool: &Pool, pass: &mut Pass, count: u32) -> Result<Ref, PoolFull>
 /// The sum of the numbers of the second parts, from a reference down the first parts, at most so many.
 fn walk(pool: &Pool, pass: &mut Pass, from: Ref, count: u32) -> u64
     requires of_pool { IsPassOf pool.now pass.old }
-    requires known { IsKnown pass.old from }
+    requires known { IsKnown pass.old.view from }
 {
     let mut r = from;
     let mut sum: u64 = 0;

@@ -101,7 +101,7 @@ fn variable_of(symbols: &mut Symbols) -> Result<u32, Stop>
         return Err(Stop::BadWords);
     }
     let leaf = symbols.variable(b"x", Sort::Int)?;
-    let _leaves = symbols.count();
+    symbols.leaves_differ();
     Ok(leaf)
 }
 

@@ -5,3 +5,7 @@ pub mod TableLemmas
 pub mod PassLemmas
 pub mod StateLemmas
 pub mod DecodingLemmas
+pub mod SharedLemmas
+pub mod SharingLemmas
+pub mod PoolLemmas
+pub mod EventLemmas

@@ -5,3 +5,6 @@ pub mod GoodStates
 pub mod OnlyPass
 pub mod Writes
 pub mod Decoding
+pub mod Holders
+pub mod Events
+pub mod Sharing

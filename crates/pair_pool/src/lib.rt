@@ -8,7 +8,9 @@
 //! about 1.5 words where half of them are taken and 2.2 at 70 per cent, and `parts` one load. Neither takes memory.
 #![tactic(auto)]
 
+mod holder;
 mod laws;
+mod plays;
 mod pool;
 mod reference;
 mod stops;
@@ -16,7 +18,9 @@ mod table;
 #[cfg(test)]
 mod tests;
 
-pub use laws::{all_shares_all_cells, leaves_are_known, one_address_one_term};
+pub use laws::{
+    all_shares_all_cells, events_lead_to_good_states, leaves_are_known, one_address_one_term,
+};
 pub use pool::{Pass, Pool};
 pub use reference::Ref;
 pub use stops::{Memory, PoolFull};

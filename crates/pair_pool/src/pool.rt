@@ -1,81 +1,83 @@
 //! A pool and a pass on it.
 
-ghost use Rattle.std.specs.Prelude.{◌≡◌, ◌≢◌, ℕ, ◌+◌, ◌*◌, ◌^◌, ◌<◌, ◌≤◌, [], IfOk, OnOk, OnErr};
+ghost use Rattle.std.specs.Prelude.{◌≡◌, ◌≢◌, ℕ, ◌+◌, ◌-◌, ◌*◌, ◌++◌, ◌^◌, ◌<◌, ◌≤◌, [], length, IfOk, OnOk, OnErr};
 ghost use Rattle.pair_pool.specs.Trees.{Tree, leaf, cell};
 ghost use Rattle.pair_pool.specs.Decoding.{HasTreesWithin};
-ghost use Rattle.pair_pool.specs.Views.{PoolView, PassView, Cell, IsPassOf, IsSeen, HasCell, IsPlaced, Knows, IsKnown, Grows, AddsAtMost, SeesMore};
+ghost use Rattle.pair_pool.specs.Views.{PoolView, PassView, Holding, Cell, IsPassOf, IsSeen, HasCell, IsPlaced, Knows, IsKnown, Grows, AddsAtMost, SeesMore};
 ghost use Rattle.pair_pool.specs.Views.{IsUnchanged, IsFullFor, IsOneToOne, HasPartsOfTrees, HasListsInOrder};
 
-use crate::reference::Ref;
+use crate::holder::Holder;
+use crate::plays::Good;
+use crate::reference::{FIRST_CELL, Ref};
 use crate::stops::{Memory, PoolFull};
-use crate::table::{insert, new_words, parts_of};
+use crate::table::{join_all, new_words, parts_at, place_of, places_of, split_off};
+use atomic_table::{Seat, Table};
 use std::alloc::Global;
-use std::marker::Model;
+use std::marker::{Brand, Model};
 
 /// A pool of 2^bits places for cells. Contracts see its number of bits.
 #[derive(Drop)]
 pub struct Pool {
+    table: Table<(), Holder, u64, Good, Global>,
     bits: u32,
 }
 
 impl Model for Pool {
-    ghost use Rattle.std.specs.Prelude.{◌≤◌};
+    ghost use Rattle.std.specs.Prelude.{◌≡◌, ◌≤◌, ◌^◌};
     ghost use Rattle.pair_pool.specs.Views.{PoolView};
 
     ghost Value = { PoolView };
 
-    ghost view = { λ pool. record { bits = pool.bits } };
+    ghost view = { λ pool. record { bits = pool.bits; table = pool.table.shared.table_id } };
 
-    ghost invariant = { λ pool. pool.bits ≤ 26 };
+    ghost invariant = { λ pool. (pool.bits ≤ 26) × (pool.table.shared.table_id.words ≡ 2 ^ pool.bits) };
 }
 
-/// What its holder may do on a pool and what it knows there. A pass owns the table's words.
+/// What its holder may do on a pool and what it knows there.
 #[derive(Drop)]
 pub struct Pass {
-    words: Vec<u64>,
+    seat: Seat<(), Holder>,
 }
 
 impl Model for Pass {
-    ghost use Rattle.pair_pool.specs.Views.{PassView};
-    ghost use Rattle.pair_pool.specs.GoodStates.{IsGood};
-    ghost use Rattle.pair_pool.specs.OnlyPass.{only_pass, only_state};
+    ghost use Rattle.pair_pool.specs.Views.{Holding};
+    ghost use Rattle.pair_pool.specs.Sharing.{holding_of, IsLive};
 
-    ghost Value = { PassView };
+    ghost Value = { Holding };
 
-    ghost view = { λ pass. only_pass pass.words.items };
+    ghost view = { λ pass. holding_of pass.seat };
 
-    ghost invariant = { λ pass. IsGood (only_state pass.words.items) };
+    ghost invariant = { λ pass. IsLive pass.seat };
 }
 
 impl Pool {
-    /// An empty pool of 2^`bits` places, and its first pass, which holds all 65 shares and knows nothing but leaves.
-    ///
-    /// `bits` is from 12 to 26. Takes 8 * 2^`bits` bytes, and refuses only when out of memory.
+    /// The number of bits that the pool was made with.
+    pub fn bits(&self) -> u32
+        ensures bits { result ≡ self.now.bits }
+        ensures places { (pass : Holding) → IsPassOf self.now pass → pass.view.places ≡ 2 ^ result }
+        ensures most { result ≤ 26 }
+    {
+        self.bits
+    }
+
+    /// An empty pool of 2^`bits` places, and its first pass.
     pub fn new(alloc: Global, bits: u32) -> Result<(Pool, Pass), Memory>
         requires least { 12 ≤ bits }
         requires most { bits ≤ 26 }
         ensures bits { IfOk result (λ made. made.0.bits ≡ bits) }
         ensures of_pool { IfOk result (λ made. IsPassOf made.0 made.1) }
-        ensures places { IfOk result (λ made. made.1.places ≡ 2 ^ bits) }
-        ensures shares { IfOk result (λ made. made.1.shares ≡ 65) }
-
-        // Nothing has been seen, so nothing but leaves is known.
-        ensures seen { IfOk result (λ made. made.1.seen ≡ []) }
-        ensures known { IfOk result (λ made. made.1.known ≡ []) }
-        ensures placed { IfOk result (λ made. made.1.placed ≡ []) }
-        ensures leaves { IfOk result (λ made. (r : ℕ) (tree : Tree) → Knows made.1 r tree → r < 2 ^ 30) }
+        ensures places { IfOk result (λ made. made.1.view.places ≡ 2 ^ bits) }
+        ensures shares { IfOk result (λ made. made.1.view.shares ≡ 65) }
+        ensures steps { IfOk result (λ made. made.1.steps ≡ 0) }
+        ensures seen { IfOk result (λ made. made.1.view.seen ≡ []) }
+        ensures known { IfOk result (λ made. made.1.view.known ≡ []) }
+        ensures placed { IfOk result (λ made. made.1.view.placed ≡ []) }
+        ensures leaves { IfOk result (λ made. (r : ℕ) (tree : Tree) → Knows made.1.view r tree → r < 2 ^ 30) }
     {
         let words = new_words(alloc, bits)?;
-        Ok((Pool { bits }, Pass { words }))
-    }
-
-    /// The number of bits that the pool was made with.
-    pub fn bits(&self) -> u32
-        ensures bits { result ≡ self.now.bits }
-        ensures places { (pass : PassView) → IsPassOf self.now pass → pass.places ≡ 2 ^ result }
-        ensures most { result ≤ 26 }
-    {
-        self.bits
+        let places = places_of(bits);
+        let (table, seat) = Table::of_words(alloc, words.as_slice(), &places)?;
+        Ok((Pool { table, bits }, Pass { seat }))
     }
 
     /// The reference of the cell (`a`, `b`), which the pass knows from then on.
@@ -84,53 +86,95 @@ impl Pool {
     /// then knows what it knew. Places nothing but that cell, and that only where it was not there. Takes no memory.
     pub fn intern(&self, pass: &mut Pass, a: Ref, b: Ref) -> Result<Ref, PoolFull>
         requires of_pool { IsPassOf self.now pass.old }
-        requires first { IsKnown pass.old a }
-        requires second { IsKnown pass.old b }
-        ensures cell { IfOk result (λ r. HasCell pass.new r a b) }
-        ensures stands { IfOk result (λ r. (s t : Tree) → Knows pass.old a s → Knows pass.old b t → Knows pass.new r (cell s t)) }
-        ensures known { IfOk result (λ r. IsKnown pass.new r) }
+        requires first { IsKnown pass.old.view a }
+        requires second { IsKnown pass.old.view b }
+        ensures cell { IfOk result (λ r. HasCell pass.new.view r a b) }
+        ensures stands { IfOk result (λ r. (s t : Tree) → Knows pass.old.view a s → Knows pass.old.view b t → Knows pass.new.view r (cell s t)) }
+        ensures known { IfOk result (λ r. IsKnown pass.new.view r) }
         ensures is_cell { IfOk result (λ r. 2 ^ 30 ≤ r) }
 
         // What the pass knew, had seen and had placed stays; the new cell alone is added to what it knows and placed.
-        ensures grows { Grows pass.old pass.new }
-        ensures sees { SeesMore pass.old pass.new }
-        ensures knows_more { IfOk result (λ r. AddsAtMost pass.old.known pass.new.known r a b) }
-        ensures places_more { IfOk result (λ r. AddsAtMost pass.old.placed pass.new.placed r a b) }
-        ensures was_there { (r : ℕ) → IsSeen pass.old r a b → pass.new.placed ≡ pass.old.placed }
+        ensures grows { Grows pass.old.view pass.new.view }
+        ensures sees { SeesMore pass.old.view pass.new.view }
+        ensures knows_more { IfOk result (λ r. AddsAtMost pass.old.view.known pass.new.view.known r a b) }
+        ensures places_more { IfOk result (λ r. AddsAtMost pass.old.view.placed pass.new.view.placed r a b) }
+        ensures was_there { (r : ℕ) → IsSeen pass.old.view r a b → pass.new.view.placed ≡ pass.old.view.placed }
 
         // Refused exactly where all places are seen to be occupied by other cells.
-        ensures full { OnErr result (IsFullFor pass.new a b) }
-        ensures not_full { OnOk result (IsFullFor pass.new a b → ⊥) }
-        ensures refused { OnErr result (Grows pass.new pass.old) }
-        ensures refused_known { OnErr result (pass.new.known ≡ pass.old.known) }
-        ensures refused_placed { OnErr result (pass.new.placed ≡ pass.old.placed) }
+        ensures full { OnErr result (IsFullFor pass.new.view a b) }
+        ensures not_full { OnOk result (IsFullFor pass.new.view a b → ⊥) }
+        ensures refused { OnErr result (Grows pass.new.view pass.old.view) }
+        ensures refused_known { OnErr result (pass.new.view.known ≡ pass.old.view.known) }
+        ensures refused_placed { OnErr result (pass.new.view.placed ≡ pass.old.view.placed) }
         ensures of_pool { IsPassOf self.now pass.new }
-        ensures places { pass.new.places ≡ pass.old.places }
-        ensures shares { pass.new.shares ≡ pass.old.shares }
+        ensures places { pass.new.view.places ≡ pass.old.view.places }
+        ensures shares { pass.new.view.shares ≡ pass.old.view.shares }
+        ensures steps { pass.new.steps ≤ pass.old.steps + 2 * pass.old.view.places }
     {
-        let number = insert(&mut pass.words, self.bits, a.number(), b.number())?;
-        Ok(Ref::of_number(number))
+        let words = &self.table.shared;
+        let Some(place) = place_of::<Brand>(
+            words,
+            &mut pass.seat,
+            self.bits,
+            a.number(),
+            b.number(),
+        ) else {
+            return Err(PoolFull);
+        };
+        Ok(Ref::of_number(FIRST_CELL + place))
     }
 
     /// The two parts of a cell that the pass knows. The pass knows them too. Takes no memory.
     pub fn parts(&self, pass: &mut Pass, r: Ref) -> (Ref, Ref)
         requires of_pool { IsPassOf self.now pass.old }
         requires is_cell { 2 ^ 30 ≤ r }
-        requires known { IsKnown pass.old r }
-        ensures cell { HasCell pass.old r result.0 result.1 }
-        ensures first { (s t : Tree) → Knows pass.old r (cell s t) → Knows pass.new result.0 s }
-        ensures second { (s t : Tree) → Knows pass.old r (cell s t) → Knows pass.new result.1 t }
-        ensures first_known { IsKnown pass.new result.0 }
-        ensures second_known { IsKnown pass.new result.1 }
+        requires known { IsKnown pass.old.view r }
+        ensures cell { HasCell pass.old.view r result.0 result.1 }
+        ensures first { (s t : Tree) → Knows pass.old.view r (cell s t) → Knows pass.new.view result.0 s }
+        ensures second { (s t : Tree) → Knows pass.old.view r (cell s t) → Knows pass.new.view result.1 t }
+        ensures first_known { IsKnown pass.new.view result.0 }
+        ensures second_known { IsKnown pass.new.view result.1 }
 
         // No cell is placed, and nothing else is learnt.
-        ensures unchanged { IsUnchanged pass.old pass.new }
-        ensures grows { Grows pass.old pass.new }
-        ensures no_more { Grows pass.new pass.old }
+        ensures unchanged { IsUnchanged pass.old.view pass.new.view }
+        ensures grows { Grows pass.old.view pass.new.view }
+        ensures no_more { Grows pass.new.view pass.old.view }
         ensures of_pool { IsPassOf self.now pass.new }
+        ensures steps { pass.new.steps ≡ pass.old.steps + 1 }
     {
-        let (first, second) = parts_of(&pass.words, r.number());
+        let (first, second) = parts_at(&self.table.shared, &mut pass.seat, r.number());
         (Ref::of_number(first), Ref::of_number(second))
+    }
+
+    /// A second pass, which knows what `pass` knows, with one of its shares.
+    pub fn split(&self, pass: &mut Pass) -> Pass
+        requires of_pool { IsPassOf self.now pass.old }
+        requires shares { 1 < pass.old.view.shares }
+        ensures of_pool { IsPassOf self.now pass.new × IsPassOf self.now result }
+        ensures unchanged { (pass.new.view.known ≡ pass.old.view.known) × (pass.new.view.seen ≡ pass.old.view.seen) ×
+            (pass.new.view.placed ≡ pass.old.view.placed) }
+        ensures shares { pass.new.view.shares ≡ pass.old.view.shares - 1 }
+        ensures steps { pass.new.steps ≡ pass.old.steps + 1 }
+        ensures other { (result.view.known ≡ pass.old.view.known) × (result.view.seen ≡ pass.old.view.seen) × (result.view.placed ≡ []) ×
+            (result.view.shares ≡ 1) × (result.steps ≡ 0) }
+        ensures grows { Grows pass.old.view pass.new.view × Grows pass.old.view result.view }
+    {
+        let seat = split_off(&self.table.shared, &mut pass.seat);
+        Pass { seat }
+    }
+
+    /// All that the other pass knew, had seen and had placed, and its shares, go to `pass`.
+    pub fn join(&self, pass: &mut Pass, other: Pass)
+        requires of_pool { IsPassOf self.now pass.old × IsPassOf self.now other }
+        ensures of_pool { IsPassOf self.now pass.new }
+        ensures lists { (pass.new.view.known ≡ pass.old.view.known ++ other.view.known) ×
+            (pass.new.view.seen ≡ pass.old.view.seen ++ other.view.seen) ×
+            (pass.new.view.placed ≡ pass.old.view.placed ++ other.view.placed) }
+        ensures shares { pass.new.view.shares ≡ pass.old.view.shares + other.view.shares }
+        ensures steps { pass.new.steps ≡ pass.old.steps + other.steps + 2 }
+        ensures grows { Grows pass.old.view pass.new.view × Grows other.view pass.new.view }
+    {
+        join_all::<Brand>(&self.table.shared, &mut pass.seat, other.seat);
     }
 }
 
@@ -138,29 +182,29 @@ impl Pool {
 impl Pass {
     /// Two references that a pass knows are equal exactly where their trees are.
     pub fn one_to_one(&self)
-        ensures { IsOneToOne self.now }
+        ensures { IsOneToOne self.now.view }
     {
-        let _words = &self.words;
+        let _seat = &self.seat;
     }
 
     /// The parts of a known cell are known, and stand for the parts of its tree.
     pub fn parts_of_trees(&self)
-        ensures { HasPartsOfTrees self.now }
+        ensures { HasPartsOfTrees self.now.view }
     {
-        let _words = &self.words;
+        let _seat = &self.seat;
     }
 
     /// What a pass placed it knows, what it knows it has seen, and with all 65 shares it placed all that it has seen.
     pub fn lists_in_order(&self)
-        ensures { HasListsInOrder self.now }
+        ensures { HasListsInOrder self.now.view }
     {
-        let _words = &self.words;
+        let _seat = &self.seat;
     }
 
     /// The tree of a known reference is a function of what the pass knows.
     pub fn trees_within(&self)
-        ensures { HasTreesWithin self.now }
+        ensures { HasTreesWithin self.now.view }
     {
-        let _words = &self.words;
+        let _seat = &self.seat;
     }
 }

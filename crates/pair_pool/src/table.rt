@@ -1,12 +1,17 @@
 //! The words of a pool's table: making them, the probe, and what a word spells.
 
-ghost use Rattle.std.specs.Prelude.{◌≡◌, ◌≢◌, ℕ, ◌+◌, ◌-◌, ◌*◌, ◌%◌, ◌^◌, ◌<◌, ◌≤◌, ◌⊎◌, length, slice_index, slice_set, replicate, IfOk, OnErr};
-ghost use Rattle.pair_pool.specs.Words.{cell_word, probe_start, probe_place, IsCell, IsOther, IsProbed};
-ghost use Rattle.pair_pool.specs.GoodStates.{AreGoodWords, IsReference};
-ghost use Rattle.pair_pool.specs.Writes.{IsProbe, AddsWord, IsFullOfOthers};
+ghost use Rattle.std.specs.Prelude.{◌≡◌, ◌≢◌, ℕ, ◌+◌, ◌-◌, ◌*◌, ◌/◌, ◌%◌, ◌^◌, ◌<◌, ◌≤◌, replicate, IfOk};
+ghost use Rattle.std.specs.Prelude.{[], MatchBool, IfSome, IfNone};
+ghost use Rattle.pair_pool.specs.Views.{IsListed};
+ghost use Rattle.pair_pool.specs.Words.{cell_word, probe_start};
+ghost use Rattle.pair_pool.specs.Holders.{IsListedPart, after_empty, left_half, right_half, both_of};
+ghost use Rattle.pair_pool.specs.Sharing.{IsLive, MayLook, Finds, Passes, Sought, Missed};
 
+use crate::holder::Holder;
+use crate::plays::{Extent, Good, Halve, Look, Place, Probe, Union, Wanted};
 use crate::reference::FIRST_CELL;
-use crate::stops::{Memory, PoolFull};
+use crate::stops::Memory;
+use atomic_table::{Seat, Shared};
 use std::alloc::Global;
 
 /// 2^`bits` empty words.
@@ -17,8 +22,16 @@ pub(crate) fn new_words(alloc: Global, bits: u32) -> Result<Vec<u64>, Memory>
     Ok(vec![in alloc; 0u64; 1 << bits]?)
 }
 
+/// How many places a pool of so many bits has.
+pub(crate) fn places_of(bits: u32) -> u64
+    requires { bits ≤ 26 }
+    ensures value { result ≡ 2 ^ bits }
+{
+    1 << bits
+}
+
 /// Where the probe for a cell starts.
-fn start_of(bits: u32, first: u32, second: u32) -> usize
+pub(crate) fn start_of(bits: u32, first: u32, second: u32) -> usize
     requires bits { bits ≤ 26 }
     requires first { first < 2 ^ 31 }
     requires second { second < 2 ^ 31 }
@@ -27,82 +40,154 @@ fn start_of(bits: u32, first: u32, second: u32) -> usize
     ((first as u64 * 2654435761 + second as u64 * 40503) % (1u64 << bits)) as usize
 }
 
-/// Where the probe for a word stops.
-enum Probe {
-    /// At the word.
-    Here(usize),
-    /// At an empty place, before which the word does not stand.
-    Free(usize),
-    /// Nowhere, since each place has another word.
-    Full,
-}
-
-/// The first place from `start` on, round the table, that has the word `wanted` or is empty.
-fn find(words: &[u64], start: usize, wanted: u64) -> Probe
-    requires start { start < length words.now }
-    requires most { length words.now ≤ 2 ^ 26 }
-    ensures { IsProbe words.now start wanted result }
-{
-    let mut at = start;
-    'probe: for _ in 0..words.len() {
-        let seen = words[at];
-        if seen == wanted {
-            return Probe::Here(at);
-        }
-        if seen == 0 {
-            return Probe::Free(at);
-        }
-        at = if at + 1 == words.len() { 0 } else { at + 1 };
-    }
-    Probe::Full
-}
-
-/// The reference of the cell (`first`, `second`), which is written where it does not stand yet.
-pub(crate) fn insert(
-    words: &mut Vec<u64>,
-    bits: u32,
-    first: u32,
-    second: u32,
-) -> Result<u32, PoolFull>
-    requires table { AreGoodWords words.old.items }
-    requires size { length words.old.items ≡ 2 ^ bits }
-    requires bits { bits ≤ 26 }
-    requires first { IsReference words.old.items first }
-    requires second { IsReference words.old.items second }
-    ensures table { AreGoodWords words.new.items }
-    ensures adds { IfOk result (λ r. AddsWord words.old.items words.new.items r first second) }
-    ensures was_there { (q : ℕ) → IsCell words.old.items q first second → words.new.items ≡ words.old.items }
-    ensures length { length words.new.items ≡ length words.old.items }
-    ensures full { OnErr result (IsFullOfOthers words.old.items (cell_word first second)) }
-    ensures kept { OnErr result (words.new.items ≡ words.old.items) }
-{
-    let wanted = word_of(first, second);
-    match find(words, start_of(bits, first, second), wanted) {
-        Probe::Here(place) => Ok(FIRST_CELL + place as u32),
-        Probe::Free(place) => {
-            words[place] = wanted;
-            Ok(FIRST_CELL + place as u32)
-        }
-        Probe::Full => Err(PoolFull),
-    }
-}
-
 /// The word of the cell (`first`, `second`).
-fn word_of(first: u32, second: u32) -> u64
-    requires { first < 2 ^ 31 }
-    ensures { result ≡ cell_word first second }
+pub(crate) fn word_of(first: u32, second: u32) -> u64
+    requires first { first < 2 ^ 31 }
+    requires second { second < 2 ^ 31 }
+    ensures value { result ≡ cell_word first second }
 {
     (1 << 63) + first as u64 * (1 << 32) + second as u64
 }
 
-/// The two parts of the cell with the reference `number`.
-pub(crate) fn parts_of(words: &[u64], number: u32) -> (u32, u32)
-    requires { (a : ℕ) × (b : ℕ) × IsCell words.now number a b }
-    ensures { IsCell words.now number result.0 result.1 }
+/// Looks at a place for the wanted cell, and places it there where the place is empty. False where another cell is there.
+fn look<W: Wanted>(
+    words: &Shared<(), Holder, u64, Good>,
+    seat: &mut Seat<(), Holder>,
+    at: usize,
+    wanted: u64,
+) -> bool
+    requires table { seat.old.table_id ≡ words.now.table_id }
+    requires inside { at < words.now.table_id.words }
+    requires live { IsLive seat.old }
+    requires may { MayLook W.first W.second at wanted seat.old.me.0 }
+    ensures table { seat.new.table_id ≡ seat.old.table_id }
+    ensures live { IsLive seat.new }
+    ensures look { MatchBool result (Finds W.first W.second at 2 seat.old.me.0 seat.new.me.0) (Passes W.first W.second at 2 seat.old.me.0 seat.new.me.0) }
 {
-    let word = words[(number - FIRST_CELL) as usize];
+    let found = words.load::<Probe<W>>(seat, at);
+    if found == wanted {
+        return true;
+    }
+    if found != 0 {
+        return false;
+    }
+    let found = words.compare_exchange::<Place<W>>(seat, at, 0, wanted);
+    found == 0 || found == wanted
+}
+
+/// The place of the wanted cell, which is placed where it does not stand yet. None where each place has another cell.
+pub(crate) fn seek<W: Wanted>(
+    words: &Shared<(), Holder, u64, Good>,
+    seat: &mut Seat<(), Holder>,
+    places: usize,
+    start: usize,
+    wanted: u64,
+) -> Option<usize>
+    requires table { seat.old.table_id ≡ words.now.table_id }
+    requires places { (places ≡ words.now.table_id.words) × (places ≡ seat.old.me.0.places) }
+    requires live { IsLive seat.old }
+    requires parts { IsListedPart seat.old.me.0.known W.first × IsListedPart seat.old.me.0.known W.second }
+    requires start { start ≡ probe_start places W.first W.second }
+    requires wanted { wanted ≡ cell_word W.first W.second }
+    ensures table { seat.new.table_id ≡ seat.old.table_id }
+    ensures live { IsLive seat.new }
+    ensures found { IfSome result (λ place. (place < places) × Sought W.first W.second place seat.old.me.0 seat.new.me.0) }
+    ensures full { IfNone result (Missed W.first W.second seat.old.me.0 seat.new.me.0) }
+{
+    let mut at = start;
+    'probe: for _ in 0..places {
+        if look::<W>(words, seat, at, wanted) {
+            return Some(at);
+        }
+        at = if at + 1 == places { 0 } else { at + 1 };
+    }
+    None
+}
+
+/// The same for the cell (`first`, `second`), from where its probe starts.
+pub(crate) fn place_of<W: Wanted>(
+    words: &Shared<(), Holder, u64, Good>,
+    seat: &mut Seat<(), Holder>,
+    bits: u32,
+    first: u32,
+    second: u32,
+) -> Option<u32>
+    requires table { seat.old.table_id ≡ words.now.table_id }
+    requires bits { bits ≤ 26 }
+    requires places { (words.now.table_id.words ≡ 2 ^ bits) × (seat.old.me.0.places ≡ 2 ^ bits) }
+    requires live { IsLive seat.old }
+    requires parts { IsListedPart seat.old.me.0.known first × IsListedPart seat.old.me.0.known second }
+    requires fits { (first < 2 ^ 31) × (second < 2 ^ 31) }
+    requires wanted { (W.first ≡ first) × (W.second ≡ second) }
+    ensures table { seat.new.table_id ≡ seat.old.table_id }
+    ensures live { IsLive seat.new }
+    ensures found { IfSome result (λ place. (place < 2 ^ 26) × Sought first second place seat.old.me.0 seat.new.me.0) }
+    ensures full { IfNone result (Missed first second seat.old.me.0 seat.new.me.0) }
+{
+    let start = start_of(bits, first, second);
+    let wanted = word_of(first, second);
+    let place = seek::<W>(words, seat, 1 << bits, start, wanted)?;
+    Some(place as u32)
+}
+
+/// The parts that a word spells.
+fn parts_of(word: u64) -> (u32, u32)
+    requires { (a : ℕ) × (b : ℕ) × (a < 2 ^ 31) × (b < 2 ^ 31) × (word ≡ cell_word a b) }
+    ensures { (result.0 < 2 ^ 31) × (result.1 < 2 ^ 31) × (word ≡ cell_word result.0 result.1) }
+{
     (
         ((word - (1 << 63)) / (1 << 32)) as u32,
         (word % (1 << 32)) as u32,
     )
+}
+
+/// The parts of the cell with the reference `number`, by one load.
+pub(crate) fn parts_at(
+    words: &Shared<(), Holder, u64, Good>,
+    seat: &mut Seat<(), Holder>,
+    number: u32,
+) -> (u32, u32)
+    requires table { (seat.old.table_id ≡ words.now.table_id) × (words.now.table_id.words ≡ seat.old.me.0.places) }
+    requires live { IsLive seat.old }
+    requires known { (a : ℕ) × (b : ℕ) × IsListed seat.old.me.0.known number a b }
+    ensures table { seat.new.table_id ≡ seat.old.table_id }
+    ensures live { IsLive seat.new }
+    ensures view { seat.new.me.0 ≡ after_empty seat.old.me.0 }
+    ensures cell { IsListed seat.old.me.0.known number result.0 result.1 }
+    ensures fits { (result.0 < 2 ^ 31) × (result.1 < 2 ^ 31) }
+{
+    let word = words.load::<Look>(seat, (number - FIRST_CELL) as usize);
+    parts_of(word)
+}
+
+/// A second seat with one share.
+pub(crate) fn split_off(
+    words: &Shared<(), Holder, u64, Good>,
+    seat: &mut Seat<(), Holder>,
+) -> Seat<(), Holder>
+    requires table { (seat.old.table_id ≡ words.now.table_id) × (0 < words.now.table_id.words) }
+    requires live { IsLive seat.old }
+    requires shares { 1 < seat.old.me.0.shares }
+    ensures table { (seat.new.table_id ≡ seat.old.table_id) × (result.table_id ≡ seat.old.table_id) }
+    ensures live { IsLive seat.new × IsLive result }
+    ensures views { (seat.new.me.0 ≡ left_half seat.old.me.0) × (result.me.0 ≡ right_half seat.old.me.0) }
+{
+    words.split_seat::<Halve>(seat)
+}
+
+/// One seat of two. A join tells nothing, so a load follows it, which tells that the joined view is one of a good state.
+pub(crate) fn join_all<W: Extent>(
+    words: &Shared<(), Holder, u64, Good>,
+    seat: &mut Seat<(), Holder>,
+    other: Seat<(), Holder>,
+)
+    requires table { (seat.old.table_id ≡ words.now.table_id) × (other.table_id ≡ words.now.table_id) × (0 < words.now.table_id.words) }
+    requires live { IsLive seat.old × IsLive other }
+    requires places { seat.old.me.0.places ≡ W.places }
+    ensures table { seat.new.table_id ≡ seat.old.table_id }
+    ensures live { IsLive seat.new }
+    ensures view { seat.new.me.0 ≡ after_empty (both_of seat.old.me.0 other.me.0) }
+{
+    words.join_seat::<Union<W>>(seat, other);
+    words.load::<Look>(seat, 0);
 }

@@ -22,9 +22,9 @@ pub(crate) fn application(
 ) -> Result<Ref, PoolFull>
     requires of_pool { IsPassOf pool.now pass.old }
     requires head { head < 2 ^ 30 }
-    requires known { All (IsKnown pass.old) args.now }
-    ensures built { IfOk result (λ r. (ts : List Tree) → KnowsAll pass.old args.now ts → Builds pass.old pass.new r (app_tree head ts)) }
-    ensures full { OnErr result ((ts : List Tree) → KnowsAll pass.old args.now ts → LacksRoom pass.old pass.new (app_tree head ts)) }
+    requires known { All (IsKnown pass.old.view) args.now }
+    ensures built { IfOk result (λ r. (ts : List Tree) → KnowsAll pass.old.view args.now ts → Builds pass.old.view pass.new.view r (app_tree head ts)) }
+    ensures full { OnErr result ((ts : List Tree) → KnowsAll pass.old.view args.now ts → LacksRoom pass.old.view pass.new.view (app_tree head ts)) }
     ensures of_pool { IsPassOf pool.now pass.new }
 {
     let head = Ref::leaf(head);
@@ -46,12 +46,12 @@ pub(crate) fn let_term(
     requires of_pool { IsPassOf pool.now pass.old }
     requires one_each { length vars.now ≡ length values.now }
     requires vars { All (λ k. k < 2 ^ 30) vars.now }
-    requires values { All (IsKnown pass.old) values.now }
-    requires body { IsKnown pass.old body }
-    ensures built { IfOk result (λ r. (ts : List Tree) (u : Tree) → KnowsAll pass.old values.now ts → Knows pass.old body u →
-        Builds pass.old pass.new r (let_term_tree vars.now ts u)) }
-    ensures full { OnErr result ((ts : List Tree) (u : Tree) → KnowsAll pass.old values.now ts → Knows pass.old body u →
-        LacksRoom pass.old pass.new (let_term_tree vars.now ts u)) }
+    requires values { All (IsKnown pass.old.view) values.now }
+    requires body { IsKnown pass.old.view body }
+    ensures built { IfOk result (λ r. (ts : List Tree) (u : Tree) → KnowsAll pass.old.view values.now ts → Knows pass.old.view body u →
+        Builds pass.old.view pass.new.view r (let_term_tree vars.now ts u)) }
+    ensures full { OnErr result ((ts : List Tree) (u : Tree) → KnowsAll pass.old.view values.now ts → Knows pass.old.view body u →
+        LacksRoom pass.old.view pass.new.view (let_term_tree vars.now ts u)) }
     ensures of_pool { IsPassOf pool.now pass.new }
 {
     let list = bindings(pool, pass, vars, values)?;
@@ -64,9 +64,11 @@ fn bindings(pool: &Pool, pass: &mut Pass, vars: &[u32], values: &[Ref]) -> Resul
     requires of_pool { IsPassOf pool.now pass.old }
     requires one_each { length vars.now ≡ length values.now }
     requires vars { All (λ k. k < 2 ^ 30) vars.now }
-    requires values { All (IsKnown pass.old) values.now }
-    ensures built { IfOk result (λ r. (ts : List Tree) → KnowsAll pass.old values.now ts → Builds pass.old pass.new r (list_tree (binding_trees vars.now ts))) }
-    ensures full { OnErr result ((ts : List Tree) → KnowsAll pass.old values.now ts → LacksRoom pass.old pass.new (list_tree (binding_trees vars.now ts))) }
+    requires values { All (IsKnown pass.old.view) values.now }
+    ensures built { IfOk result (λ r. (ts : List Tree) → KnowsAll pass.old.view values.now ts →
+        Builds pass.old.view pass.new.view r (list_tree (binding_trees vars.now ts))) }
+    ensures full { OnErr result ((ts : List Tree) → KnowsAll pass.old.view values.now ts →
+        LacksRoom pass.old.view pass.new.view (list_tree (binding_trees vars.now ts))) }
     ensures of_pool { IsPassOf pool.now pass.new }
 {
     let mut list = Ref::leaf(NIL);
@@ -82,10 +84,12 @@ fn bindings(pool: &Pool, pass: &mut Pass, vars: &[u32], values: &[Ref]) -> Resul
 fn binding(pool: &Pool, pass: &mut Pass, var: u32, value: Ref, rest: Ref) -> Result<Ref, PoolFull>
     requires of_pool { IsPassOf pool.now pass.old }
     requires var { var < 2 ^ 30 }
-    requires value { IsKnown pass.old value }
-    requires rest { IsKnown pass.old rest }
-    ensures built { IfOk result (λ r. (t u : Tree) → Knows pass.old value t → Knows pass.old rest u → Builds pass.old pass.new r (cell (cell (leaf var) t) u)) }
-    ensures full { OnErr result ((t u : Tree) → Knows pass.old value t → Knows pass.old rest u → LacksRoom pass.old pass.new (cell (cell (leaf var) t) u)) }
+    requires value { IsKnown pass.old.view value }
+    requires rest { IsKnown pass.old.view rest }
+    ensures built { IfOk result (λ r. (t u : Tree) → Knows pass.old.view value t → Knows pass.old.view rest u →
+        Builds pass.old.view pass.new.view r (cell (cell (leaf var) t) u)) }
+    ensures full { OnErr result ((t u : Tree) → Knows pass.old.view value t → Knows pass.old.view rest u →
+        LacksRoom pass.old.view pass.new.view (cell (cell (leaf var) t) u)) }
     ensures of_pool { IsPassOf pool.now pass.new }
 {
     let first = pair(pool, pass, Ref::leaf(var), value)?;

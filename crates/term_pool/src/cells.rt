@@ -18,9 +18,10 @@ pub(crate) fn count(
     list: &[Ref],
 ) -> Result<u64, Memory>
     requires of_pool { IsPassOf pool.now pass.old }
-    requires known { All (IsKnown pass.old) list.now }
-    ensures count { IfOk result (λ n. (trees : List Tree) → KnowsAll pass.old list.now trees → CountsCells trees n) }
-    ensures same { pass.new ≡ pass.old }
+    requires known { All (IsKnown pass.old.view) list.now }
+    ensures count { IfOk result (λ n. (trees : List Tree) → KnowsAll pass.old.view list.now trees → CountsCells trees n) }
+    ensures same { pass.new.view ≡ pass.old.view }
+    ensures of_pool { IsPassOf pool.now pass.new }
 {
     pass.one_to_one();
     pass.parts_of_trees();

@@ -89,9 +89,10 @@ fn both(memo: &HashMap<Pair, bool>, first: Pair, second: Pair) -> Visit
 /// The two items of a list that has two.
 fn two_items(pool: &Pool, pass: &mut Pass, list: Ref) -> Option<(Ref, Ref)>
     requires of_pool { IsPassOf pool.now pass.old }
-    requires known { IsKnown pass.old list }
-    ensures items { AreTwoItems pass.old list result }
-    ensures same { pass.new ≡ pass.old }
+    requires known { IsKnown pass.old.view list }
+    ensures items { AreTwoItems pass.old.view list result }
+    ensures same { pass.new.view ≡ pass.old.view }
+    ensures of_pool { IsPassOf pool.now pass.new }
 {
     pass.one_to_one();
     pass.parts_of_trees();
@@ -118,9 +119,10 @@ fn judge_lists(
     other: Ref,
 ) -> Visit
     requires of_pool { IsPassOf pool.now pass.old }
-    requires cells { AreCells pass.old (as_lists one other) }
-    ensures judged { (equal : ℕ) → AreAnswers pass.old equal memo.now → IsJudged pass.old equal memo.now (as_lists one other) result }
-    ensures same { pass.new ≡ pass.old }
+    requires cells { AreCells pass.old.view (as_lists one other) }
+    ensures judged { (equal : ℕ) → AreAnswers pass.old.view equal memo.now → IsJudged pass.old.view equal memo.now (as_lists one other) result }
+    ensures same { pass.new.view ≡ pass.old.view }
+    ensures of_pool { IsPassOf pool.now pass.new }
 {
     pass.one_to_one();
     pass.parts_of_trees();
@@ -138,10 +140,11 @@ fn judge_crossed(
     other: Ref,
 ) -> Visit
     requires of_pool { IsPassOf pool.now pass.old }
-    requires one { IsKnown pass.old one }
-    requires other { IsKnown pass.old other }
-    ensures crossed { (equal : ℕ) → AreAnswers pass.old equal memo.now → IsCrossed pass.old equal memo.now one other result }
-    ensures same { pass.new ≡ pass.old }
+    requires one { IsKnown pass.old.view one }
+    requires other { IsKnown pass.old.view other }
+    ensures crossed { (equal : ℕ) → AreAnswers pass.old.view equal memo.now → IsCrossed pass.old.view equal memo.now one other result }
+    ensures same { pass.new.view ≡ pass.old.view }
+    ensures of_pool { IsPassOf pool.now pass.new }
 {
     pass.one_to_one();
     pass.parts_of_trees();
@@ -165,10 +168,11 @@ fn judge_terms(
 ) -> Visit
     requires of_pool { IsPassOf pool.now pass.old }
     requires equal { equal < 2 ^ 30 }
-    requires cells { AreCells pass.old (as_terms one other) }
-    requires answers { AreAnswers pass.old equal memo.now }
-    ensures judged { IsJudged pass.old equal memo.now (as_terms one other) result }
-    ensures same { pass.new ≡ pass.old }
+    requires cells { AreCells pass.old.view (as_terms one other) }
+    requires answers { AreAnswers pass.old.view equal memo.now }
+    ensures judged { IsJudged pass.old.view equal memo.now (as_terms one other) result }
+    ensures same { pass.new.view ≡ pass.old.view }
+    ensures of_pool { IsPassOf pool.now pass.new }
 {
     pass.one_to_one();
     pass.parts_of_trees();
@@ -207,10 +211,11 @@ fn note(memo: &mut HashMap<Pair, bool>, pair: Pair, same: bool) -> Result<(), Me
 fn judge(pool: &Pool, pass: &mut Pass, equal: u32, memo: &HashMap<Pair, bool>, pair: &Pair) -> Visit
     requires of_pool { IsPassOf pool.now pass.old }
     requires equal { equal < 2 ^ 30 }
-    requires cells { AreCells pass.old pair.now }
-    requires answers { AreAnswers pass.old equal memo.now }
-    ensures judged { IsJudged pass.old equal memo.now pair.now result }
-    ensures same { pass.new ≡ pass.old }
+    requires cells { AreCells pass.old.view pair.now }
+    requires answers { AreAnswers pass.old.view equal memo.now }
+    ensures judged { IsJudged pass.old.view equal memo.now pair.now result }
+    ensures same { pass.new.view ≡ pass.old.view }
+    ensures of_pool { IsPassOf pool.now pass.new }
 {
     match pair.reading {
         Reading::Terms => judge_terms(pool, pass, equal, memo, pair.left, pair.right),
@@ -228,11 +233,12 @@ fn visit_pair(
 ) -> Result<Visit, Memory>
     requires of_pool { IsPassOf pool.now pass.old }
     requires equal { equal < 2 ^ 30 }
-    requires cells { AreCells pass.old pair.now }
-    requires answers { AreAnswers pass.old equal memo.old }
+    requires cells { AreCells pass.old.view pair.now }
+    requires answers { AreAnswers pass.old.view equal memo.old }
     requires new { answer_of memo.old pair.now ≡ None }
-    ensures visit { IfOk result (IsPairVisit pass.old equal memo.old memo.new pair.now) }
-    ensures same { pass.new ≡ pass.old }
+    ensures visit { IfOk result (IsPairVisit pass.old.view equal memo.old memo.new pair.now) }
+    ensures same { pass.new.view ≡ pass.old.view }
+    ensures of_pool { IsPassOf pool.now pass.new }
 {
     match judge(pool, pass, equal, memo, pair) {
         Visit::Part(part) => Ok(Visit::Part(part)),
@@ -256,10 +262,11 @@ pub(crate) fn same(
 ) -> Result<bool, Memory>
     requires of_pool { IsPassOf pool.now pass.old }
     requires equal { equal < 2 ^ 30 }
-    requires one { IsKnown pass.old one }
-    requires other { IsKnown pass.old other }
-    ensures answer { IfOk result (λ b. (s t : Tree) → Knows pass.old one s → Knows pass.old other t → b ≡ same_terms equal s t) }
-    ensures same { pass.new ≡ pass.old }
+    requires one { IsKnown pass.old.view one }
+    requires other { IsKnown pass.old.view other }
+    ensures answer { IfOk result (λ b. (s t : Tree) → Knows pass.old.view one s → Knows pass.old.view other t → b ≡ same_terms equal s t) }
+    ensures same { pass.new.view ≡ pass.old.view }
+    ensures of_pool { IsPassOf pool.now pass.new }
 {
     pass.one_to_one();
     pass.parts_of_trees();

@@ -79,9 +79,10 @@ pub(crate) fn of_reference(
     r: Ref,
 ) -> Result<Heights, Memory>
     requires of_pool { IsPassOf pool.now pass.old }
-    requires known { IsKnown pass.old r }
-    ensures heights { IfOk result (λ h. (t : Tree) → Knows pass.old r t → h ≡ heights_of t) }
-    ensures same { pass.new ≡ pass.old }
+    requires known { IsKnown pass.old.view r }
+    ensures heights { IfOk result (λ h. (t : Tree) → Knows pass.old.view r t → h ≡ heights_of t) }
+    ensures same { pass.new.view ≡ pass.old.view }
+    ensures of_pool { IsPassOf pool.now pass.new }
 {
     pass.one_to_one();
     pass.parts_of_trees();

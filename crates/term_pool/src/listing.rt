@@ -3,7 +3,7 @@
 
 ghost use Rattle.std.specs.Prelude.{◌≡◌, ℕ, ◌<◌, ◌≤◌, ◌^◌, length, [], IfOk, OnOk, MatchOption};
 ghost use Rattle.pair_pool.specs.Trees.{Tree};
-ghost use Rattle.pair_pool.specs.Views.{PassView, IsPassOf, IsKnown, Knows};
+ghost use Rattle.pair_pool.specs.Views.{Holding, PassView, IsPassOf, IsKnown, Knows};
 ghost use Rattle.term_pool.specs.CellCounts.{Has};
 ghost use Rattle.term_pool.specs.Numbering.{IsPlace, IsNumbering};
 ghost use Rattle.term_pool.specs.Listings.{trees_of, Denotes, IsPartAt, IsListing, AddsCells, IsAdded};
@@ -55,7 +55,7 @@ enum At {
 impl Listing {
     /// No cell of a pool.
     pub(crate) fn new(alloc: Global, pool: &Pool) -> Listing
-        ensures listing { (pass : PassView) → IsPassOf pool.now pass → IsListing pass result }
+        ensures listing { (pass : Holding) → IsPassOf pool.now pass → IsListing pass.view result }
         ensures cells { result.cells.items ≡ [] }
     {
         Listing {
@@ -102,12 +102,13 @@ impl Listing {
         r: Ref,
     ) -> Result<Part, Memory>
         requires of_pool { IsPassOf pool.now pass.old }
-        requires known { IsKnown pass.old r }
-        requires listing { IsListing pass.old self.old }
-        ensures listing { OnOk result (IsListing pass.old self.new) }
-        ensures part { IfOk result (λ part. (t : Tree) → Knows pass.old r t → Denotes (trees_of self.new.cells.items) part t) }
-        ensures adds { OnOk result ((t : Tree) → Knows pass.old r t → AddsCells (trees_of self.old.cells.items) (trees_of self.new.cells.items) t) }
-        ensures same { pass.new ≡ pass.old }
+        requires known { IsKnown pass.old.view r }
+        requires listing { IsListing pass.old.view self.old }
+        ensures listing { OnOk result (IsListing pass.old.view self.new) }
+        ensures part { IfOk result (λ part. (t : Tree) → Knows pass.old.view r t → Denotes (trees_of self.new.cells.items) part t) }
+        ensures adds { OnOk result ((t : Tree) → Knows pass.old.view r t → AddsCells (trees_of self.old.cells.items) (trees_of self.new.cells.items) t) }
+        ensures same { pass.new.view ≡ pass.old.view }
+        ensures of_pool { IsPassOf pool.now pass.new }
     {
         pass.one_to_one();
         pass.parts_of_trees();

@@ -16,10 +16,10 @@ pub(crate) const NIL: u32 = 0;
 /// The cell (`first`, `second`).
 pub(crate) fn pair(pool: &Pool, pass: &mut Pass, first: Ref, second: Ref) -> Result<Ref, PoolFull>
     requires of_pool { IsPassOf pool.now pass.old }
-    requires first { IsKnown pass.old first }
-    requires second { IsKnown pass.old second }
-    ensures made { IfOk result (λ r. Interns pass.old pass.new first second r) }
-    ensures refused { OnErr result (Refuses pass.old pass.new first second) }
+    requires first { IsKnown pass.old.view first }
+    requires second { IsKnown pass.old.view second }
+    ensures made { IfOk result (λ r. Interns pass.old.view pass.new.view first second r) }
+    ensures refused { OnErr result (Refuses pass.old.view pass.new.view first second) }
     ensures of_pool { IsPassOf pool.now pass.new }
 {
     pool.intern(pass, first, second)
@@ -28,9 +28,9 @@ pub(crate) fn pair(pool: &Pool, pass: &mut Pass, first: Ref, second: Ref) -> Res
 /// The list of the items, built from its end.
 pub(crate) fn list_of(pool: &Pool, pass: &mut Pass, items: &[Ref]) -> Result<Ref, PoolFull>
     requires of_pool { IsPassOf pool.now pass.old }
-    requires known { All (IsKnown pass.old) items.now }
-    ensures built { IfOk result (λ r. (ts : List Tree) → KnowsAll pass.old items.now ts → Builds pass.old pass.new r (list_tree ts)) }
-    ensures full { OnErr result ((ts : List Tree) → KnowsAll pass.old items.now ts → LacksRoom pass.old pass.new (list_tree ts)) }
+    requires known { All (IsKnown pass.old.view) items.now }
+    ensures built { IfOk result (λ r. (ts : List Tree) → KnowsAll pass.old.view items.now ts → Builds pass.old.view pass.new.view r (list_tree ts)) }
+    ensures full { OnErr result ((ts : List Tree) → KnowsAll pass.old.view items.now ts → LacksRoom pass.old.view pass.new.view (list_tree ts)) }
     ensures of_pool { IsPassOf pool.now pass.new }
 {
     let mut list = Ref::leaf(NIL);
@@ -46,10 +46,11 @@ pub(crate) fn list_of(pool: &Pool, pass: &mut Pass, items: &[Ref]) -> Result<Ref
 #[tactic(auto, using(crate::proofs::Keeping::same_pass))]
 pub(crate) fn parts(pool: &Pool, pass: &mut Pass, r: Ref) -> (Ref, Ref)
     requires of_pool { IsPassOf pool.now pass.old }
-    requires tree { IsKnownCell pass.old r }
-    ensures first { (s t : Tree) → Knows pass.old r (cell s t) → Knows pass.old result.0 s }
-    ensures second { (s t : Tree) → Knows pass.old r (cell s t) → Knows pass.old result.1 t }
-    ensures same { pass.new ≡ pass.old }
+    requires tree { IsKnownCell pass.old.view r }
+    ensures first { (s t : Tree) → Knows pass.old.view r (cell s t) → Knows pass.old.view result.0 s }
+    ensures second { (s t : Tree) → Knows pass.old.view r (cell s t) → Knows pass.old.view result.1 t }
+    ensures same { pass.new.view ≡ pass.old.view }
+    ensures of_pool { IsPassOf pool.now pass.new }
 {
     pass.one_to_one();
     pool.parts(pass, r)
@@ -58,9 +59,10 @@ pub(crate) fn parts(pool: &Pool, pass: &mut Pass, r: Ref) -> (Ref, Ref)
 /// How many items a list has.
 pub(crate) fn length(pool: &Pool, pass: &mut Pass, list: Ref) -> u32
     requires of_pool { IsPassOf pool.now pass.old }
-    requires known { IsKnown pass.old list }
-    ensures length { (t : Tree) → Knows pass.old list t → result ≡ list_length t }
-    ensures same { pass.new ≡ pass.old }
+    requires known { IsKnown pass.old.view list }
+    ensures length { (t : Tree) → Knows pass.old.view list t → result ≡ list_length t }
+    ensures same { pass.new.view ≡ pass.old.view }
+    ensures of_pool { IsPassOf pool.now pass.new }
 {
     pass.one_to_one();
     pass.parts_of_trees();
@@ -77,9 +79,10 @@ pub(crate) fn length(pool: &Pool, pass: &mut Pass, list: Ref) -> u32
 /// The item of a list at place `i`, counted from 0.
 pub(crate) fn item(pool: &Pool, pass: &mut Pass, list: Ref, i: u32) -> Ref
     requires of_pool { IsPassOf pool.now pass.old }
-    requires there { HasItem pass.old list i }
-    ensures item { (t : Tree) → Knows pass.old list t → Knows pass.old result (list_item t i) }
-    ensures same { pass.new ≡ pass.old }
+    requires there { HasItem pass.old.view list i }
+    ensures item { (t : Tree) → Knows pass.old.view list t → Knows pass.old.view result (list_item t i) }
+    ensures same { pass.new.view ≡ pass.old.view }
+    ensures of_pool { IsPassOf pool.now pass.new }
 {
     pass.one_to_one();
     let mut rest = list;
@@ -97,9 +100,10 @@ pub(crate) fn items(
     into: &mut Vec<Ref>,
 ) -> Result<(), Memory>
     requires of_pool { IsPassOf pool.now pass.old }
-    requires known { IsKnown pass.old list }
-    ensures added { OnOk result (AddsItems pass.old list into.old.items into.new.items) }
-    ensures same { pass.new ≡ pass.old }
+    requires known { IsKnown pass.old.view list }
+    ensures added { OnOk result (AddsItems pass.old.view list into.old.items into.new.items) }
+    ensures same { pass.new.view ≡ pass.old.view }
+    ensures of_pool { IsPassOf pool.now pass.new }
 {
     pass.one_to_one();
     pass.parts_of_trees();
@@ -122,9 +126,10 @@ pub(crate) fn pairs(
     into: &mut Vec<Ref>,
 ) -> Result<(), Memory>
     requires of_pool { IsPassOf pool.now pass.old }
-    requires list { IsPairList pass.old list }
-    ensures added { OnOk result (AddsPairs pass.old list leaves.old.items leaves.new.items into.old.items into.new.items) }
-    ensures same { pass.new ≡ pass.old }
+    requires list { IsPairList pass.old.view list }
+    ensures added { OnOk result (AddsPairs pass.old.view list leaves.old.items leaves.new.items into.old.items into.new.items) }
+    ensures same { pass.new.view ≡ pass.old.view }
+    ensures of_pool { IsPassOf pool.now pass.new }
 {
     pass.one_to_one();
     pass.parts_of_trees();

@@ -12,10 +12,11 @@ use pair_pool::{Pass, Pool, Ref};
 fn under_not(pool: &Pool, pass: &mut Pass, not: u32, r: Ref) -> Option<Ref>
     requires of_pool { IsPassOf pool.now pass.old }
     requires leaf { not < 2 ^ 30 }
-    requires known { IsKnown pass.old r }
-    ensures under { IfSome result (IsNotOf pass.old not r) }
-    ensures other { IfNone result ((t : Tree) → Knows pass.old r (not_tree not t) → ⊥) }
-    ensures same { pass.new ≡ pass.old }
+    requires known { IsKnown pass.old.view r }
+    ensures under { IfSome result (IsNotOf pass.old.view not r) }
+    ensures other { IfNone result ((t : Tree) → Knows pass.old.view r (not_tree not t) → ⊥) }
+    ensures same { pass.new.view ≡ pass.old.view }
+    ensures of_pool { IsPassOf pool.now pass.new }
 {
     pass.one_to_one();
     pass.parts_of_trees();
@@ -37,9 +38,10 @@ fn under_not(pool: &Pool, pass: &mut Pass, not: u32, r: Ref) -> Option<Ref>
 pub(crate) fn strip(pool: &Pool, pass: &mut Pass, not: u32, r: Ref) -> (Ref, u32)
     requires of_pool { IsPassOf pool.now pass.old }
     requires leaf { not < 2 ^ 30 }
-    requires known { IsKnown pass.old r }
-    ensures stripped { IsUnderNots pass.old not r result.1 result.0 }
-    ensures same { pass.new ≡ pass.old }
+    requires known { IsKnown pass.old.view r }
+    ensures stripped { IsUnderNots pass.old.view not r result.1 result.0 }
+    ensures same { pass.new.view ≡ pass.old.view }
+    ensures of_pool { IsPassOf pool.now pass.new }
 {
     pass.one_to_one();
     pass.parts_of_trees();

@@ -2,7 +2,7 @@
 
 ghost use Rattle.std.specs.Prelude.{◌≡◌, ◌≢◌, ℕ, ◌+◌, ◌-◌, ◌<◌, ◌≤◌, ◌^◌, nat_eq, length, slice_index, Some, [], IfOk, OnOk, MatchOption};
 ghost use Rattle.std.specs.Map.{update};
-ghost use Rattle.pair_pool.specs.Views.{PassView, IsPassOf};
+ghost use Rattle.pair_pool.specs.Views.{Holding, PassView, IsPassOf};
 ghost use Rattle.term_pool.specs.CellCounts.{Has};
 ghost use Rattle.term_pool.specs.Numbering.{number_or_zero, number_in, HasNumber, HasNumberRoom, IsPlace, IsNumbering, IsFilled, IsNext};
 
@@ -93,7 +93,7 @@ impl Numbering {
     /// No cell of a pool.
     pub(crate) fn new(alloc: Global, pool: &Pool) -> Numbering
         ensures numbering { IsNumbering result }
-        ensures places { (pass : PassView) → IsPassOf pool.now pass → result.places ≡ pass.places }
+        ensures places { (pass : Holding) → IsPassOf pool.now pass → result.places ≡ pass.view.places }
         ensures cells { result.cells.items ≡ [] }
     {
         Numbering {

@@ -59,10 +59,10 @@ fn look(images: &HashMap<u32, Image>, made: &[Image], part: Part) -> Image
 /// The cell of what its parts have become.
 fn join(pool: &Pool, pass: &mut Pass, first: Image, second: Image) -> Result<Image, PoolFull>
     requires of_pool { IsPassOf pool.now pass.old }
-    requires ready { IsKnown pass.old first.term × IsKnown pass.old second.term × (second.highest < 2 ^ 31) }
-    ensures made { IfOk result (λ d. Interns pass.old pass.new first.term second.term d.term) }
+    requires ready { IsKnown pass.old.view first.term × IsKnown pass.old.view second.term × (second.highest < 2 ^ 31) }
+    ensures made { IfOk result (λ d. Interns pass.old.view pass.new.view first.term second.term d.term) }
     ensures is { IfOk result (λ d. d ≡ joined_image d.term first second) }
-    ensures refused { OnErr result (Refuses pass.old pass.new first.term second.term) }
+    ensures refused { OnErr result (Refuses pass.old.view pass.new.view first.term second.term) }
     ensures of_pool { IsPassOf pool.now pass.new }
 {
     let term = pair(pool, pass, first.term, second.term)?;
@@ -83,14 +83,14 @@ pub(crate) fn put(
     r: Ref,
 ) -> Result<Image, TermStop>
     requires of_pool { IsPassOf pool.now pass.old }
-    requires known { IsKnown pass.old r }
-    requires images { HasPieceImages pass.old images.now }
-    ensures image { IfOk result (λ d. (f : ℕ → Piece) (t : Tree) → ArePiecesOfLeaves pass.old images.now f → Knows pass.old r t →
-        IsImageOfPiece pass.new d (put f t)) }
-    ensures placed { (f : ℕ → Piece) → ArePiecesOfLeaves pass.old images.now f → PlacesPiece pass.old pass.new f r }
-    ensures full { IfErr result (λ e. e ≡ TermStop.PoolFull → (f : ℕ → Piece) → ArePiecesOfLeaves pass.old images.now f →
-        LacksRoomForPiece pass.old pass.new f r) }
-    ensures keeps { KeepsPass pass.old pass.new }
+    requires known { IsKnown pass.old.view r }
+    requires images { HasPieceImages pass.old.view images.now }
+    ensures image { IfOk result (λ d. (f : ℕ → Piece) (t : Tree) → ArePiecesOfLeaves pass.old.view images.now f → Knows pass.old.view r t →
+        IsImageOfPiece pass.new.view d (put f t)) }
+    ensures placed { (f : ℕ → Piece) → ArePiecesOfLeaves pass.old.view images.now f → PlacesPiece pass.old.view pass.new.view f r }
+    ensures full { IfErr result (λ e. e ≡ TermStop.PoolFull → (f : ℕ → Piece) → ArePiecesOfLeaves pass.old.view images.now f →
+        LacksRoomForPiece pass.old.view pass.new.view f r) }
+    ensures keeps { KeepsPass pass.old.view pass.new.view }
     ensures of_pool { IsPassOf pool.now pass.new }
 {
     let mut listing = Listing::new(alloc, pool);

@@ -43,9 +43,10 @@ pub(crate) fn shape_of_leaf(symbols: &Symbols, leaf: u32) -> Shape
 /// The shape of the term that is a cell.
 pub(crate) fn shape_of_cell(pool: &Pool, pass: &mut Pass, r: Ref) -> Shape
     requires of_pool { IsPassOf pool.now pass.old }
-    requires tree { IsTermCell pass.old r }
-    ensures shape { (k : ℕ) (t : Tree) → Knows pass.old r (cell (leaf k) t) → result ≡ cell_shape k t }
-    ensures same { pass.new ≡ pass.old }
+    requires tree { IsTermCell pass.old.view r }
+    ensures shape { (k : ℕ) (t : Tree) → Knows pass.old.view r (cell (leaf k) t) → result ≡ cell_shape k t }
+    ensures same { pass.new.view ≡ pass.old.view }
+    ensures of_pool { IsPassOf pool.now pass.new }
 {
     pass.one_to_one();
     pass.parts_of_trees();

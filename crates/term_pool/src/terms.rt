@@ -1,7 +1,7 @@
 //! A pool with one pass on it.
 
-ghost use Rattle.std.specs.Prelude.{◌≡◌, ◌↔◌, ℕ};
-ghost use Rattle.pair_pool.specs.Views.{IsPassOf, IsOneToOne, HasPartsOfTrees, HasListsInOrder};
+ghost use Rattle.std.specs.Prelude.{◌≡◌, ◌↔◌, ◌+◌, ◌-◌, ◌<◌, ◌++◌, [], ℕ};
+ghost use Rattle.pair_pool.specs.Views.{IsPassOf, Grows, IsOneToOne, HasPartsOfTrees, HasListsInOrder};
 ghost use Rattle.sym_table.specs.Table.{Table, IsTable};
 ghost use Rattle.term_model.specs.Terms.{Term};
 ghost use Rattle.term_pool.specs.Decoding.{HasTermsAt};
@@ -31,7 +31,7 @@ impl<'a> Model for Terms<'a> {
 
     ghost Value = { TermsView };
 
-    ghost view = { λ t. record { pool = t.pool.now; pass = t.pass } };
+    ghost view = { λ t. record { pool = t.pool.now; pass = t.pass.view } };
 
     ghost invariant = { λ t. IsPassOf t.pool.now t.pass };
 }
@@ -41,17 +41,44 @@ impl<'a> Terms<'a> {
     pub fn new(pool: &'a Pool, pass: Pass) -> Terms<'a>
         requires { IsPassOf pool.now pass }
         ensures pool { result.pool ≡ pool.now }
-        ensures pass { result.pass ≡ pass }
+        ensures pass { result.pass ≡ pass.view }
     {
         Terms { pool, pass }
     }
 
     /// The pass, with all that it knows.
     pub fn into_pass(self) -> Pass
-        ensures pass { result ≡ self.entry.pass }
+        ensures pass { result.view ≡ self.entry.pass }
         ensures of_pool { IsPassOf self.entry.pool result }
     {
         self.pass
+    }
+
+    /// A second one on the same pool, which knows what this one knows, with one share of this one's pass.
+    pub fn split(&mut self) -> Terms<'a>
+        requires { 1 < self.old.pass.shares }
+        ensures pool { (self.new.pool ≡ self.old.pool) × (result.pool ≡ self.old.pool) }
+        ensures shares { (self.new.pass.shares ≡ self.old.pass.shares - 1) × (result.pass.shares ≡ 1) }
+        ensures lists { (self.new.pass.known ≡ self.old.pass.known) × (self.new.pass.placed ≡ self.old.pass.placed) ×
+            (result.pass.known ≡ self.old.pass.known) × (result.pass.placed ≡ []) }
+        ensures grows { Grows self.old.pass self.new.pass × Grows self.old.pass result.pass }
+    {
+        let pass = self.pool.split(&mut self.pass);
+        Terms {
+            pool: self.pool,
+            pass,
+        }
+    }
+
+    /// All that another one on the same pool knew, with its shares, goes to this one.
+    pub fn join(&mut self, other: Terms<'a>)
+        requires { other.pool ≡ self.old.pool }
+        ensures pool { self.new.pool ≡ self.old.pool }
+        ensures shares { self.new.pass.shares ≡ self.old.pass.shares + other.entry.pass.shares }
+        ensures placed { self.new.pass.placed ≡ self.old.pass.placed ++ other.entry.pass.placed }
+        ensures grows { Grows self.old.pass self.new.pass × Grows other.entry.pass self.new.pass }
+    {
+        self.pool.join(&mut self.pass, other.pass);
     }
 
     /// A law: by one table of symbols, two known references are equal exactly where their terms are. The call does

@@ -36,7 +36,7 @@ impl<'a> Terms<'a> {
         ensures keeps { KeepsTerms self.old self.new }
         ensures unchanged { IsUnchanged self.old.pass self.new.pass }
     {
-        let _leaves = symbols.count();
+        symbols.leaves_differ();
         let equal = symbols.operator(Op::Equal);
         same(alloc, self.pool, &mut self.pass, equal, a, b)
     }

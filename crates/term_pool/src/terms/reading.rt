@@ -25,7 +25,7 @@ impl<'a> Terms<'a> {
         ensures keeps { KeepsTerms self.old self.new }
         ensures unchanged { IsUnchanged self.old.pass self.new.pass }
     {
-        let _leaves = symbols.count();
+        symbols.leaves_differ();
         self.pass.one_to_one();
         self.pass.parts_of_trees();
         if r.is_leaf() {
@@ -103,7 +103,7 @@ impl<'a> Terms<'a> {
         ensures keeps { KeepsTerms self.old self.new }
         ensures unchanged { IsUnchanged self.old.pass self.new.pass }
     {
-        let _leaves = symbols.count();
+        symbols.leaves_differ();
         self.pass.one_to_one();
         self.pass.parts_of_trees();
         let not = symbols.operator(Op::Not);

@@ -6,6 +6,5 @@ use Rattle.bench_parts.proofs.substitution.variable_of.Goals as goal
 pub returns-clause-variable : goal.returns-clause-variable
 returns-clause-variable c =
     let within : c.in_ok-leaf.leaf < length c.variable.new.self.leaves = slice_get_within _ _ _ c.in_ok-leaf.ensures.leaf in
-    let count = c.count-leaves.ensures.count in
-    let few = c.count-leaves.ensures.few in
+    let few = c.leaves_differ.ensures.few in
     is_variable _ _ _ _ c.in_ok-leaf.ensures.leaf (omega arith)

@@ -5,7 +5,7 @@ use Rattle.term_pool.proofs.build.bindings.Given as goal
 
 abbrev pub invariant-bindings : goal.invariant-bindings
 invariant-bindings l =
-    (l.at ≤ length l.vars) × IsPassOf l.pool l.pass × IsBindingsSoFar l.fn.pass l.pass (drop l.at l.vars) (drop l.at l.values) l.list
+    (l.at ≤ length l.vars) × IsPassOf l.pool l.pass × IsBindingsSoFar l.fn.pass.view l.pass.view (drop l.at l.vars) (drop l.at l.values) l.list
 
 abbrev pub decreases-bindings : goal.decreases-bindings
 decreases-bindings l = l.at

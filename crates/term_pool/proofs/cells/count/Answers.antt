@@ -5,7 +5,7 @@ use Rattle.term_pool.proofs.cells.count.Goals as goal
 
 pub references-init : goal.references-init
 references-init c =
-    (refl, count_start _ c.args.list.now _ (c.new-listing.ensures.listing _ c.requires.of_pool) c.new-listing.ensures.cells)
+    (refl, count_start _ c.args.list.now _ (c.new-listing.ensures.listing _ c.requires.of_pool) c.new-listing.ensures.cells, c.requires.of_pool)
 
 pub references-preserved : goal.references-preserved
 references-preserved c = (
@@ -14,6 +14,7 @@ references-preserved c = (
       (rw c.references.invariant.0 at c.in_ok-add.ensures.listing)
       (rw c.references.invariant.0 at c.in_ok-add.ensures.part)
       (rw c.references.invariant.0 at c.in_ok-add.ensures.adds),
+  c.in_ok-add.ensures.of_pool,
 )
 
 pub returns-clause-count : goal.returns-clause-count

@@ -13,6 +13,7 @@ pairs-init c = (
   rw (c.new-way.ensures.items, c.terms-at.ensures)
       (walk_start _ c.args.equal c.new-memo.result c.new-memo.ensures.empty _
       (rw c.in_default.is at (look_first _ c.one_to_one.ensures c.parts_of_trees.ensures c.args.equal c.new-memo.result c.new-memo.ensures.empty _ _ c.requires.one c.requires.other _ _ c.terms-at.ensures c.look.ensures))),
+  c.requires.of_pool,
 )
 
 pub visit_pair-requires-clause-cells : goal.visit_pair-requires-clause-cells
@@ -31,6 +32,7 @@ pairs-preserved-in-Part c =
       c.visit_pair.ensures.same ∙ c.pairs.invariant.0,
       rw (c.in_ok-push-in-Part.ensures.items, visit.0)
           (walk_down _ _ c.pairs.memo _ _ _ _ c.pairs.invariant.1 visit.1 visit.2),
+      c.visit_pair.ensures.of_pool,
     )
 
 pub pairs-preserved : goal.pairs-preserved
@@ -39,6 +41,7 @@ pairs-preserved c =
       c.visit_pair.ensures.same ∙ c.pairs.invariant.0,
       walk_up _ _ c.pairs.memo c.visit_pair.new.memo _ _ _ _ _ (rw c.in-Some-pop.ensures.items at c.pairs.invariant.1)
           visit.0 visit.1,
+      c.visit_pair.ensures.of_pool,
     )
 
 pub returns-in-None-clause-answer : goal.returns-in-None-clause-answer

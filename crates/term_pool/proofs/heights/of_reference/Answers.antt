@@ -19,7 +19,7 @@ pub of_cell-requires : goal.of_cell-requires
 of_cell-requires c =
     let size = c.lists_in_order.ensures.size in
     second_low _ _ (stands_at _ _ _ _ c.in_ok-whole.ensures.listing c.deref-c-items.ensures.value c.cells-test.true) _ c.cells.invariant
-    (2 ^ 30 + c.args.pass.now.places) (omega arith)
+    (2 ^ 30 + c.args.pass.now.view.places) (omega arith)
     (rw c.deref-c-items.ensures.value (listed_low _ c.one_to_one.ensures c.parts_of_trees.ensures _ c.in_ok-whole.ensures.listing)) _
     (c.look-second.ensures _ (c.deref-in-cells.ensures.value ∙ c.cells.invariant))
 

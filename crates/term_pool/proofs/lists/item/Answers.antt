@@ -9,6 +9,7 @@ pub items-preserved : goal.items-preserved
 items-preserved c = (
   c.parts-rest.ensures.same ∙ c.items.invariant.0,
   after_next _ _ _ _ _ _ c.items.invariant.1 c.items-test.true (rw c.items.invariant.0 at c.parts-rest.ensures.second),
+  c.parts-rest.ensures.of_pool,
 )
 
 pub parts-requires-clause-tree : goal.parts-requires-clause-tree

@@ -3,7 +3,7 @@ use Rattle.term_pool.proofs.ListLemmas.{collect_start, collected_cell, collected
 use Rattle.term_pool.proofs.lists.items.Goals as goal
 
 pub items-init : goal.items-init
-items-init c = (refl, collect_start c.args.pass.now c.args.list c.args.into.now.items c.requires.known)
+items-init c = (refl, collect_start c.args.pass.now.view c.args.list c.args.into.now.items c.requires.known, c.requires.of_pool)
 
 pub parts-first-requires-clause-tree : goal.parts-first-requires-clause-tree
 parts-first-requires-clause-tree c =
@@ -23,6 +23,7 @@ items-preserved c =
       collected_next _ _ _ _ _ _ _ _ c.parts_of_trees.ensures above c.items.invariant.1
           (rw c.items.invariant.0 at c.parts-first.ensures.first) (rw c.items.invariant.0 at c.parts-first.ensures.second)
           c.in_ok-push.ensures.items,
+      c.parts-first.ensures.of_pool,
     )
 
 pub returns-clause-added : goal.returns-clause-added

@@ -22,6 +22,7 @@ items-preserved c =
     let above : 2 ^ 30 ≤ c.items.rest = grind arith in (
       c.parts-rest.ensures.same ∙ c.items.invariant.0,
       count_more _ _ _ _ _ c.parts_of_trees.ensures above c.items.invariant.1 (rw c.items.invariant.0 at c.parts-rest.ensures.second),
+      c.parts-rest.ensures.of_pool,
     )
 
 pub returns-clause-length : goal.returns-clause-length

@@ -3,7 +3,7 @@ use Rattle.term_pool.proofs.ListLemmas.{pairs_start, pairs_cell, pair_cell, pair
 use Rattle.term_pool.proofs.lists.pairs.Goals as goal
 
 pub pairs-init : goal.pairs-init
-pairs-init c = (refl, pairs_start c.args.pass.now c.args.list c.args.leaves.now.items c.args.into.now.items c.requires.list)
+pairs-init c = (refl, pairs_start c.args.pass.now.view c.args.list c.args.leaves.now.items c.args.into.now.items c.requires.list, c.requires.of_pool)
 
 pub parts-first-requires-clause-tree : goal.parts-first-requires-clause-tree
 parts-first-requires-clause-tree c =
@@ -32,6 +32,7 @@ pairs-preserved c =
           (rw (c.parts-first.ensures.same, c.pairs.invariant.0) at c.parts-leaf.ensures.first)
           (rw (c.parts-first.ensures.same, c.pairs.invariant.0) at c.parts-leaf.ensures.second) c.number.ensures.number
           c.in_ok-push.ensures.items c.in_ok-push-2.ensures.items,
+      c.parts-leaf.ensures.of_pool,
     )
 
 pub returns-clause-added : goal.returns-clause-added

@@ -16,4 +16,5 @@ pub nots-preserved : goal.nots-preserved
 nots-preserved c = (
   c.under_not.ensures.same ∙ c.nots.invariant.0,
   nots_next _ c.one_to_one.ensures _ _ _ _ _ c.nots.invariant.1 (rw c.nots.invariant.0 at c.in-Some.ensures.under),
+  c.under_not.ensures.of_pool,
 )

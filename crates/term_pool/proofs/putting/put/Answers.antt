@@ -10,7 +10,7 @@ use Rattle.term_pool.proofs.putting.put.Goals as goal
 
 joining :
     (c : After-look-second) →
-    IsJoining c.args.pass.now c.cells.pass c.args.images.now c.args.r c.cells.made.items
+    IsJoining c.args.pass.now.view c.cells.pass.view c.args.images.now c.args.r c.cells.made.items
     (trees_of (take c.cells.c-index c.deref-c-items.result.now)) (cell_at c.deref-c-items.result.now c.cells.c-index)
     c.look-first.result c.look-second.result
 joining c =
@@ -76,5 +76,5 @@ pub returns-clause-image : goal.returns-clause-image
 returns-clause-image c = λ f t are known.
     let all = ap trees_of (take_all _ _ c.cells-test.false ∙ c.deref-c-items.ensures.value) in
     rw (c.in_ok-whole.ensures.part t known).is at
-    (c.look.ensures c.cells.pass f (trees_of c.add.new.self.cells.items) (images_later _ _ c.cells.invariant.keeps c.args.images.now f are)
+    (c.look.ensures c.cells.pass.view f (trees_of c.add.new.self.cells.items) (images_later _ _ c.cells.invariant.keeps c.args.images.now f are)
     (rw (c.deref-2.ensures.value, ← all) (c.cells.invariant.right f are).are))

@@ -8,7 +8,8 @@ use Rattle.term_pool.proofs.putting.put.Given as goal
 
 abbrev pub invariant-cells : goal.invariant-cells
 invariant-cells l = record {
-  keeps : KeepsPass l.fn.pass l.pass;
+  keeps : KeepsPass l.fn.pass.view l.pass.view;
   of_pool : IsPassOf l.pool l.pass;
-  right : (f : ℕ → Piece) → ArePiecesOfLeaves l.fn.pass l.images f → IsPutting l.fn.pass l.pass f l.made.items (trees_of (take l.c-index l.c-items)) l.fn.r;
+  right : (f : ℕ → Piece) → ArePiecesOfLeaves l.fn.pass.view l.images f →
+      IsPutting l.fn.pass.view l.pass.view f l.made.items (trees_of (take l.c-index l.c-items)) l.fn.r;
 }

@@ -4,12 +4,13 @@ use Rattle.term_pool.proofs.ListingWalk.{walk_start, walk_cell, walk_found, walk
 use Rattle.term_pool.proofs.listing.Listing.add.Goals as goal
 
 pub cells-init : goal.cells-init
-cells-init c = (refl, rw c.new-way.ensures.items (walk_start _ _ _ c.requires.known c.requires.listing))
+cells-init c = (refl, rw c.new-way.ensures.items (walk_start _ _ _ c.requires.known c.requires.listing), c.requires.of_pool)
 
 pub cells-preserved-in-Some : goal.cells-preserved-in-Some
 cells-preserved-in-Some c = (
   c.cells.invariant.0,
   walk_found _ c.one_to_one.ensures c.parts_of_trees.ensures _ _ _ _ _ _ (rw c.in-Down.is at c.cells.invariant.1) c.in-Some.ensures,
+  c.cells.invariant.2,
 )
 
 pub parts-first-requires-clause-tree : goal.parts-first-requires-clause-tree
@@ -24,6 +25,7 @@ cells-preserved-in-None c = (
       (walk_down _ c.one_to_one.ensures c.parts_of_trees.ensures _ _ _ _ _ _ _ (rw c.in-Down.is at c.cells.invariant.1)
       c.in-None.ensures.0 c.in-None.ensures.1
       (rw c.cells.invariant.0 at c.parts-first.ensures.first) (rw c.cells.invariant.0 at c.parts-first.ensures.second)),
+  c.parts-first.ensures.of_pool,
 )
 
 pub cells-smaller-in-None : goal.cells-smaller-in-None
@@ -39,6 +41,7 @@ cells-preserved-in-First c = (
   rw c.in_ok-push-in-First.ensures.items
       (walk_over _ c.one_to_one.ensures c.parts_of_trees.ensures _ _ _ _ _ _ _
       (rw (c.in-Up.is, c.in-Some-pop.ensures.items, c.in-First.is) at c.cells.invariant.1)),
+  c.cells.invariant.2,
 )
 
 pub push-requires-in-Second-clause-each : goal.push-requires-in-Second-clause-each
@@ -59,4 +62,5 @@ cells-preserved c = (
   c.cells.invariant.0,
   walk_up _ c.one_to_one.ensures c.parts_of_trees.ensures _ c.cells.self _ _ c.push-in-Second.new.self _ _ _ _
       (rw (c.in-Up.is, c.in-Some-pop.ensures.items, c.in-Second.is) at c.cells.invariant.1) c.in_ok-push-in-Second.ensures,
+  c.cells.invariant.2,
 )

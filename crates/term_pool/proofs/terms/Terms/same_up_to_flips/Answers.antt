@@ -7,4 +7,4 @@ returns-clause-same c =
     rw (← c.self.view_is)
     (IfOk-weaker c.same.result _ _
     (λ b answer t u.
-    flips_are _ _ _ _ _ b c.count-leaves.ensures.table c.operator-equal.ensures.leaf answer t u) c.same.ensures.answer)
+    flips_are _ _ _ _ _ b c.leaves_differ.ensures.table c.operator-equal.ensures.leaf answer t u) c.same.ensures.answer)

@@ -6,5 +6,5 @@ pub returns-clause-stripped : goal.returns-clause-stripped
 returns-clause-stripped c =
     rw (← c.self.view_is)
     (λ t refers.
-    strips _ _ _ _ _ _ _ _ c.count-leaves.ensures.table c.operator-not.ensures.leaf c.one_to_one.ensures
+    strips _ _ _ _ _ _ _ _ c.leaves_differ.ensures.table c.operator-not.ensures.leaf c.one_to_one.ensures
     c.strip-bare.ensures.same c.strip-bare.ensures.stripped (eqb-true _ _, eq-eqb _ _) t refers)

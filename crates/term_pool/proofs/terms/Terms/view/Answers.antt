@@ -17,10 +17,10 @@ returns-then-is_leaf-clause-shape c =
 pub shape_of_cell-requires-clause-tree : goal.shape_of_cell-requires-clause-tree
 shape_of_cell-requires-clause-tree c =
     let above : 2 ^ 30 ≤ c.args.r = grind arith in
-    term_is_cell _ _ _ c.count-leaves.ensures.table c.parts_of_trees.ensures above (rw (← c.self.view_is) at c.requires)
+    term_is_cell _ _ _ c.leaves_differ.ensures.table c.parts_of_trees.ensures above (rw (← c.self.view_is) at c.requires)
 
 pub returns-clause-shape : goal.returns-clause-shape
 returns-clause-shape c =
     let above : 2 ^ 30 ≤ c.args.r = grind arith in
     rw (← c.self.view_is)
-    (λ t. term_cell_shape _ _ _ _ c.count-leaves.ensures.table c.parts_of_trees.ensures above c.shape_of_cell.ensures.shape t)
+    (λ t. term_cell_shape _ _ _ _ c.leaves_differ.ensures.table c.parts_of_trees.ensures above c.shape_of_cell.ensures.shape t)
