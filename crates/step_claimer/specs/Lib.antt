@@ -1,0 +1,4 @@
+pub mod Claims
+pub mod Drawers
+pub mod Events
+pub mod Rule
