@@ -19,7 +19,9 @@ use Rattle.text_items.specs.Stepping.{HasTaken, HasSecond, has_two, head_word}
 use Rattle.text_items.proofs.ItemsAtLemmas.{item_is, items_are, no_items_are, ends_inside, end_by_all}
 use Rattle.term_model.proofs.Basics.{choice, or_none}
 use Rattle.problem_text.specs.Commands.{refused}
-use Rattle.alethe_text.specs.Commands.{Command as Shape, step, shaped, step_keywords, clause_fault, behind_first, attributes_of, word_fault, each_argument_fault, arguments_fault, argument_items, step_shape, command_named, headed_command, command_of}
+use Rattle.alethe_text.specs.Commands.{Command as Shape, step, step_keywords, clause_fault, attributes_of, word_fault, each_argument_fault, arguments_fault, argument_items, step_shape, command_named, headed_command, command_of}
+use Rattle.problem_text.specs.Commands.{shaped}
+use Rattle.text_items.specs.Keywords.{behind_first}
 use Rattle.alethe_commands.specs.declared.commands.CommandWord.{CommandWord}
 use Rattle.alethe_commands.specs.CommandNodes.{IsStepThere}
 use Rattle.alethe_commands.specs.CommandShapes.{without_fault, word_named, command_so, HasLiterals, HasArguments}

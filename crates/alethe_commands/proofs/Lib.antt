@@ -1,3 +1,4 @@
+mod ItemsApart
 mod ShapesByNodes
 mod AttributesByNodes
 mod UsualAttributes

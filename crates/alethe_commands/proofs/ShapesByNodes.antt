@@ -9,7 +9,8 @@ use Rattle.text_items.specs.Keywords.{is_spelled}
 use Rattle.text_items.specs.Spelling.{is_list_item}
 use Rattle.text_items.specs.Stepping.{HasSecond, IsItemNode}
 use Rattle.text_items.proofs.ItemsAtLemmas.{items_are, no_items_are, first_and_others, end_by_rest}
-use Rattle.alethe_text.specs.Commands.{is_symbol_of, clause_fault, behind_first, assigned_fault, argument_fault, list_lacking}
+use Rattle.alethe_text.specs.Commands.{is_symbol_of, clause_fault, assigned_fault, argument_fault, list_lacking}
+use Rattle.text_items.specs.Keywords.{behind_first}
 use Rattle.alethe_commands.specs.CommandShapes.{HasLiterals}
 
 -- the clause and the argument by what stands in them

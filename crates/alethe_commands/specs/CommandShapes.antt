@@ -8,7 +8,8 @@ use Rattle.text_items.specs.ItemsAt.{ItemsView, end_at, item_at, items_at}
 use Rattle.text_items.specs.Keywords.{is_it}
 use Rattle.text_items.specs.Stepping.{EndBy}
 use Rattle.problem_text.specs.Commands.{refused}
-use Rattle.alethe_text.specs.Commands.{Command as Shape, behind_first, attributes_of, argument_items, assume_shape, step_shape, anchor_shape}
+use Rattle.alethe_text.specs.Commands.{Command as Shape, attributes_of, argument_items, assume_shape, step_shape, anchor_shape}
+use Rattle.text_items.specs.Keywords.{behind_first}
 use Rattle.alethe_commands.specs.declared.commands.CommandWord.{CommandWord}
 use Rattle.alethe_commands.specs.declared.attributes.AttributeWord.{AttributeWord}
 use Rattle.alethe_commands.specs.declared.attributes.StepAttribute.{StepAttribute}

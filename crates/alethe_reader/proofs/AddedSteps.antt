@@ -168,7 +168,7 @@ module _ (s : Table) (v : TermsView) (settings : ProofSettings) (d : Session) (n
 
   -- what is written behind it, where it stands in the scope
   written_here : (e : Session) → is_open_id p.scope.nesting of.id ≡ false → e.builder ≡ take_step d.builder step → e.ids.used ≡ d.ids.used ++ in_use step.id role.Step (next_index d.builder) ∷ [] → e.anchors ≡ d.anchors → e.bound ≡ d.bound
-      → IsWritten (both s v) e (steps.with_step of p)
+      → IsWritten (both s v) e (steps.step_taken of p)
   written_here e not_open built used anchors bound =
       subst (IsWritten (both s v) e) (sym scoped) (record {
         nesting = rw (added) h.written.nesting;
@@ -183,7 +183,7 @@ module _ (s : Table) (v : TermsView) (settings : ProofSettings) (d : Session) (n
       added : e.builder ≡ add_step d.builder step
       added = built ∙ ap (λ b. if b then close_scope d.builder.nesting d.builder.items step else add_step d.builder step) (opens false not_open)
 
-      scoped : steps.with_step of p ≡ record p { scope = add_step p.scope of }
+      scoped : steps.step_taken of p ≡ record p { scope = add_step p.scope of }
       scoped = ap (λ b. record p { scope = if b then close_scope p.scope.nesting p.scope.items of else add_step p.scope of; anchors = if b then take (length p.anchors - 1) p.anchors else p.anchors }) not_open
 
       joined : {us ws : List Used} {id id2 : List ℕ} → us ≡ ws → id ≡ id2 → us ++ in_use id role.Step (next_index d.builder) ∷ [] ≡ ws ++ in_use id2 role.Step (next_index d.builder) ∷ []
@@ -194,14 +194,14 @@ module _ (s : Table) (v : TermsView) (settings : ProofSettings) (d : Session) (n
       → e.ids.used ≡ take a.ids d.ids.used ++ in_use step.id role.Step (next_index d.builder) ∷ []
       → ((front : List OpenAnchor) (last : OpenAnchor) → d.anchors.items ≡ front ++ last ∷ [] → e.anchors.items ≡ front)
       → ((around : Nesting Var Term) (before : ProofItems Var Term) (other : Anchor Var Term) → a.variables ≡ length other.bindings → AreBound (both s v) d.bound (inside around before other) → AreBound (both s v) e.bound around)
-      → IsWritten (both s v) e (steps.with_step of p)
+      → IsWritten (both s v) e (steps.step_taken of p)
   written_around e a opened anchor_of built used popped left =
       subst (IsWritten (both s v) e) (sym scoped) (go d.builder.nesting p.scope.nesting h.written.nesting refl refl anchor_of opened)
     where
       closed : e.builder ≡ close_scope d.builder.nesting d.builder.items step
       closed = built ∙ ap (λ b. if b then close_scope d.builder.nesting d.builder.items step else add_step d.builder step) (opens true opened)
 
-      scoped : steps.with_step of p ≡ record p { scope = close_scope p.scope.nesting p.scope.items of; anchors = take (length p.anchors - 1) p.anchors }
+      scoped : steps.step_taken of p ≡ record p { scope = close_scope p.scope.nesting p.scope.items of; anchors = take (length p.anchors - 1) p.anchors }
       scoped = ap (λ b. record p { scope = if b then close_scope p.scope.nesting p.scope.items of else add_step p.scope of; anchors = if b then take (length p.anchors - 1) p.anchors else p.anchors }) opened
 
       last_left : (front : List OpenAnchor) (last : OpenAnchor) → d.anchors.items ≡ front ++ last ∷ [] → map (λ (a : OpenAnchor). a.place) front ≡ take (length p.anchors - 1) p.anchors
@@ -240,7 +240,7 @@ module _ (s : Table) (v : TermsView) (settings : ProofSettings) (d : Session) (n
           joined x y z w = cc
 
   -- where the reader stands then
-  place_after : (o : Option OpenAnchor) → IsClosing d.ids.used p of.id h.here o → h.here.nesting ≡ (steps.with_step of p).scope.nesting
+  place_after : (o : Option OpenAnchor) → IsClosing d.ids.used p of.id h.here o → h.here.nesting ≡ (steps.step_taken of p).scope.nesting
   place_after None c = ap (λ (here : Standing). here.nesting) c.1 ∙ ap (λ b. (if b then close_scope p.scope.nesting p.scope.items of else add_step p.scope of).nesting) (sym c.0)
   place_after (Some a) c = ap (λ (here : Standing). here.nesting) c.1 ∙ (go p.scope.nesting ∙ ap (λ b. (if b then close_scope p.scope.nesting p.scope.items of else add_step p.scope of).nesting) (sym c.0))
     where
@@ -248,16 +248,16 @@ module _ (s : Table) (v : TermsView) (settings : ProofSettings) (d : Session) (n
       go outermost = refl
       go (inside around before anchor) = refl
 
-  is_session : (e : Session) → e.reader ≡ d.reader → IsWritten (both s v) e (steps.with_step of p) → IsProofSession (both s v) settings e (steps.with_step of p)
+  is_session : (e : Session) → e.reader ≡ d.reader → IsWritten (both s v) e (steps.step_taken of p) → IsProofSession (both s v) settings e (steps.step_taken of p)
   is_session e same written = record {
-    reader = subst (λ r. IsReaderOf s v r p.script (place_in settings (steps.with_step of p).scope.nesting)) (sym same)
+    reader = subst (λ r. IsReaderOf s v r p.script (place_in settings (steps.step_taken of p).scope.nesting)) (sym same)
         (subst (λ m. IsReaderOf s v d.reader p.script (place_in settings m)) (place_after n.closes h.closes) h.reader);
     written = written;
   }
 
   pub added_here : (e : Session) → n.closes ≡ None → e.reader ≡ d.reader → e.builder ≡ take_step d.builder step
       → e.ids.used ≡ d.ids.used ++ in_use step.id role.Step (next_index d.builder) ∷ [] → e.anchors ≡ d.anchors → e.bound ≡ d.bound
-      → IsProofSession (both s v) settings e (steps.with_step of p)
+      → IsProofSession (both s v) settings e (steps.step_taken of p)
   added_here e none same built used anchors bound = is_session e same
       (written_here e (subst (IsClosing d.ids.used p of.id h.here) none h.closes).0 built used anchors bound)
 
@@ -265,7 +265,7 @@ module _ (s : Table) (v : TermsView) (settings : ProofSettings) (d : Session) (n
       → e.ids.used ≡ take a.ids d.ids.used ++ in_use step.id role.Step (next_index d.builder) ∷ []
       → ((front : List OpenAnchor) (last : OpenAnchor) → d.anchors.items ≡ front ++ last ∷ [] → e.anchors.items ≡ front)
       → ((around : Nesting Var Term) (before : ProofItems Var Term) (other : Anchor Var Term) → a.variables ≡ length other.bindings → AreBound (both s v) d.bound (inside around before other) → AreBound (both s v) e.bound around)
-      → IsProofSession (both s v) settings e (steps.with_step of p)
+      → IsProofSession (both s v) settings e (steps.step_taken of p)
   added_around e a some same built used popped left =
       let closes = subst (IsClosing d.ids.used p of.id h.here) some h.closes in
       is_session e same (written_around e a closes.0 closes.2 built used popped left)

@@ -6,7 +6,8 @@ use Rattle.text_items.specs.ItemShapes.{Name, items_of}
 use Rattle.text_items.specs.ItemsAt.{ItemsView, item_at, items_at}
 use Rattle.text_items.specs.Stepping.{IsItemNode, HasSecond, has_two}
 use Rattle.text_items.proofs.ItemsAtLemmas.{first_and_others, no_items_are}
-use Rattle.alethe_text.specs.Commands.{behind_first, assigned, assigned_to, argument_of}
+use Rattle.alethe_text.specs.Commands.{assigned, assigned_to, argument_of}
+use Rattle.text_items.specs.Keywords.{behind_first}
 
 -- Behind its head stand a variable and this term.
 record HasTerm (items : Items) (value : Item) : Type 0 where

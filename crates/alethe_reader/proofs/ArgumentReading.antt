@@ -1,5 +1,5 @@
 -- What an argument of an anchor comes to.
-use Rattle.std.proofs.Common.{◌≡◌, ◌≤◌, ◌+◌, ◌-◌, ℕ, Bool, true, false, not, ◌||◌, List, [], ◌∷◌, ◌++◌, map, length, take, Option, Result, Ok, Err, refl, sym, ap, subst, ◌∙◌, arith}
+use Rattle.std.proofs.Common.{◌≡◌, ◌≤◌, ◌+◌, ◌-◌, ℕ, Bool, true, false, not, ◌||◌, List, [], ◌∷◌, ◌++◌, map, length, take, Option, Some, Result, Ok, Err, refl, sym, ap, subst, ◌∙◌, arith}
 use Rattle.std.specs.Prelude.{⊤}
 use Rattle.std.specs.List.{AllZip}
 use Rattle.std.proofs.lemmas.List.{append_assoc, map-append, length-append, length-map}
@@ -19,13 +19,14 @@ use Rattle.term_pool.specs.Bindings.{IsBindingOf}
 use Rattle.term_pool.proofs.Keeping.{keeps-refl, terms-refl}
 use Rattle.term_pool.proofs.PlacedCells.{places_none, places_then}
 use Rattle.text_items.specs.ItemShapes.{Name}
+use Rattle.problem_text.specs.Limits.{Settings, most_height}
 use Rattle.problem_text.specs.Names.{Place}
 use Rattle.problem_text.specs.Outcomes.{Outcome, and_then}
 use Rattle.problem_text.specs.Scripts.{Script, with_let_name}
 use Rattle.problem_text.specs.Terms.{read_term}
 use Rattle.problem_text.specs.TypedTerms.{Typed}
 use Rattle.problem_text.specs.Words.{is_among, is_built_in}
-use Rattle.term_expansion.specs.SymbolsAndTerms.{both}
+use Rattle.term_expansion.specs.SymbolsAndTerms.{SymbolsAndTerms, both}
 use Rattle.term_expansion.specs.Values.{IsValue}
 use Rattle.term_expansion.specs.declared.values.Value.{Value}
 use Rattle.term_names.specs.Standing.{AddsNoSymbols}
@@ -99,7 +100,7 @@ module _ (settings : ProofSettings) (earlier : List (List ℕ)) (place : ℕ) (x
   -- by the name and by the sort
   abbrev argument_so : Bool → Bool → Result (Option Sort) Refusal → Outcome ProofState (Var × Term)
   argument_so built bound sort =
-      (demand (not built) Repeated x.place >>= λ _. demand (not bound) BadAnchor x.place >>= λ _. script_changed (with_let_name x.name) >>= λ _. given sort >>= λ wanted. term_in settings p.scope.nesting i >>= image_read place x.name wanted p.scope.nesting) p
+      (demand (not built) Repeated x.place >>= λ _. demand (not bound) BadAnchor x.place >>= λ _. script_changed (with_let_name x.name) >>= λ _. given sort >>= λ wanted. term_in settings p.scope.nesting i >>= image_read settings.limit place x.name wanted p.scope.nesting) p
 
   abbrev is_bound_here : Bool
   is_bound_here = is_among earlier x.name || is_among (bound_names p.scope.nesting) x.name
@@ -126,13 +127,13 @@ module _ (settings : ProofSettings) (earlier : List (List ℕ)) (place : ℕ) (x
     sort_refused refusal e = ap (λ (q : Outcome ProofState (Var × Term)). q.result) (so_far false false plain free ∙ ap (argument_so false false) e)
 
     module _ (wanted : Option Sort) (given_sort : sort_given p.script.sorts o ≡ Ok wanted) where
-      to_term : argument_read settings earlier (assigned place x o i) p ≡ and_then (term_in settings p.scope.nesting i named_state) (image_read place x.name wanted p.scope.nesting)
+      to_term : argument_read settings earlier (assigned place x o i) p ≡ and_then (term_in settings p.scope.nesting i named_state) (image_read settings.limit place x.name wanted p.scope.nesting)
       unfolding ◌>>=◌
       to_term = so_far false false plain free ∙ ap (argument_so false false) given_sort
 
       no_term : {T U : Type 0} {s : Table} {v w : TermsView} {M : T → Typed → ProofState → Type 0} (N : U → Var × Term → ProofState → Type 0) (fault : ReadFault) → AnswersAs v (both s w) M (term_in settings p.scope.nesting i named_state) (Err fault)
           → AnswersAs v (both s w) N (argument_read settings earlier (assigned place x o i) p) (Err fault)
-      no_term N fault h = same_outcome to_term (stops (image_read place x.name wanted p.scope.nesting) (keeps_image place x.name wanted p.scope.nesting) h)
+      no_term N fault h = same_outcome to_term (stops (image_read settings.limit place x.name wanted p.scope.nesting) (keeps_image settings.limit place x.name wanted p.scope.nesting) h)
 
       module _ (s : Table) (v mid w : TermsView) (r : ReaderView) (c : Value) (h : AnswersAs v (both s mid) (IsReadValue (both s mid) settings p.scope.nesting r named_state) (term_in settings p.scope.nesting i named_state) (Ok c)) (keeps : KeepsTerms mid w) where
         read_after : (t : Typed) (q : ProofState) → IsReadValue (both s mid) settings p.scope.nesting r named_state c t q → (image : ℕ) (b : Var × Term) (z : ProofState) → IsImageRead (both s w) x.name p.scope.nesting t q image b z
@@ -147,11 +148,11 @@ module _ (settings : ProofSettings) (earlier : List (List ℕ)) (place : ℕ) (x
         }
 
         variable_read : (result : Result ℕ ReadFault)
-            → ((t : Typed) (q : ProofState) → IsReadValue (both s mid) settings p.scope.nesting r named_state c t q → AnswersAs mid (both s w) (IsImageRead (both s w) x.name p.scope.nesting t q) (image_read place x.name wanted p.scope.nesting t q) result)
+            → ((t : Typed) (q : ProofState) → IsReadValue (both s mid) settings p.scope.nesting r named_state c t q → AnswersAs mid (both s w) (IsImageRead (both s w) x.name p.scope.nesting t q) (image_read settings.limit place x.name wanted p.scope.nesting t q) result)
             → AnswersAs v (both s w) (IsVariableRead s w settings r x.name c p) (argument_read settings earlier (assigned place x o i) p) result
         variable_read result k =
             same_outcome to_term
-            (goes (image_read place x.name wanted p.scope.nesting) (keeps_image place x.name wanted p.scope.nesting) h (adds_none s).keeps keeps
+            (goes (image_read settings.limit place x.name wanted p.scope.nesting) (keeps_image settings.limit place x.name wanted p.scope.nesting) h (adds_none s).keeps keeps
             (λ t q m. answers_more (IsVariableRead s w settings r x.name c p) (λ image b z g. read_after t q m image b z g) (k t q m)))
 
 -- The argument's variable joins those that were read.
@@ -232,6 +233,11 @@ module _ (s : Table) (v : TermsView) (settings : ProofSettings) (r : ReaderView)
 abbrev pub ReadsItem : Table → TermsView → ReaderView → Item → Table → TermsView → ReaderView → Result Value ReadFault → Type 0
 ReadsItem s v r i z w t result = (sc : Script) (at : Place) → IsReaderOf s v r sc at → ReadsValue z v w t at (read_term i at sc) result
 
+-- a reader reads by the limit
+limit_here : {w : SymbolsAndTerms} {settings : ProofSettings} {r : ReaderView} {d : BoundVariables} {earlier : List (List ℕ)}
+    {bs : List (Var × Term)} {p : ProofState} → IsOpening w settings r d earlier bs p → settings.limit ≡ Some most_height
+limit_here h = ap (λ (x : Settings). x.limit) h.reader.idle.settings
+
 -- A variable whose name was judged, and whose sort is given, is read by its term and its image.
 module _ {s : Table} {v : TermsView} {settings : ProofSettings} {r : ReaderView} {d : BoundVariables} {earlier : List (List ℕ)} {bs : List (Var × Term)} {p : ProofState} (opening : IsOpening (both s v) settings r d earlier bs p) (place : ℕ) {x : Name} (o : Option Item) (i : Item) (n : Named) (named : is_named n ≡ x) where
   pub name_bad : (refusal : Refusal) → IsNameJudged (is_built_in n.name.now) (is_among (map (λ u. u.id) d.names.used) n.name.now) n.place (Err refusal) → (argument_read settings earlier (assigned place x o i) p).result ≡ Err refusal
@@ -257,8 +263,10 @@ module _ {s : Table} {v : TermsView} {settings : ProofSettings} {r : ReaderView}
       pub image_answers : {y : TermsView} {c : Value} {result : Result ℕ ReadFault} → ReadsItem s v r i z w t (Ok c) → AddsNoSymbols s z → KeepsTerms v w → KeepsTerms w y
           → ((name : List ℕ) (t : Typed) (nesting : Nesting Var Term) (more : List (List ℕ)) (q : ProofState) → IsValue (both z w) c t → BindApart nesting
           → AllZip (IsBindingOf z w) (take (length d.images.items - length d.opened.items) d.images.items) (images_in nesting) → map (λ u. u.id) d.names.used ≡ bound_names nesting ++ more
-          → AnswersAs w (both z y) (IsImageRead (both z y) name nesting t q) (image_read place name wanted nesting t q) result)
+          → AnswersAs w (both z y) (IsImageRead (both z y) name nesting t q) (image_read (Some most_height) place name wanted nesting t q) result)
           → AnswersAs v (both z y) (IsVariableRead z y settings t x.name c p) (argument_read settings earlier (assigned place x o i) p) result
       image_answers {y} {c} {result} read table terms more image =
           variable_read settings earlier place x o i p free.0 free.1 wanted (given_here s v settings r d earlier bs p opening o (Ok wanted) sort) z v w y t c (term_read (Ok c) read) more result
-          (λ b q k. image x.name b p.scope.nesting _ q k.is opening.apart (bindings_stay s z v w table.keeps terms _ _ (outer_images s v settings r d earlier bs p opening)) opening.names)
+          (λ b q k. subst (λ limit. AnswersAs w (both z y) (IsImageRead (both z y) x.name p.scope.nesting b q) (image_read limit place x.name wanted p.scope.nesting b q) result)
+          (sym (limit_here opening))
+          (image x.name b p.scope.nesting _ q k.is opening.apart (bindings_stay s z v w table.keeps terms _ _ (outer_images s v settings r d earlier bs p opening)) opening.names))

@@ -21,7 +21,7 @@ use Rattle.term_pool.specs.Bindings.{IsBindingOf}
 use Rattle.contexts.specs.PutIn.{StandForReplacement, AreReplacementBy}
 use Rattle.term_pool.specs.Placing.{PlacesTerm, LacksRoomFor, PlacesCellsOf}
 use Rattle.term_pool.proofs.PlacedCells.{places_none, places_then, places_of_term, lacks_for_term}
-use Rattle.problem_text.specs.Limits.{most_height}
+use Rattle.problem_text.specs.Limits.{most_height, is_low}
 use Rattle.problem_text.specs.Outcomes.{Outcome, done}
 use Rattle.problem_text.specs.Scripts.{with_term}
 use Rattle.problem_text.specs.TypedTerms.{Typed}
@@ -87,8 +87,8 @@ image_high h t e high = lt-leb (height t) most_height (omega (arith, e, high))
 pub image_low : (h : ℕ) (t : Term) → h ≡ height t → h ≤ most_height → nat_le (height t) most_height ≡ true
 image_low h t e low = le-leb (height t) most_height (omega (arith, e, low))
 
-module _ (place : ℕ) (name : List ℕ) (wanted : Option Sort) (nesting : Nesting Var Term) (t : Typed) where
-  pub keeps_image : KeepsRead (image_read place name wanted nesting t)
+module _ (limit : Option ℕ) (place : ℕ) (name : List ℕ) (wanted : Option Sort) (nesting : Nesting Var Term) (t : Typed) where
+  pub keeps_image : KeepsRead (image_read limit place name wanted nesting t)
   unfolding image_read
   keeps_image =
       keeps_then _ _ (keeps_demand _ _ _) (λ _. keeps_then _ _ (keeps_more _) (λ _. keeps_then _ _ (keeps_demand _ _ _) (λ _. keeps_give _)))
@@ -107,57 +107,57 @@ module _ (place : ℕ) (name : List ℕ) (wanted : Option Sort) (nesting : Nesti
     abbrev read_so : Bool → Bool → Outcome ProofState (Var × Term)
     read_so fits low = (demand fits SortMismatch place >>= λ _. script_changed (with_term image) >>= λ _. demand low TooHigh place >>= λ _. give variable_of) q
 
-    read_is : image_read place name wanted nesting t q ≡ read_so (is_wanted wanted t.sort) (nat_le (height image) most_height)
+    read_is : image_read limit place name wanted nesting t q ≡ read_so (is_wanted wanted t.sort) (is_low limit (height image))
     unfolding image_read ◌>>=◌
     read_is = refl
 
-    pub other_sort : is_wanted wanted t.sort ≡ false → (image_read place name wanted nesting t q).result ≡ Err (record { cause = SortMismatch; at = place })
+    pub other_sort : is_wanted wanted t.sort ≡ false → (image_read limit place name wanted nesting t q).result ≡ Err (record { cause = SortMismatch; at = place })
     unfolding ◌>>=◌
-    other_sort e = ap (λ (o : Outcome ProofState (Var × Term)). o.result) (read_is ∙ ap (λ fits. read_so fits (nat_le (height image) most_height)) e)
+    other_sort e = ap (λ (o : Outcome ProofState (Var × Term)). o.result) (read_is ∙ ap (λ fits. read_so fits (is_low limit (height image))) e)
 
     module _ (fits : is_wanted wanted t.sort ≡ true) where
-      fitting : image_read place name wanted nesting t q ≡ read_so true (nat_le (height image) most_height)
-      fitting = read_is ∙ ap (λ b. read_so b (nat_le (height image) most_height)) fits
+      fitting : image_read limit place name wanted nesting t q ≡ read_so true (is_low limit (height image))
+      fitting = read_is ∙ ap (λ b. read_so b (is_low limit (height image))) fits
 
-      pub too_high : nat_le (height image) most_height ≡ false → (image_read place name wanted nesting t q).result ≡ Err (record { cause = TooHigh; at = place })
+      pub too_high : is_low limit (height image) ≡ false → (image_read limit place name wanted nesting t q).result ≡ Err (record { cause = TooHigh; at = place })
       unfolding ◌>>=◌
       too_high e = ap (λ (o : Outcome ProofState (Var × Term)). o.result) (fitting ∙ ap (read_so true) e)
 
-      pub image_done : nat_le (height image) most_height ≡ true → image_read place name wanted nesting t q ≡ done variable_of with_image
+      pub image_done : is_low limit (height image) ≡ true → image_read limit place name wanted nesting t q ≡ done variable_of with_image
       unfolding ◌>>=◌
       image_done e = fitting ∙ ap (read_so true) e
 
       -- the image counts as read
-      pub image_was_read : WasRead (image_read place name wanted nesting t q) image
+      pub image_was_read : WasRead (image_read limit place name wanted nesting t q) image
       unfolding ◌>>=◌
-      image_was_read = subst (λ (o : Outcome ProofState (Var × Term)). WasRead o image) (sym fitting) (go (nat_le (height image) most_height))
+      image_was_read = subst (λ (o : Outcome ProofState (Var × Term)). WasRead o image) (sym fitting) (go (is_low limit (height image)))
         where
           go : (low : Bool) → WasRead (read_so true low) image
           go true = Contains-push q.script.terms image
           go false = Contains-push q.script.terms image
 
       module _ (s : Table) (v w : TermsView) (placed : PlacesTerm s v.pass w.pass image) where
-        cells_of : PlacesCellsOf s v.pass w.pass (WasRead (image_read place name wanted nesting t q))
-        cells_of = places_of_term s v.pass w.pass (WasRead (image_read place name wanted nesting t q)) image image_was_read placed
+        cells_of : PlacesCellsOf s v.pass w.pass (WasRead (image_read limit place name wanted nesting t q))
+        cells_of = places_of_term s v.pass w.pass (WasRead (image_read limit place name wanted nesting t q)) image image_was_read placed
 
-        pub no_image : (stop : TermStop) → (stop ≡ TermStop.PoolFull → LacksRoomFor s w.pass image) → AnswersAs v (both s w) (IsImageRead (both s w) name nesting t q) (image_read place name wanted nesting t q) (Err (fault_of stop))
-        no_image TermStop.PoolFull full = record { answer = lacks_for_term s w.pass (WasRead (image_read place name wanted nesting t q)) image image_was_read (full refl); placed = cells_of }
+        pub no_image : (stop : TermStop) → (stop ≡ TermStop.PoolFull → LacksRoomFor s w.pass image) → AnswersAs v (both s w) (IsImageRead (both s w) name nesting t q) (image_read limit place name wanted nesting t q) (Err (fault_of stop))
+        no_image TermStop.PoolFull full = record { answer = lacks_for_term s w.pass (WasRead (image_read limit place name wanted nesting t q)) image image_was_read (full refl); placed = cells_of }
         no_image TermStop.Memory full = record { answer = tt; placed = cells_of }
 
         module _ (x : TermsView) (keeps : KeepsTerms w x) (unchanged : IsUnchanged w.pass x.pass) where
-          cells_still : PlacesCellsOf s v.pass x.pass (WasRead (image_read place name wanted nesting t q))
+          cells_still : PlacesCellsOf s v.pass x.pass (WasRead (image_read limit place name wanted nesting t q))
           cells_still =
-              places_then s s v.pass w.pass x.pass (WasRead (image_read place name wanted nesting t q)) (keeps_table s) keeps.pass cells_of
-              (places_none s w.pass x.pass (WasRead (image_read place name wanted nesting t q)) unchanged.placed)
+              places_then s s v.pass w.pass x.pass (WasRead (image_read limit place name wanted nesting t q)) (keeps_table s) keeps.pass cells_of
+              (places_none s w.pass x.pass (WasRead (image_read limit place name wanted nesting t q)) unchanged.placed)
 
-          pub no_height : AnswersAs v (both s x) (IsImageRead (both s x) name nesting t q) (image_read place name wanted nesting t q) (Err ReadFault.Memory)
+          pub no_height : AnswersAs v (both s x) (IsImageRead (both s x) name nesting t q) (image_read limit place name wanted nesting t q) (Err ReadFault.Memory)
           no_height = record { answer = tt; placed = cells_still }
 
-          pub image_refused : nat_le (height image) most_height ≡ false → (refusal : Refusal) → refusal ≡ record { cause = TooHigh; at = place }
-              → AnswersAs v (both s x) (IsImageRead (both s x) name nesting t q) (image_read place name wanted nesting t q) (Err (ReadFault.Text refusal))
+          pub image_refused : is_low limit (height image) ≡ false → (refusal : Refusal) → refusal ≡ record { cause = TooHigh; at = place }
+              → AnswersAs v (both s x) (IsImageRead (both s x) name nesting t q) (image_read limit place name wanted nesting t q) (Err (ReadFault.Text refusal))
           image_refused e refusal is = record { answer = too_high e ∙ ap (λ (r : Refusal). Err r) (sym is); placed = cells_still }
 
-          pub image_made : nat_le (height image) most_height ≡ true → (c : ℕ) → RefersTo s x c image → AnswersAs v (both s x) (IsImageRead (both s x) name nesting t q) (image_read place name wanted nesting t q) (Ok c)
+          pub image_made : is_low limit (height image) ≡ true → (c : ℕ) → RefersTo s x c image → AnswersAs v (both s x) (IsImageRead (both s x) name nesting t q) (image_read limit place name wanted nesting t q) (Ok c)
           image_made e c refers = record {
             answer = record { value = variable_of; state = with_image; is = image_done e; after = record { refers = refers; same = refl; state = refl } };
             placed = cells_still;

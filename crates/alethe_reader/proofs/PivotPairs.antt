@@ -24,7 +24,7 @@ use Rattle.term_reader.proofs.Coming.{answers, same_outcome}
 use Rattle.term_reader.proofs.Staying.{adds_none, refers_stays}
 use Rattle.alethe_commands.specs.CommandNodes.{AreItemsAt}
 use Rattle.alethe_text.specs.Arguments.{named_in, named_among, truth_of, with_pivot, pivots_from}
-use Rattle.alethe_text.specs.Commands.{behind_first}
+use Rattle.text_items.specs.Keywords.{behind_first}
 use Rattle.alethe_text.specs.ProofTerms.{place_in, term_in}
 use Rattle.alethe_text.specs.States.{ProofSettings, ProofState, Reading, ◌>>=◌, give}
 use Rattle.alethe_reader.specs.Answers.{AnswersAs}

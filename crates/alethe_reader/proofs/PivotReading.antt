@@ -16,7 +16,7 @@ use Rattle.term_reader.specs.ProblemViews.{ReaderView, IsReaderOf}
 use Rattle.term_model.proofs.Zips.{zip_weaken}
 use Rattle.term_reader.proofs.Staying.{refers_stays}
 use Rattle.alethe_text.specs.Arguments.{pivots_from}
-use Rattle.alethe_text.specs.Commands.{behind_first}
+use Rattle.text_items.specs.Keywords.{behind_first}
 use Rattle.alethe_text.specs.ProofTerms.{place_in}
 use Rattle.alethe_text.specs.States.{ProofSettings, ProofState, Reading, ◌>>=◌, give}
 use Rattle.alethe_reader.specs.Answers.{AnswersAs}

@@ -25,7 +25,7 @@ use Rattle.term_reader.specs.Reading.{EndsWith}
 use Rattle.alethe_text.specs.ProofTerms.{place_in}
 use Rattle.alethe_text.specs.ProofTexts.{commands, behind_answer, is_list_of_commands, unwrapped_commands, excess_behind, none_behind, closed_proof, finished, proof_from, StandsForProof, IsFirstProofFault}
 use Rattle.alethe_text.specs.States.{ProofSettings, ProofState, unread, ◌>>=◌}
-use Rattle.alethe_items.specs.TextItems.{HasCommandItems, behind_list}
+use Rattle.alethe_commands.specs.TextItems.{HasCommandItems, behind_list}
 use Rattle.alethe_reader.specs.Answers.{WasRead}
 use Rattle.alethe_reader.specs.Bound.{AreBound}
 use Rattle.alethe_reader.specs.IdsInUse.{ids_in}

@@ -4,7 +4,8 @@ use Rattle.std.proofs.lemmas.Bool.{and_parts}
 use Rattle.std.specs.List.{list_all}
 use Rattle.std.specs.Str.{bytes_eq}
 use Rattle.rule_model.specs.declared.rules.Rule.{Rule}
-use Rattle.rule_model.specs.RuleNames.{word_of, is_assume, is_unknown, rule_among}
+use Rattle.rule_model.specs.RuleNames.{word_of, is_unknown, rule_among}
+use Rattle.rule_model.specs.Reading.{is_assume}
 use Rattle.alethe_reader.specs.RuleLengths.{has_word}
 
 pub among_here : (rules : List Rule) (k : ℕ) (r : Rule) (word : List ℕ) → slice_get rules k ≡ Some r → rule_among (drop k rules) word ≡ (if bytes_eq (word_of r) word then r else rule_among (drop (suc k) rules) word)

@@ -22,7 +22,7 @@ use Rattle.alethe_text.specs.Commands.{Attribute}
 use Rattle.alethe_text.specs.Ids.{Standing, closes_scope, standing_of}
 use Rattle.alethe_text.specs.ProofTerms.{place_in, formulas_in}
 use Rattle.alethe_text.specs.States.{ProofSettings, ProofState, Reading, ◌>>=◌, changed}
-use Rattle.alethe_text.specs.Steps.{rule_word, bare_step, attributes_read, with_step, step_read}
+use Rattle.alethe_text.specs.Steps.{rule_word, bare_step, attributes_read, step_taken, step_read}
 use Rattle.alethe_reader.specs.declared.judging.Named.{Named}
 use Rattle.alethe_reader.specs.declared.session.OpenAnchor.{OpenAnchor}
 use Rattle.alethe_reader.specs.declared.session.Session.{Session}
@@ -54,7 +54,7 @@ with_outcome h = record {
 
 module _ (settings : ProofSettings) (n : Name) (literals : Items) (attributes : List Attribute) (p : ProofState) where
   abbrev added : Step Term → Reading ⊤
-  added step = changed (with_step step)
+  added step = changed (step_taken step)
 
   abbrev before : List Term → Step Term
   before clause = bare_step n.name (rule_word attributes) clause
@@ -71,7 +71,7 @@ module _ (settings : ProofSettings) (n : Name) (literals : Items) (attributes : 
   stepped = refl
 
   keeps_added : (step : Step Term) → KeepsRead (added step)
-  keeps_added step = keeps_changed (with_step step) (λ q. refl)
+  keeps_added step = keeps_changed (step_taken step) (λ q. refl)
 
   keeps_after : (at : Standing) (clause : List Term) → KeepsRead (after_clause at clause)
   unfolding ◌>>=◌
@@ -236,8 +236,8 @@ module _ {s : Table} {v : TermsView} {settings : ProofSettings} {d : Session} {p
                 let a = (at_attributes (Ok tt) read f.value f.state f.after).answer in
                 (y, x, settings, a.value, a.state, to_be_added f.value f.state f.after a.value a.state a.after a.is)
 
-            pub is_stepped : (f : Session) → ((s : Table) (v : TermsView) (settings : ProofSettings) (step : Step Term) (p : ProofState) → IsToAdd (both s v) settings e new step p → IsProofSession (both s v) settings f (with_step step p))
+            pub is_stepped : (f : Session) → ((s : Table) (v : TermsView) (settings : ProofSettings) (step : Step Term) (p : ProofState) → IsToAdd (both s v) settings e new step p → IsProofSession (both s v) settings f (step_taken step p))
                 → AnswersAs v (both y x) (StandsAfter (both y x) settings f) (step_read settings n literals attributes p) (Ok tt)
             is_stepped f adding = then_attributes (λ clause q k.
                 goes (added settings n literals attributes p) (keeps_added settings n literals attributes p) (with_outcome (at_attributes (Ok tt) read clause q k)) (adds_none y).keeps (terms-refl x)
-                (λ step l m. answers tt (with_step step l) refl refl (record { session = adding y x settings step l (to_be_added clause q k step l m.0 m.1) })))
+                (λ step l m. answers tt (step_taken step l) refl refl (record { session = adding y x settings step l (to_be_added clause q k step l m.0 m.1) })))

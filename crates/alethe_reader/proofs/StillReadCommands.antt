@@ -15,7 +15,7 @@ use Rattle.alethe_text.specs.Commands.{Attribute, rule, premises, arguments, dis
 use Rattle.alethe_text.specs.Ids.{Standing, id_judged, standing_of}
 use Rattle.alethe_text.specs.ProofTexts.{performed, commands, none_behind, closed_proof}
 use Rattle.alethe_text.specs.States.{ProofSettings}
-use Rattle.alethe_text.specs.Steps.{assume_read, attribute_read, attributes_read, with_step, step_read}
+use Rattle.alethe_text.specs.Steps.{assume_read, attribute_read, attributes_read, step_taken, step_read}
 use Rattle.alethe_reader.specs.KeptReads.{KeepsRead}
 use Rattle.alethe_reader.specs.TextReading.{closing_from, left_from}
 use Rattle.alethe_reader.proofs.StillRead.{keeps_give, keeps_refuse, keeps_given, keeps_demand, keeps_seen, keeps_then, keeps_either, keeps_changed, keeps_term, keeps_formula, keeps_formulas, keeps_indices}
@@ -71,7 +71,7 @@ unfolding step_read
 keeps_step settings n literals others =
     keeps_then _ _ (keeps_standing n)
     (λ at. keeps_then _ _ (keeps_formulas settings at.nesting literals)
-    (λ clause. keeps_then _ _ (keeps_attributes settings at others _) (λ s. keeps_changed (with_step s) (λ p. refl))))
+    (λ clause. keeps_then _ _ (keeps_attributes settings at others _) (λ s. keeps_changed (step_taken s) (λ p. refl))))
 
 pub keeps_assume : (settings : ProofSettings) (n : Name) (i : Item) → KeepsRead (assume_read settings n i)
 unfolding assume_read

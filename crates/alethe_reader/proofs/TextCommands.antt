@@ -20,7 +20,7 @@ use Rattle.alethe_text.specs.States.{ProofSettings, ProofState, ◌>>=◌}
 use Rattle.alethe_commands.specs.CommandNodes.{IsCommand, command_said}
 use Rattle.alethe_commands.specs.declared.commands.Command as code
 use Rattle.alethe_reader.specs.Answers.{terms_in, WasRead, AnswersAs}
-use Rattle.alethe_items.specs.TextItems.{HasCommandItems, IsFirst}
+use Rattle.alethe_commands.specs.TextItems.{HasCommandItems, IsFirst}
 use Rattle.alethe_text.specs.CommandNames.{HasNames, HaveNames, IsNamed}
 use Rattle.alethe_reader.specs.Sessions.{IsProofSession, StandsAfter}
 use Rattle.alethe_reader.specs.Settings.{proof_settings}

@@ -1,5 +1,5 @@
 -- Private. An anchor that is being read: its arguments up to some place.
-use Rattle.std.specs.Prelude.{◌≡◌, ◌++◌, ◌∷◌, [], ℕ, nat_le, Bool, true, false, ◌||◌, List, map, reverse, take, Option, Result, Ok, Err, ⊤}
+use Rattle.std.specs.Prelude.{◌≡◌, ◌++◌, ◌∷◌, [], ℕ, Bool, true, false, ◌||◌, List, map, reverse, take, Option, Result, Ok, Err, ⊤}
 use Rattle.std.specs.List.{AllZip}
 use Rattle.std.specs.Option.{option_map_or}
 use Rattle.sexpr.specs.declared.causes.Cause.TheVariants.{Repeated, BadAnchor, SortMismatch, TooHigh}
@@ -12,7 +12,7 @@ use Rattle.term_model.specs.Heights.{height}
 use Rattle.rule_model.specs.Judged.{open_anchors}
 use Rattle.rule_model.specs.Scopes.{Nesting}
 use Rattle.term_pool.specs.Bindings.{IsBindingOf}
-use Rattle.problem_text.specs.Limits.{most_height}
+use Rattle.problem_text.specs.Limits.{is_low}
 use Rattle.problem_text.specs.Names.{Bound, itself}
 use Rattle.problem_text.specs.Scripts.{with_term}
 use Rattle.problem_text.specs.TypedTerms.{Typed}
@@ -73,11 +73,11 @@ abbrev pub is_wanted : Option Sort → Sort → Bool
 is_wanted wanted sort = option_map_or (λ s. sort_eq sort s) wanted true
 
 -- what comes of a variable once its term was read
-unfoldable pub image_read : ℕ → List ℕ → Option Sort → Nesting Var Term → Typed → Reading (Var × Term)
-image_read place name wanted nesting t = do
+unfoldable pub image_read : Option ℕ → ℕ → List ℕ → Option Sort → Nesting Var Term → Typed → Reading (Var × Term)
+image_read limit place name wanted nesting t = do
   _ ← demand (is_wanted wanted t.sort) SortMismatch place
   _ ← script_changed (with_term (image_of nesting t.tree))
-  _ ← demand (nat_le (height (image_of nesting t.tree)) most_height) TooHigh place
+  _ ← demand (is_low limit (height (image_of nesting t.tree))) TooHigh place
   give (record { name = name; sort = t.sort }, t.tree)
 
 -- The image was made, and counts as read.

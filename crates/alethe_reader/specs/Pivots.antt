@@ -9,7 +9,7 @@ use Rattle.text_items.specs.ItemsAt.{ItemsView, end_at, items_at}
 use Rattle.text_items.specs.Stepping.{EndBy}
 use Rattle.term_reader.specs.ProblemViews.{ReaderView}
 use Rattle.alethe_text.specs.Arguments.{named_among, truth_of}
-use Rattle.alethe_text.specs.Commands.{behind_first}
+use Rattle.text_items.specs.Keywords.{behind_first}
 use Rattle.alethe_text.specs.ProofTerms.{term_in}
 use Rattle.alethe_text.specs.States.{ProofSettings, ProofState, Reading, ◌>>=◌, give}
 use Rattle.alethe_reader.specs.Behind.{IsBehind}

@@ -14,7 +14,7 @@ use Rattle.term_reader.specs.Reading.{Comes}
 use Rattle.alethe_text.specs.ProofTexts.{commands, none_behind, finished}
 use Rattle.alethe_text.specs.States.{ProofSettings, ProofState, Reading, ◌>>=◌}
 use Rattle.alethe_reader.specs.Answers.{terms_in}
-use Rattle.alethe_items.specs.TextItems.{HasCommandItems}
+use Rattle.alethe_commands.specs.TextItems.{HasCommandItems}
 use Rattle.alethe_text.specs.CommandNames.{HaveNames}
 use Rattle.alethe_reader.specs.Sessions.{IsProofSession}
 use Rattle.alethe_reader.specs.Settings.{proof_settings}

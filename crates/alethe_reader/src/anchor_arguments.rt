@@ -1,11 +1,12 @@
 //! The arguments of anchors: variables with their terms (Alethe specification, "The Proof Format": contexts).
-ghost use Rattle.std.specs.Prelude.{◌≡◌, ◌≤◌, ◌<◌, ◌^◌, ◌+◌, ◌-◌, ℕ, List, [], ◌++◌, map, length, take, None, OnOk};
+ghost use Rattle.std.specs.Prelude.{◌≡◌, ◌≤◌, ◌<◌, ◌^◌, ◌+◌, ◌-◌, ℕ, List, [], ◌++◌, map, length, take, Some, None, OnOk};
 ghost use Rattle.std.specs.List.{AllZip};
 ghost use Rattle.term_model.specs.Terms.{Var, Term};
 ghost use Rattle.term_pool.specs.Views.{KeepsTerms};
 ghost use Rattle.rule_model.specs.Scopes.{Nesting};
 ghost use Rattle.term_pool.specs.Bindings.{IsBindingOf};
 ghost use Rattle.text_items.specs.ItemsAt.{end_at, item_at, items_at};
+ghost use Rattle.problem_text.specs.Limits.{most_height};
 ghost use Rattle.problem_text.specs.TypedTerms.{Typed};
 ghost use Rattle.problem_text.specs.Words as words;
 ghost use Rattle.term_names.specs.Standing.{AddsNoSymbols, GrowByTerms};
@@ -237,13 +238,13 @@ fn image_at(
         AllZip (IsBindingOf symbols.now terms.old) (take (length bound.now.images.items - length bound.now.opened.items) bound.now.images.items)
         (images_in nesting) → map (λ u. u.id) bound.now.names.used ≡ bound_names nesting ++ more →
         AnswersAs terms.old (both symbols.now terms.new) (IsImageRead (both symbols.now terms.new) name nesting t q)
-        (image_read wanted.place name wanted.sort nesting t q) result }
+        (image_read (Some most_height) wanted.place name wanted.sort nesting t q) result }
     ensures keeps { KeepsTerms terms.old terms.new }
 {
     if !is_wanted(wanted.sort, value.sort) {
         return Err(ReadFault::Text(refused(Cause::SortMismatch, wanted.place)));
     }
-    let _leaves = symbols.count();
+    symbols.leaves_differ();
     let outer = bound.images.len() - bound.opened.len();
     let needed = images_needed(bound, outer, symbols, terms, value.term)?;
     let image = with_images(bound.alloc, &needed, symbols, terms, value.term)?;

@@ -11,8 +11,8 @@ ghost use Rattle.term_names.specs.Standing.{AddsNoSymbols};
 ghost use Rattle.term_names.specs.declared.faults.ReadFault.TheVariants as fault;
 ghost use Rattle.term_reader.specs.ProblemViews.{IsProblemOf};
 ghost use Rattle.alethe_text.specs.ProofTexts.{IsFirstProofFault};
-ghost use Rattle.alethe_text.specs.States.{ProofSettings, ProofState, unread};
-ghost use Rattle.alethe_items.specs.TextItems.{HasCommandItems};
+ghost use Rattle.alethe_text.specs.States.{ProofSettings, limited_proof, ProofState, unread};
+ghost use Rattle.alethe_commands.specs.TextItems.{HasCommandItems};
 ghost use Rattle.alethe_reader.specs.Reading.{IsCountedOfProof, IsProofOf};
 ghost use Rattle.alethe_reader.specs.Sessions.{IsProofSession};
 ghost use Rattle.alethe_reader.specs.TextReading.{IsEndJudged, IsFinished, IsBehindCommands, closing_from};
@@ -23,7 +23,7 @@ use crate::ids::Ids;
 use crate::session::{Session, StepParts};
 use crate::settings::SessionSettings;
 use crate::text_reading::read_commands;
-use alethe_items::{enter_list, excess, skip_answer};
+use alethe_commands::{enter_list, excess, skip_answer};
 use alethe_text::laws::proof_texts_have_one_reading;
 use proof_store::{Proof, ProofBuilder};
 use sexpr::{Cause, Lexer, Refusal, form, tokens_are_spelled};
@@ -43,7 +43,7 @@ fn new_session<'a>(
     flags: Flags,
 ) -> Session<'a>
     ensures session { (s : Table) (v : TermsView) (before : Script) → IsProblemOf s v problem.now before →
-        IsProofSession (both s v) (record { replaces_lets = flags.expand_lets; is_strict = flags.strict }) result (unread before) }
+        IsProofSession (both s v) (limited_proof flags.expand_lets flags.strict) result (unread before) }
     ensures short { IsBehindCommands result.builder 0 }
 {
     let mut reader = TermReader::new(alloc, problem, flags);
@@ -114,16 +114,16 @@ pub fn read_proof(
     requires problem { (before : Script) × IsProblemOf symbols.old terms.old problem.now before }
     requires room { length symbols.old.leaves + length bytes.now ≤ 2 ^ 30 }
     ensures proof { (before : Script) → IsProblemOf symbols.old terms.old problem.now before →
-        IfOk result (λ proof. IsProofOf bytes.now (record { replaces_lets = flags.expand_lets; is_strict = flags.strict }) before symbols.new terms.new proof) }
+        IfOk result (λ proof. IsProofOf bytes.now (limited_proof flags.expand_lets flags.strict) before symbols.new terms.new proof) }
     ensures fault { (before : Script) (r : Refusal) → IsProblemOf symbols.old terms.old problem.now before →
-        result ≡ Err (fault.Text r) → IsFirstProofFault bytes.now (record { replaces_lets = flags.expand_lets; is_strict = flags.strict }) before r }
+        result ≡ Err (fault.Text r) → IsFirstProofFault bytes.now (limited_proof flags.expand_lets flags.strict) before r }
     ensures refused { (before : Script) (r : Refusal) → IsProblemOf symbols.old terms.old problem.now before →
-        IsFirstProofFault bytes.now (record { replaces_lets = flags.expand_lets; is_strict = flags.strict }) before r → IfOk result (λ _. ⊥) }
+        IsFirstProofFault bytes.now (limited_proof flags.expand_lets flags.strict) before r → IfOk result (λ _. ⊥) }
     ensures placed { (before : Script) → IsProblemOf symbols.old terms.old problem.now before →
         PlacesCellsOf symbols.new terms.old.pass terms.new.pass
-        (IsCountedOfProof bytes.now (record { replaces_lets = flags.expand_lets; is_strict = flags.strict }) before) }
+        (IsCountedOfProof bytes.now (limited_proof flags.expand_lets flags.strict) before) }
     ensures full { (before : Script) → IsProblemOf symbols.old terms.old problem.now before → result ≡ Err fault.PoolFull →
-        LacksCellOf symbols.new terms.new.pass (IsCountedOfProof bytes.now (record { replaces_lets = flags.expand_lets; is_strict = flags.strict }) before) }
+        LacksCellOf symbols.new terms.new.pass (IsCountedOfProof bytes.now (limited_proof flags.expand_lets flags.strict) before) }
     ensures few { length symbols.new.leaves ≤ length symbols.old.leaves + length bytes.now }
     ensures symbols { AddsNoSymbols symbols.old symbols.new }
     ensures keeps { KeepsTerms terms.old terms.new }

@@ -150,7 +150,7 @@ fn add_step(session: &mut Session<'_>, new: NewStep<'_>) -> Result<(), ReadFault
     requires name { new.name ≡ position (bytes_eq new.id.name.now) session.old.ids.names }
     requires few { next_index session.old.builder + 1 < 2 ^ 32 - 1 }
     ensures added { OnOk result ((s : Table) (v : TermsView) (settings : ProofSettings) (step : Step Term) (p : ProofState) →
-        IsToAdd (both s v) settings session.old new.entry step p → IsProofSession (both s v) settings session.new (steps.with_step step p)) }
+        IsToAdd (both s v) settings session.old new.entry step p → IsProofSession (both s v) settings session.new (steps.step_taken step p)) }
     ensures refused { IfErr result (λ fault. fault ≡ ReadFault.Memory) }
     ensures commands { OnOk result (next_index session.new.builder ≡ next_index session.old.builder + 1) }
     ensures scopes { OnOk result (next_scope session.new.builder ≡ next_scope session.old.builder) }

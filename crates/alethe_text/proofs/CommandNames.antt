@@ -12,7 +12,8 @@ use Rattle.text_items.specs.ItemShapes.{name_at, items_of}
 use Rattle.text_items.specs.Keywords.{is_spelled}
 use Rattle.term_model.proofs.Lists.{all_joined}
 use Rattle.alethe_text.specs.CommandNames.{HasNames, HaveNames, IsRuleNamed, IsNamed}
-use Rattle.alethe_text.specs.Commands.{Attribute, rule, premises, arguments, discharge, Command, is_symbol_of, shaped, names_in, attribute_of, attribute_with, attributes_of, assume_shape, step_shape, anchor_shape, command_named, command_of}
+use Rattle.alethe_text.specs.Commands.{Attribute, rule, premises, arguments, discharge, Command, is_symbol_of, names_in, attribute_of, attribute_with, attributes_of, assume_shape, step_shape, anchor_shape, command_named, command_of}
+use Rattle.problem_text.specs.Commands.{shaped}
 use Rattle.alethe_text.specs.Steps.{rule_word}
 use Rattle.alethe_text.specs.ProofTexts.{behind_answer, unwrapped_commands, is_list_of_commands}
 use Rattle.alethe_text.proofs.SymbolNames.{AreSpelled, name_is, text_named}

@@ -1,6 +1,6 @@
 -- Anchors that are read may stand where they do.
 use Rattle.std.proofs.Common.{◌≡◌, ◌≢◌, ℕ, zero, suc, List, [], ◌∷◌, map, true, false, not, ◌||◌, AllPairs, Contains, sym, ap, arith}
-use Rattle.std.specs.Prelude.{⊤, bytes_eq, nat_le}
+use Rattle.std.specs.Prelude.{⊤, bytes_eq}
 use Rattle.std.specs.List.{AllByRecursion}
 use Rattle.std.specs.Option.{option_map_or}
 use Rattle.std.proofs.lemmas.List.Elements.{All-from_recursion}
@@ -14,7 +14,7 @@ use Rattle.rule_model.specs.RuleNames.{IsSymbolName}
 use Rattle.rule_model.specs.Scopes.{Nesting, Scope}
 use Rattle.rule_model.specs.Visibility.{open_bindings}
 use Rattle.text_items.specs.ItemShapes.{Name}
-use Rattle.problem_text.specs.Limits.{most_height}
+use Rattle.problem_text.specs.Limits.{is_low}
 use Rattle.problem_text.specs.Words.{is_among, is_built_in}
 use Rattle.alethe_text.specs.Commands.{Argument, variable_alone, assigned}
 use Rattle.alethe_text.specs.States.{ProofSettings, ProofState}
@@ -45,7 +45,7 @@ argument_formed P settings earlier (assigned place x sort i) s h =
     (λ wanted _. and_next (λ _ t. W t.scope) R (term_in settings s.scope.nesting i) _ _ (term_stays W settings s.scope.nesting i _ (h, parts.0, parts.1))
     (λ term t k. asked R (option_map_or (λ z. sort_eq term.sort z) wanted true) SortMismatch place _ t
     (λ _. changed_next R _ _ t
-    (asked R (nat_le (height (image_of s.scope.nesting term.tree)) most_height) TooHigh place _ _
+    (asked R (is_low settings.limit (height (image_of s.scope.nesting term.tree))) TooHigh place _ _
     (λ _. (k.0, (k.1, k.2)))))))))))
 
 -- the bindings of an anchor are fresh, and their variables differ

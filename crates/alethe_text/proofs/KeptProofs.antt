@@ -1,10 +1,9 @@
 -- Cited by crates above. What the terms are of a proof that a text stands for, where what they are is known of each reading of a
 -- term.
-use Rattle.std.proofs.Common.{◌≡◌, ◌≤◌, ℕ, List, [], Bool, true, false, Option, Some, None, refl, sym, ap, ◌∙◌, subst, if◌then◌else◌}
-use Rattle.std.specs.Prelude.{⊤, not, ◌||◌, nat_le}
+use Rattle.std.proofs.Common.{◌≡◌, ℕ, List, [], Bool, true, false, Option, Some, None, refl, sym, ap, ◌∙◌, subst, if◌then◌else◌}
+use Rattle.std.specs.Prelude.{⊤, not, ◌||◌}
 use Rattle.std.specs.List.{AllByRecursion}
 use Rattle.std.specs.Option.{option_map_or}
-use Rattle.std.proofs.lemmas.Bool.{leb-true}
 use Rattle.std.proofs.lemmas.Slice.Eq.{bytes_eq-Decides}
 use Rattle.sexpr.specs.declared.causes.Cause.TheVariants.{Repeated, BadAnchor, SortMismatch, TooHigh}
 use Rattle.sexpr.specs.Items.{Item, Items, no_items, item}
@@ -14,7 +13,7 @@ use Rattle.rule_model.specs.Proofs.{Step, ProofItems as Proof, no_items as no_co
 use Rattle.rule_model.specs.Scopes.{Nesting, outermost, inside, inner, Scope, at}
 use Rattle.rule_model.specs.Writing.{is_open_id, add_step, close_scope, take_step}
 use Rattle.text_items.specs.ItemShapes.{Name}
-use Rattle.problem_text.specs.Limits.{most_height}
+use Rattle.problem_text.specs.Limits.{is_low}
 use Rattle.problem_text.specs.Scripts.{Script, with_term, with_let_name}
 use Rattle.problem_text.specs.TypedTerms.{Typed}
 use Rattle.problem_text.specs.Words.{is_among, is_built_in}
@@ -29,9 +28,10 @@ use Rattle.alethe_text.proofs.Endings.{After, Ends, and_next, looked, asked, giv
 use Rattle.alethe_text.proofs.KeptReadings.{id_kept, Keeps, TermsAre, HasTermsOf, formula_reads, formulas_read, attributes_reads, arguments_keep}
 
 -- What is asked of bindings, where a term is read for a variable, and that a script stays good.
-pub record BindingsAre (Good : Script → Type 0) (IsTerm : Nesting Var Term → Typed → Type 0) (IsBinding : Nesting Var Term → Var × Term → Type 0) : Type 0 where
-  pub binding : (nesting : Nesting Var Term) (name : List ℕ) (t : Typed) → IsTerm nesting t → height (image_of nesting t.tree) ≤ most_height
-      → IsBinding nesting (record { name = name; sort = t.sort }, t.tree)
+pub record BindingsAre (settings : ProofSettings) (Good : Script → Type 0) (IsTerm : Nesting Var Term → Typed → Type 0)
+    (IsBinding : Nesting Var Term → Var × Term → Type 0) : Type 0 where
+  pub binding : (nesting : Nesting Var Term) (name : List ℕ) (t : Typed) → IsTerm nesting t
+      → is_low settings.limit (height (image_of nesting t.tree)) ≡ true → IsBinding nesting (record { name = name; sort = t.sort }, t.tree)
   pub name_added : (name : List ℕ) (s : Script) → Good s → Good (with_let_name name s)
   pub term_added : (t : Term) (s : Script) → Good s → Good (with_term t s)
 
@@ -68,7 +68,7 @@ outer_stands (inside around before top) items = refl
 
 module _ {settings : ProofSettings} {Good : Script → Type 0} {IsTerm : Nesting Var Term → Typed → Type 0}
     {IsFormula IsPivot : Nesting Var Term → Term → Type 0} {IsBinding : Nesting Var Term → Var × Term → Type 0}
-    (are : TermsAre settings Good IsTerm IsFormula IsPivot) (bind : BindingsAre Good IsTerm IsBinding) where
+    (are : TermsAre settings Good IsTerm IsFormula IsPivot) (bind : BindingsAre settings Good IsTerm IsBinding) where
   abbrev IsIn : Nesting Var Term → Step Term → Type 0
   IsIn nesting s = HasTermsOf (IsFormula nesting) (IsPivot nesting) s
 
@@ -165,10 +165,10 @@ module _ {settings : ProofSettings} {Good : Script → Type 0} {IsTerm : Nesting
       (are.reads W s.scope.nesting i _ (record { script = bind.name_added x.name s.script h.script; scope = (refl, h.scope) }))
       (λ t u k. asked R (option_map_or (λ z. sort_eq t.sort z) wanted true) SortMismatch place _ u
       (λ _. changed_next R _ _ u
-      (asked R (nat_le (height (image_of s.scope.nesting t.tree)) most_height) TooHigh place _ _
+      (asked R (is_low settings.limit (height (image_of s.scope.nesting t.tree))) TooHigh place _ _
       (λ e. (
         subst (λ nesting. IsBinding nesting (record { name = x.name; sort = t.sort }, t.tree)) k.1.scope.0
-            (bind.binding s.scope.nesting x.name t k.0 (leb-true _ most_height e)),
+            (bind.binding s.scope.nesting x.name t k.0 e),
         record { script = bind.term_added (image_of s.scope.nesting t.tree) u.script k.1.script; scope = k.1.scope.1 },
       ))))))))))
 

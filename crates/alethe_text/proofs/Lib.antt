@@ -16,3 +16,6 @@ pub mod KeptProofs
 pub mod SortedProofs
 mod TextLengths
 mod ShortLists
+mod OtherLimits
+pub mod PrintedCommands
+pub mod PrintedProofs

@@ -1,6 +1,6 @@
 -- The clauses and the lists of premises of a proof that a text stands for are no longer than the text.
 use Rattle.std.proofs.Common.{◌≡◌, ◌≤◌, ◌<◌, ◌+◌, ℕ, zero, suc, List, [], ◌∷◌, ◌++◌, map, length, slice_get, Bool, true, false, not, ◌&&◌, ◌||◌, Option, Some, None, Result, IfSome, IfOk, find, refl, ap, subst, arith, if◌then◌else◌}
-use Rattle.std.specs.Prelude.{⊤, codes, unwrap_or, nat_le}
+use Rattle.std.specs.Prelude.{⊤, codes, unwrap_or}
 use Rattle.std.specs.List.{AllByRecursion}
 use Rattle.std.specs.Option.{option_map_or}
 use Rattle.std.specs.Str.{bytes_eq}
@@ -21,13 +21,15 @@ use Rattle.rule_model.specs.Scopes.{Nesting, outermost, inside, Scope, at, inner
 use Rattle.rule_model.specs.Writing.{is_open_id, add_step, close_scope, take_step}
 use Rattle.text_items.specs.ItemShapes.{Name, name_at, items_of}
 use Rattle.text_items.specs.Keywords.{is_spelled}
-use Rattle.problem_text.specs.Limits.{most_height}
+use Rattle.problem_text.specs.Limits.{is_low}
 use Rattle.problem_text.specs.Scripts.{Script}
 use Rattle.problem_text.specs.Words.{is_among, is_built_in}
 use Rattle.alethe_text.specs.Anchors.{bound_names, sort_given, image_of, argument_read, arguments_read, anchor_read}
 use Rattle.alethe_text.specs.Arguments.{takes_coefficients, takes_pivots, named_among, pivots_from, arguments_from}
 use Rattle.alethe_text.specs.Coefficients.{coefficients_from}
-use Rattle.alethe_text.specs.Commands.{Attribute, rule, premises, arguments, discharge, Argument, variable_alone, assigned, Command, assume, step, anchor, shaped, names_in, attribute_of, attribute_with, attributes_of, behind_first, assume_shape, step_shape, anchor_shape, is_symbol_of, command_named, command_of}
+use Rattle.alethe_text.specs.Commands.{Attribute, rule, premises, arguments, discharge, Argument, variable_alone, assigned, Command, assume, step, anchor, names_in, attribute_of, attribute_with, attributes_of, assume_shape, step_shape, anchor_shape, is_symbol_of, command_named, command_of}
+use Rattle.problem_text.specs.Commands.{shaped}
+use Rattle.text_items.specs.Keywords.{behind_first}
 use Rattle.alethe_text.specs.Ids.{Standing, closes_scope, stands_in, id_judged, standing_of, indices_of}
 use Rattle.alethe_text.specs.ProofTerms.{term_in, formula_in, formulas_in}
 use Rattle.alethe_text.specs.ProofTexts.{performed, commands, behind_answer, is_list_of_commands, unwrapped_commands, excess_behind, none_behind, closed_proof, proof_from, StandsForProof}
@@ -192,7 +194,7 @@ module _ (P : Scope Var Term → Type 0) (settings : ProofSettings) where
       (λ wanted _. and_next Stay Stay (term_in settings s.scope.nesting i) _ _ (term_stays P settings s.scope.nesting i _ h)
       (λ term t k. asked Stay (option_map_or (λ z. sort_eq term.sort z) wanted true) SortMismatch place _ t
       (λ _. changed_next Stay _ _ t
-      (asked Stay (nat_le (height (image_of s.scope.nesting term.tree)) most_height) TooHigh place _ _ (λ _. k)))))))))
+      (asked Stay (is_low settings.limit (height (image_of s.scope.nesting term.tree))) TooHigh place _ _ (λ _. k)))))))))
 
   arguments_stay : (earlier : List (List ℕ)) (others : List Argument) (s : ProofState) → P s.scope → Ends Stay (arguments_read settings earlier others s)
   unfolding arguments_read

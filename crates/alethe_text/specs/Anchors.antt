@@ -1,5 +1,5 @@
 -- Public. Anchors (Alethe, "Subproofs", and "The Proof Format": contexts).
-use Rattle.std.specs.Prelude.{ℕ, nat_le, true, not, ◌||◌, List, [], ◌∷◌, ◌++◌, map, Option, Some, None, Result, Ok, Err, ⊤}
+use Rattle.std.specs.Prelude.{ℕ, true, not, ◌||◌, List, [], ◌∷◌, ◌++◌, map, Option, Some, None, Result, Ok, Err, ⊤}
 use Rattle.std.specs.Option.{option_map_or}
 use Rattle.sexpr.specs.declared.causes.Cause.TheVariants.{Repeated, SortMismatch, LeftOut, TooHigh, BadAnchor}
 use Rattle.sexpr.specs.declared.causes.Refusal.{Refusal}
@@ -14,7 +14,7 @@ use Rattle.rule_model.specs.Substitution.{put_in}
 use Rattle.rule_model.specs.Visibility.{open_bindings}
 use Rattle.rule_model.specs.Writing.{open_anchor}
 use Rattle.text_items.specs.ItemShapes.{Name}
-use Rattle.problem_text.specs.Limits.{most_height}
+use Rattle.problem_text.specs.Limits.{is_low}
 use Rattle.problem_text.specs.Scripts.{Script, with_term, with_let_name}
 use Rattle.problem_text.specs.Sorts.{sort_from}
 use Rattle.problem_text.specs.Words.{is_among, is_built_in}
@@ -52,7 +52,7 @@ argument_read settings earlier (assigned place x sort i) = do
   t ← term_in settings state.scope.nesting i
   _ ← demand (option_map_or (λ s. sort_eq t.sort s) wanted true) SortMismatch place
   _ ← script_changed (with_term (image_of state.scope.nesting t.tree))
-  _ ← demand (nat_le (height (image_of state.scope.nesting t.tree)) most_height) TooHigh place
+  _ ← demand (is_low settings.limit (height (image_of state.scope.nesting t.tree))) TooHigh place
   give (record { name = x.name; sort = t.sort }, t.tree)
 
 unfoldable pub arguments_read : ProofSettings → List (List ℕ) → List Argument → Reading (List (Var × Term))

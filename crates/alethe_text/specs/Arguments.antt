@@ -2,7 +2,7 @@
 -- those of resolution are its pivots; no others are judged, but for the terms that get a name in them.
 use Rattle.std.specs.Prelude.{Bool, true, false, ◌&&◌, if◌then◌else◌, List, [], ◌∷◌, codes, Option, Some, None, option_map, option_and_then, is_some}
 use Rattle.std.specs.Prelude.{unwrap_or, ⊤}
-use Rattle.sexpr.specs.Items.{Item, word, quoted, string, list, Items, no_items, item, symbol_name}
+use Rattle.sexpr.specs.Items.{Item, list, Items, no_items, item, symbol_name}
 use Rattle.term_model.specs.Terms.{Var, Term}
 use Rattle.rule_model.specs.declared.rules.Rule.{Rule}
 use Rattle.rule_model.specs.Proofs.{Step}
@@ -31,11 +31,9 @@ is_naming _ = false
 unfoldable mutual
   -- the terms that get a name in an item, at any depth
   pub named_in : ProofSettings → Nesting Var Term → Item → Reading ⊤
-  named_in settings nesting (word place spelling) = give tt
-  named_in settings nesting (quoted place spelling) = give tt
-  named_in settings nesting (string place spelling) = give tt
   named_in settings nesting (list place items) =
       if is_naming items then (term_in settings nesting (list place items) >>= λ _. give tt) else named_among settings nesting items
+  named_in settings nesting other = give tt
 
   pub named_among : ProofSettings → Nesting Var Term → Items → Reading ⊤
   named_among settings nesting no_items = give tt

@@ -7,7 +7,7 @@ use Rattle.std.specs.Option.{option_or}
 use Rattle.sexpr.specs.declared.causes.Cause.TheVariants.{WideNumber}
 use Rattle.sexpr.specs.declared.causes.Refusal.{Refusal}
 use Rattle.sexpr.specs.Words.{is_numeral, is_decimal, is_ratio, numeral_value}
-use Rattle.sexpr.specs.Items.{Item, word, quoted, string, list, Items, no_items, item}
+use Rattle.sexpr.specs.Items.{Item, word, list, Items, no_items, item}
 use Rattle.rule_model.specs.Proofs.{Fraction}
 use Rattle.problem_text.specs.Commands.{refused}
 use Rattle.problem_text.specs.Sorts.{result_then}
@@ -48,9 +48,7 @@ figure_spelled place spelling =
 
 abbrev pub figure_of : Item → Option Figure
 figure_of (word place spelling) = figure_spelled place spelling
-figure_of (quoted place spelling) = None
-figure_of (string place spelling) = None
-figure_of (list place items) = None
+figure_of other = None
 
 -- a figure that is not 0
 abbrev pub divisor_of : Item → Option Figure
@@ -109,9 +107,8 @@ abbrev pub lowest : ℕ × ℕ → ℕ × ℕ
 lowest p = (p.0 / common_divisor p.0 p.1, p.1 / common_divisor p.0 p.1)
 
 abbrev pub is_negative : Amount → Bool
-is_negative (figure f) = false
-is_negative (ratio place n d) = false
 is_negative (quotient place negative n d) = negative
+is_negative other = false
 
 abbrev pub is_wide : ℕ → Bool
 is_wide n = nat_le (2 ^ 127) n

@@ -1,6 +1,6 @@
 -- Public. The commands of a proof (Alethe, "The Proof Format") and their shapes, which reach down to the terms and sorts of
 -- a command, but not into them.
-use Rattle.std.specs.Prelude.{ℕ, Bool, true, false, if◌then◌else◌, List, [], ◌∷◌, ◌++◌, codes, bytes_eq, Option, Some, None, is_some, Result, Ok}
+use Rattle.std.specs.Prelude.{ℕ, Bool, true, false, if◌then◌else◌, List, [], ◌∷◌, ◌++◌, codes, bytes_eq, Option, Some, None, is_some, Result}
 use Rattle.std.specs.Option.{option_or}
 use Rattle.sexpr.specs.declared.causes.Cause.TheVariants.{UnknownCommand, BadCommand, LeftOut}
 use Rattle.sexpr.specs.declared.causes.Refusal.{Refusal}
@@ -8,8 +8,8 @@ use Rattle.sexpr.specs.Words.{is_symbol}
 use Rattle.sexpr.specs.Items.{Item, word, list, Items, no_items, item, place_of, symbol_name}
 use Rattle.text_items.specs.declared.keywords.Wanted.TheVariants as wanted
 use Rattle.text_items.specs.ItemShapes.{Name, name_at, excess, symbol_fault, pair_fault, items_of}
-use Rattle.text_items.specs.Keywords.{Known, is_spelled, list_fault, earlier, attributes_fault}
-use Rattle.problem_text.specs.Commands.{refused}
+use Rattle.text_items.specs.Keywords.{Known, is_spelled, list_fault, behind_first, earlier, attributes_fault}
+use Rattle.problem_text.specs.Commands.{refused, shaped}
 
 -- An attribute of a step that has an effect: its rule, its premises, its arguments, the assumes that it discharges.
 pub data Attribute : Type 0 where
@@ -34,11 +34,6 @@ pub data Command : Type 0 where
 -- the item is the symbol of this name
 abbrev pub is_symbol_of : List ℕ → Item → Bool
 is_symbol_of name i = bytes_eq (name_at i).name name
-
--- a command of the right shape, or the first place where it has another
-abbrev pub shaped : Option ℕ → Command → Result Command Refusal
-shaped (Some place) c = refused BadCommand place
-shaped None c = Ok c
 
 abbrev pub names_in : Items → List Name
 names_in no_items = []
@@ -74,10 +69,6 @@ attributes_of (item i rest) = attribute_with i rest ++ attributes_of rest
 abbrev pub clause_fault : Item → Option ℕ
 clause_fault (list place (item head literals)) = if is_symbol_of (codes "cl") head then None else Some (place_of head)
 clause_fault other = Some (place_of other)
-
-abbrev pub behind_first : Items → Items
-behind_first no_items = no_items
-behind_first (item i rest) = rest
 
 -- The commands by what stands after their words. Each begins at this place, and one that lacks an item is faulty there.
 abbrev pub assume_shape : ℕ → Items → Result Command Refusal

@@ -9,7 +9,7 @@ use Rattle.problem_text.specs.Examples.{first_fault, items_in, script_in}
 use Rattle.problem_text.specs.Outcomes.{Outcome}
 use Rattle.alethe_text.specs.Commands.{command_of}
 use Rattle.alethe_text.specs.Coefficients.{coefficient_of, common_divisor, coefficients_from}
-use Rattle.alethe_text.specs.States.{ProofSettings, ProofState, unread, ◌>>=◌}
+use Rattle.alethe_text.specs.States.{ProofSettings, limited_proof, ProofState, unread, ◌>>=◌}
 use Rattle.alethe_text.specs.Ids.{standing_of, indices_of}
 use Rattle.alethe_text.specs.ProofTerms.{term_in, formula_in, formulas_in}
 use Rattle.alethe_text.specs.Arguments.{named_in, pivots_from, arguments_from}
@@ -34,7 +34,7 @@ proof_read settings problem text = proof_from settings (items_in text) (unread (
 
 -- lets are kept, and the proof is not strict
 abbrev pub usual : ProofSettings
-usual = record { replaces_lets = false; is_strict = false }
+usual = limited_proof false false
 
 -- the first fault of the commands of a text, and the proof for which it stands
 unfoldable pub first_fault_behind : List ℕ → List ℕ → Option Refusal
@@ -47,7 +47,7 @@ proof_behind problem text = read_value (proof_read usual problem text).result
 
 unfoldable pub strict : List ℕ → List ℕ → Option (Proof Var Term)
 unfolding proof_read
-strict problem text = read_value (proof_read (record { replaces_lets = false; is_strict = true }) problem text).result
+strict problem text = read_value (proof_read (limited_proof false true) problem text).result
 
 -- a step with an empty clause and nothing else
 abbrev pub plain_step : List ℕ → Rule → List ℕ → Step Term

@@ -10,3 +10,4 @@ pub mod Anchors
 pub mod ProofTexts
 pub mod Soundness
 pub mod Examples
+pub mod PrintedCommands

@@ -6,7 +6,7 @@ use Rattle.term_model.specs.declared.symbols.Sort.{Sort}
 use Rattle.term_model.specs.Terms.{Var, sort_eq, Term}
 use Rattle.rule_model.specs.Scopes.{Nesting}
 use Rattle.rule_model.specs.Visibility.{open_bindings}
-use Rattle.problem_text.specs.Limits.{limited}
+use Rattle.problem_text.specs.Limits.{Settings}
 use Rattle.problem_text.specs.Names.{Bound, Place, itself}
 use Rattle.problem_text.specs.Terms.{read_term}
 use Rattle.problem_text.specs.TypedTerms.{Typed}
@@ -16,8 +16,11 @@ use Rattle.alethe_text.specs.States.{ProofSettings, Reading, ◌>>=◌, give, de
 abbrev pub variables_in : Nesting Var Term → List Bound
 variables_in nesting = map (λ b. itself b.0) (reverse (open_bindings nesting))
 
+abbrev pub term_settings : ProofSettings → Settings
+term_settings settings = record { replaces_lets = settings.replaces_lets; limit = settings.limit }
+
 abbrev pub place_in : ProofSettings → Nesting Var Term → Place
-place_in settings nesting = record { scope = variables_in nesting; settings = limited settings.replaces_lets }
+place_in settings nesting = record { scope = variables_in nesting; settings = term_settings settings }
 
 -- an item in a term's place, in a scope
 unfoldable pub term_in : ProofSettings → Nesting Var Term → Item → Reading Typed

@@ -3,7 +3,7 @@ use Rattle.std.specs.Prelude.{◌≡◌, ℕ, Bool, true, false, if◌then◌els
 use Rattle.sexpr.specs.declared.causes.Cause.TheVariants.{BadCommand, BadAnchor}
 use Rattle.sexpr.specs.declared.causes.Refusal.{Refusal}
 use Rattle.sexpr.specs.Form.{IsFormFault}
-use Rattle.sexpr.specs.Items.{Item, word, quoted, string, list, Items, no_items, item, StandsForItems}
+use Rattle.sexpr.specs.Items.{Item, list, Items, no_items, item, StandsForItems}
 use Rattle.term_model.specs.Terms.{Var, Term}
 use Rattle.rule_model.specs.Proofs.{ProofItems as Proof}
 use Rattle.rule_model.specs.Scopes.{Nesting, outermost, inside}
@@ -36,11 +36,9 @@ behind_answer (item i rest) = if is_symbol_of (codes "unsat") i then rest else i
 
 -- The first item is a list of commands: it is empty, or begins with a list.
 abbrev pub is_list_of_commands : Item → Bool
-is_list_of_commands (word place spelling) = false
-is_list_of_commands (quoted place spelling) = false
-is_list_of_commands (string place spelling) = false
 is_list_of_commands (list place no_items) = true
 is_list_of_commands (list place (item head others)) = is_list_item head
+is_list_of_commands other = false
 
 -- The commands stand by themselves or in one list, and behind such a list stands nothing.
 abbrev pub unwrapped_commands : Items → Items

@@ -5,15 +5,21 @@ use Rattle.sexpr.specs.declared.causes.Refusal.{Refusal}
 use Rattle.term_model.specs.Terms.{Var, Term}
 use Rattle.rule_model.specs.Scopes.{Scope}
 use Rattle.rule_model.specs.Writing.{unwritten}
+use Rattle.problem_text.specs.Limits.{most_height}
 use Rattle.problem_text.specs.Outcomes as outcome
 use Rattle.problem_text.specs.Outcomes.{Outcome, and_then}
 use Rattle.problem_text.specs.Scripts.{Script}
 
--- Whether lets are replaced, and whether a proof in which nothing is left to find is read: then the arguments of resolution
--- are its pivots.
+-- Whether lets are replaced; the greatest height of a term and of an image, where heights are judged; and whether a proof in
+-- which nothing is left to find is read: then the arguments of resolution are its pivots.
 pub record ProofSettings : Type 0 where
   pub replaces_lets : Bool
+  pub limit : Option ℕ
   pub is_strict : Bool
+
+-- how the program reads a proof: nothing is higher than the limit
+abbrev pub limited_proof : Bool → Bool → ProofSettings
+limited_proof replaces_lets is_strict = record { replaces_lets = replaces_lets; limit = Some most_height; is_strict = is_strict }
 
 -- What the problem and the proof up to here declare, name and read; the proof as far as it is written; and the places of the
 -- anchors that are open, the outermost first.

@@ -63,8 +63,8 @@ attributes_read settings at (attribute ∷ others) step =
 abbrev pub without_closed : ProofState → Step Term → List ℕ
 without_closed s step = if is_open_id s.scope.nesting step.id then take (length s.anchors - 1) s.anchors else s.anchors
 
-abbrev pub with_step : Step Term → ProofState → ProofState
-with_step step s = record s { scope = take_step s.scope step; anchors = without_closed s step }
+abbrev pub step_taken : Step Term → ProofState → ProofState
+step_taken step s = record s { scope = take_step s.scope step; anchors = without_closed s step }
 
 -- the id, then the literals, then the attributes in the order of the text
 unfoldable pub step_read : ProofSettings → Name → Items → List Attribute → Reading ⊤
@@ -72,4 +72,4 @@ step_read settings n literals attributes = do
   at ← standing_of n
   clause ← formulas_in settings at.nesting literals
   step ← attributes_read settings at attributes (bare_step n.name (rule_word attributes) clause)
-  changed (with_step step)
+  changed (step_taken step)

@@ -13,3 +13,9 @@ pub mod ScopedScripts
 pub mod AlikeForms
 pub mod AlikeTerms
 pub mod ReadAgain
+pub mod OtherLimits
+pub mod PrintedForms
+pub mod PrintedSteps
+pub mod PrintedTerms
+pub mod PrintedSpelling
+pub mod PrintedNames

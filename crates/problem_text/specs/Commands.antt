@@ -29,9 +29,9 @@ abbrev pub refused : {A : Type 0} → Cause → ℕ → Result A Refusal
 refused cause place = Err (record { cause = cause; at = place })
 
 -- a command of the right shape, or the first place where it has another
-abbrev pub script_shaped : Option ℕ → ScriptCommand → Result ScriptCommand Refusal
-script_shaped (Some place) c = refused BadCommand place
-script_shaped None c = Ok c
+abbrev pub shaped : {C : Type 0} → Option ℕ → C → Result C Refusal
+shaped (Some place) c = refused BadCommand place
+shaped None c = Ok c
 
 abbrev pub numeral_fault : Item → Option ℕ
 numeral_fault (word place spelling) = if is_numeral spelling then None else Some place
@@ -51,38 +51,38 @@ parameters_fault other = Some (place_of other)
 
 -- The commands by what stands after their words. Each begins at this place, and one that lacks an item is faulty there.
 abbrev pub set_logic_shape : ℕ → Items → Result ScriptCommand Refusal
-set_logic_shape place (item logic rest) = script_shaped (option_or (symbol_fault logic) (excess rest)) (set_logic (name_at logic))
+set_logic_shape place (item logic rest) = shaped (option_or (symbol_fault logic) (excess rest)) (set_logic (name_at logic))
 set_logic_shape place _ = refused BadCommand place
 
 abbrev pub attribute_shape : ℕ → Items → Result ScriptCommand Refusal
-attribute_shape place (item keyword rest) = script_shaped (keyword_fault keyword) without_effect
+attribute_shape place (item keyword rest) = shaped (keyword_fault keyword) without_effect
 attribute_shape place _ = refused BadCommand place
 
 abbrev pub declare_sort_shape : ℕ → Items → Result ScriptCommand Refusal
 declare_sort_shape place (item name (item arity rest)) =
-    script_shaped (option_or (symbol_fault name) (option_or (numeral_fault arity) (excess rest)))
+    shaped (option_or (symbol_fault name) (option_or (numeral_fault arity) (excess rest)))
     (declare_sort (name_at name) (place_of arity) (value_of_numeral arity))
 declare_sort_shape place _ = refused BadCommand place
 
 abbrev pub declare_fun_shape : ℕ → Items → Result ScriptCommand Refusal
 declare_fun_shape place (item name (item sorts (item target rest))) =
-    script_shaped (option_or (symbol_fault name) (option_or (list_fault sorts) (excess rest)))
+    shaped (option_or (symbol_fault name) (option_or (list_fault sorts) (excess rest)))
     (declare_fun (name_at name) (items_of sorts) target)
 declare_fun_shape place _ = refused BadCommand place
 
 abbrev pub declare_const_shape : ℕ → Items → Result ScriptCommand Refusal
 declare_const_shape place (item name (item target rest)) =
-    script_shaped (option_or (symbol_fault name) (excess rest)) (declare_fun (name_at name) no_items target)
+    shaped (option_or (symbol_fault name) (excess rest)) (declare_fun (name_at name) no_items target)
 declare_const_shape place _ = refused BadCommand place
 
 abbrev pub define_fun_shape : ℕ → Items → Result ScriptCommand Refusal
 define_fun_shape place (item name (item parameters (item target (item body rest)))) =
-    script_shaped (option_or (symbol_fault name) (option_or (parameters_fault parameters) (excess rest)))
+    shaped (option_or (symbol_fault name) (option_or (parameters_fault parameters) (excess rest)))
     (define_fun (name_at name) (items_of parameters) target body)
 define_fun_shape place _ = refused BadCommand place
 
 abbrev pub assert_shape : ℕ → Items → Result ScriptCommand Refusal
-assert_shape place (item t rest) = script_shaped (excess rest) (assert_term t)
+assert_shape place (item t rest) = shaped (excess rest) (assert_term t)
 assert_shape place _ = refused BadCommand place
 
 -- The command of this word, whose place is the second. No assertion is read after a check.
@@ -95,9 +95,9 @@ script_command_named checked place word_place name items =
     else if bytes_eq name (codes "declare-sort") then declare_sort_shape place items
     else if bytes_eq name (codes "set-logic") then set_logic_shape place items
     else if is_among (codes "set-info" ∷ codes "set-option" ∷ []) name then attribute_shape place items
-    else if bytes_eq name (codes "check-sat") then script_shaped (excess items) check_sat
-    else if is_among (codes "get-proof" ∷ codes "get-unsat-core" ∷ []) name then script_shaped (excess items) without_effect
-    else if bytes_eq name (codes "exit") then script_shaped (excess items) exit
+    else if bytes_eq name (codes "check-sat") then shaped (excess items) check_sat
+    else if is_among (codes "get-proof" ∷ codes "get-unsat-core" ∷ []) name then shaped (excess items) without_effect
+    else if bytes_eq name (codes "exit") then shaped (excess items) exit
     else if is_among left_out_commands name then refused LeftOut word_place
     else refused UnknownCommand word_place
 

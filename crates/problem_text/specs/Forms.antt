@@ -120,10 +120,8 @@ unfoldable mutual
 
   -- what the list of a let's bindings spells, where it has that shape
   pub binds_of : Item → LetBinds
-  binds_of (word place spelling) = no_binds
-  binds_of (quoted place spelling) = no_binds
-  binds_of (string place spelling) = no_binds
   binds_of (list place items) = binds_in items
+  binds_of other = no_binds
 
   pub binds_in : Items → LetBinds
   binds_in no_items = no_binds

@@ -13,4 +13,5 @@ pub mod Problems
 pub mod Soundness
 pub mod Alike
 pub mod Remembered
+pub mod PrintedTerms
 pub mod Examples

@@ -14,3 +14,6 @@ pub mod ReadingBack
 pub mod FineBytes
 pub mod MovedTokens
 pub mod MovedItems
+pub mod PrintedTokens
+pub mod PrintedItems
+pub mod PrintedNumerals

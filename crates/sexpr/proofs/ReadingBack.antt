@@ -30,7 +30,7 @@ between name =
     ap (λ k. take k (name ++ 124 ∷ [])) n ∙ take-append_seam name (124 ∷ [])
 
 -- with the kind and the text that are printed of a plain symbol word, and of any other
-abbrev ReadsBackAs : List ℕ → TokenKind → List ℕ → Type 0
+abbrev pub ReadsBackAs : List ℕ → TokenKind → List ℕ → Type 0
 ReadsBackAs name kind text = IsSpelling kind text × (name_spelled kind text ≡ Some name)
 
 plain_reads_back : (name : List ℕ) → is_symbol name ≡ true → list_all is_word_byte name ≡ true → ReadsBackAs name Word name
@@ -39,7 +39,7 @@ plain_reads_back name symbol bytes = (symbol_is_word name symbol bytes, ap (λ p
 quoted_reads_back : (name : List ℕ) → AllPass is_between_bars name → ReadsBackAs name Quoted (124 ∷ (name ++ 124 ∷ []))
 quoted_reads_back name inside = (record { inside = name; in_bars = refl; is_inside = inside }, ap Some (between name))
 
-reads_back_as : (name : List ℕ) → AllPass is_between_bars name → (plain : Bool) → is_plain_symbol name ≡ plain
+pub reads_back_as : (name : List ℕ) → AllPass is_between_bars name → (plain : Bool) → is_plain_symbol name ≡ plain
     → ReadsBackAs name (if plain then Word else Quoted) (if plain then name else (124 ∷ (name ++ 124 ∷ [])))
 reads_back_as name inside true e = let both = and_parts (is_symbol name) (list_all is_word_byte name) e in plain_reads_back name both.0 both.1
 reads_back_as name inside false e = quoted_reads_back name inside

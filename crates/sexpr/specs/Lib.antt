@@ -12,3 +12,4 @@ pub mod Items
 pub mod Source
 pub mod Spans
 pub mod Printing
+pub mod Printed

@@ -1,10 +1,14 @@
 //! Laws about the definitions, each the contract of a function with an empty body.
-ghost use Rattle.std.specs.Prelude.{◌≡◌, ◌↔◌, ◌<◌, ◌≤◌, ℕ, List, [], length, drop, slice_range, Ok, Some, None};
+ghost use Rattle.std.specs.Prelude.{◌≡◌, ◌↔◌, ◌<◌, ◌≤◌, ◌^◌, ℕ, List, [], length, drop, slice_range, decimal, Ok, Some, None};
+ghost use Rattle.std.specs.List.{AllPass};
 ghost use Rattle.sexpr.specs.declared.causes.Refusal.{Refusal};
 ghost use Rattle.sexpr.specs.declared.lexing.Token.{Token};
+ghost use Rattle.sexpr.specs.declared.lexing.TokenKind.TheVariants.{Word};
+ghost use Rattle.sexpr.specs.Characters.{is_between_bars};
 ghost use Rattle.sexpr.specs.Form.{HasForm, IsFormFault};
-ghost use Rattle.sexpr.specs.Grammar.{IsSpelledNext, SkipsTo};
+ghost use Rattle.sexpr.specs.Grammar.{IsSpelling, IsSpelledNext, SkipsTo};
 ghost use Rattle.sexpr.specs.Items.{Item, list, Items, IsItem, StandsForItems};
+ghost use Rattle.sexpr.specs.Printed.{AreSpelledItems, printed_lines, placed_lines, IsSymbolItem};
 ghost use Rattle.sexpr.specs.Spans.{AreAlike, IsListAt};
 ghost use Rattle.sexpr.specs.Tokens.{next_token};
 
@@ -36,4 +40,13 @@ pub fn faults_are_unique()
 pub fn lists_are_their_bytes()
     ensures { (text other : List ℕ) (at end to stop : ℕ) (is js : Items) → IsListAt text at end is → IsListAt other to stop js →
         slice_range text at end ≡ slice_range other to stop → AreAlike (list at is) (list to js) }
+{}
+
+/// Items that are printed with single spaces, each of a text on a line of its own, are read back where they are printed. Symbols
+/// are printed so that they have their names, and numerals are words.
+pub fn printed_items_are_read_back()
+    ensures items { (items : Items) → AreSpelledItems items → StandsForItems (printed_lines items) (placed_lines 0 [] items) }
+    ensures form { (items : Items) → AreSpelledItems items → HasForm (printed_lines items) }
+    ensures symbol { (name : List ℕ) → AllPass is_between_bars name → IsSymbolItem name }
+    ensures numeral { (n : ℕ) → n < 10 ^ 64 → IsSpelling Word (decimal n) }
 {}

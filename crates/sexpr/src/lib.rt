@@ -17,7 +17,9 @@ mod words;
 
 pub use brackets::form;
 pub use causes::{Cause, Refusal, cause_text};
-pub use laws::{faults_are_unique, items_are_unique, tokens_are_spelled};
+pub use laws::{
+    faults_are_unique, items_are_unique, printed_items_are_read_back, tokens_are_spelled,
+};
 pub use lexing::{Lexer, Token, TokenKind};
 pub use printing::{is_plain_symbol, print_symbol, printed_symbols_are_read_back};
 pub use words::{WordKind, symbol_name, word_kind};

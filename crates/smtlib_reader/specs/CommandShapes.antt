@@ -10,7 +10,7 @@ use Rattle.smtlib_reader.specs.declared.command_words.CommandWord.{CommandWord}
 use Rattle.problem_text.specs.Words.{is_among, left_out_commands}
 use Rattle.text_items.specs.ItemShapes.{excess, pairs_fault}
 use Rattle.problem_text.specs.Commands.{ScriptCommand as Shape, set_logic, without_effect, declare_sort, declare_fun, define_fun, assert_term, check_sat}
-use Rattle.problem_text.specs.Commands.{exit, refused, script_shaped, assert_shape, declare_fun_shape, declare_const_shape, define_fun_shape}
+use Rattle.problem_text.specs.Commands.{exit, refused, shaped, assert_shape, declare_fun_shape, declare_const_shape, define_fun_shape}
 use Rattle.problem_text.specs.Commands.{declare_sort_shape, set_logic_shape, attribute_shape, value_of_numeral}
 use Rattle.text_items.specs.ItemsAt.{ItemsView, item_at, items_at}
 use Rattle.text_items.specs.Stepping.{IsSymbolAt, name_in}
@@ -88,9 +88,9 @@ script_command_so CommandWord.DefineFun checked place word_place items = define_
 script_command_so CommandWord.DeclareSort checked place word_place items = declare_sort_shape place items
 script_command_so CommandWord.SetLogic checked place word_place items = set_logic_shape place items
 script_command_so CommandWord.Attribute checked place word_place items = attribute_shape place items
-script_command_so CommandWord.CheckSat checked place word_place items = script_shaped (excess items) check_sat
-script_command_so CommandWord.Question checked place word_place items = script_shaped (excess items) without_effect
-script_command_so CommandWord.Exit checked place word_place items = script_shaped (excess items) exit
+script_command_so CommandWord.CheckSat checked place word_place items = shaped (excess items) check_sat
+script_command_so CommandWord.Question checked place word_place items = shaped (excess items) without_effect
+script_command_so CommandWord.Exit checked place word_place items = shaped (excess items) exit
 script_command_so CommandWord.LeftOut checked place word_place items = refused LeftOut word_place
 script_command_so CommandWord.Unknown checked place word_place items = refused UnknownCommand word_place
 

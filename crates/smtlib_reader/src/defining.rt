@@ -242,7 +242,7 @@ fn add_parameter(
     let name = name_of(items, parameter.name);
     let leaf = symbols.variable(name, parameter.sort)?;
     // There are few enough leaves for a reference.
-    let _leaves = symbols.count();
+    symbols.leaves_differ();
     let value = Value {
         term: Ref::leaf(leaf),
         sort: parameter.sort,

@@ -70,7 +70,7 @@ fn declared_sort(name: &[u8], place: u64, symbols: &Symbols) -> Result<Sort, Ref
     ensures { result ≡ spec.declared_sort place (position (bytes_eq name.now) symbols.now.sorts) }
 {
     // The names of declared sorts differ, which `count` says, so the one that is found is the first of its name.
-    let _leaves = symbols.count();
+    symbols.leaves_differ();
     match symbols.find_sort(name) {
         Some(sort) => Ok(sort),
         None => Err(refused(Cause::UnknownName, place)),

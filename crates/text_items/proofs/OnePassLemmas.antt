@@ -3,7 +3,7 @@ use Rattle.std.proofs.Common.{◌≡◌, ℕ, Bool, true, false, not, ◌&&◌, 
 use Rattle.std.specs.Option.{option_or}
 use Rattle.sexpr.specs.Items.{Item, Items, no_items, item}
 use Rattle.text_items.specs.ItemShapes.{excess}
-use Rattle.text_items.specs.Keywords.{Known, from_word, behind, is_it, keyword_of, first_of, second_of, earlier, repeated, lacks_keyword, misplaced, next_fault, after_item, at_end, is_value, word_next, attributes_fault}
+use Rattle.text_items.specs.Keywords.{Known, from_word, behind_first, is_it, keyword_of, first_of, second_of, earlier, repeated, lacks_keyword, misplaced, next_fault, after_item, at_end, is_value, word_next, attributes_fault}
 use Rattle.text_items.specs.OnePass.{marked, is_again, lacks_still, repeated_still, fault_still, AreMarked, IsPassed}
 use Rattle.text_items.specs.declared.keywords.Next.{Next}
 use Rattle.text_items.proofs.ShapeLemmas.{passed}
@@ -59,7 +59,7 @@ module _ (i : Item) (others : Items) where
   lacks_one needed false false name = refl
 
   repeated_one : (once stood here : Bool) (name : List ℕ) → once && stood && here ≡ false
-      → (if once then (if stood then excess (if here then item i others else from_word name others) else first_of name (behind (if here then item i others else from_word name others))) else None)
+      → (if once then (if stood then excess (if here then item i others else from_word name others) else first_of name (behind_first (if here then item i others else from_word name others))) else None)
       ≡ (if once then (if stood || here then first_of name others else second_of name others) else None)
   repeated_one false stood here name h = refl
   repeated_one true true true name h = cc
@@ -90,7 +90,7 @@ module _ (i : Item) (others : Items) where
   abbrev one : List ℕ → Bool → Bool → Option (List ℕ) → Option ℕ
   one name once stood x =
       if once
-      then (if stood then excess (if is_it name x then item i others else from_word name others) else first_of name (behind (if is_it name x then item i others else from_word name others)))
+      then (if stood then excess (if is_it name x then item i others else from_word name others) else first_of name (behind_first (if is_it name x then item i others else from_word name others)))
       else None
 
   repeated_word : (known : List Known) (name : List ℕ) (stood : List Bool) → keyword_of i ≡ Some name → is_again known name stood ≡ false

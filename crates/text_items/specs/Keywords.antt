@@ -3,7 +3,7 @@
 use Rattle.std.specs.Prelude.{ℕ, nat_le, Bool, true, false, not, ◌&&◌, ◌||◌, if◌then◌else◌, List, [], ◌∷◌, bytes_eq, find, Option, Some, None, is_some}
 use Rattle.std.specs.Option.{option_or}
 use Rattle.sexpr.specs.Words.{is_keyword}
-use Rattle.sexpr.specs.Items.{Item, word, quoted, string, list, Items, no_items, item, place_of}
+use Rattle.sexpr.specs.Items.{Item, word, list, Items, no_items, item, place_of}
 use Rattle.text_items.specs.declared.keywords.Wanted.{Wanted}
 use Rattle.text_items.specs.declared.keywords.Next.{Next}
 use Rattle.text_items.specs.declared.keywords.Keyword.{Keyword}
@@ -23,9 +23,7 @@ known_of k = record { spelling = k.spelling.now; wants = k.wants; once = k.once;
 -- the spelling of a keyword
 abbrev pub keyword_of : Item → Option (List ℕ)
 keyword_of (word place spelling) = if is_keyword spelling then Some spelling else None
-keyword_of (quoted place spelling) = None
-keyword_of (string place spelling) = None
-keyword_of (list place items) = None
+keyword_of other = None
 
 abbrev pub list_fault : Item → Option ℕ
 list_fault (list place items) = None
@@ -77,9 +75,8 @@ at_end known next no_items = next
 at_end known next (item i rest) = at_end known (after_item known i) rest
 
 abbrev pub is_value : Next → Bool
-is_value Next.Word = false
-is_value Next.Anything = false
 is_value (Next.Value wants) = true
+is_value other = false
 
 -- the item is this keyword
 abbrev pub is_it : List ℕ → Option (List ℕ) → Bool
@@ -95,16 +92,16 @@ from_word name no_items = no_items
 from_word name (item i rest) = if is_spelled name i then item i rest else from_word name rest
 
 -- those behind the first item
-abbrev pub behind : Items → Items
-behind no_items = no_items
-behind (item i rest) = rest
+abbrev pub behind_first : Items → Items
+behind_first no_items = no_items
+behind_first (item i rest) = rest
 
 -- the place of a keyword that stands among these items, the first time and the second
 abbrev pub first_of : List ℕ → Items → Option ℕ
 first_of name items = excess (from_word name items)
 
 abbrev pub second_of : List ℕ → Items → Option ℕ
-second_of name items = first_of name (behind (from_word name items))
+second_of name items = first_of name (behind_first (from_word name items))
 
 -- of two places the one that comes first in the text
 abbrev pub earlier : Option ℕ → Option ℕ → Option ℕ

@@ -1,6 +1,0 @@
-use Rattle.std.proofs.Common.{sym, ◌∙◌}
-use Rattle.alethe_items.proofs.ItemsApart.{no_fault}
-use Rattle.alethe_items.proofs.items.skip_answer.Goals as goal
-
-pub unreachable-requires : goal.unreachable-requires
-unreachable-requires c = let (items, h) = c.requires in no_fault _ _ _ items _ _ (sym c.next.ensures.exact ∙ c.in_default.is) h

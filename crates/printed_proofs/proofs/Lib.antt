@@ -1,0 +1,4 @@
+mod PrintedIds
+mod NumberedScopes
+mod NumberedCommands
+mod PrintedArguments

@@ -1,0 +1,80 @@
+//! Laws of the definitions. The functions do nothing: their contracts are the laws.
+ghost use Rattle.std.specs.Prelude.{◌≡◌, ◌<◌, ◌≤◌, ◌^◌, ℕ, true, List, [], ◌∷◌, map, Some, None, if◌then◌else◌};
+ghost use Rattle.std.specs.List.{AllByRecursion};
+ghost use Rattle.sexpr.specs.Items.{Item, Items, no_items};
+ghost use Rattle.sexpr.specs.Printed.{IsSymbolItem, AreSpelledItems, printed_lines};
+ghost use Rattle.term_model.specs.Terms.{Var, Term};
+ghost use Rattle.rule_model.specs.Proofs.{Step, ProofItems, with_subproof};
+ghost use Rattle.rule_model.specs.RuleNames.{rule_named};
+ghost use Rattle.rule_model.specs.Scopes.{Anchor, Nesting, outermost, Scope, at, inner, next_index};
+ghost use Rattle.rule_model.specs.WellFormed.{MayStand, MayClose};
+ghost use Rattle.rule_model.specs.Writing.{unwritten, add_assume, add_step, open_anchor};
+ghost use Rattle.problem_text.specs.Scripts.{Script, with_term};
+ghost use Rattle.alethe_text.specs.Anchors.{image_of};
+ghost use Rattle.alethe_text.specs.Arguments.{takes_coefficients, takes_pivots};
+ghost use Rattle.alethe_text.specs.PrintedCommands.{assume_item, step_item, anchor_item, ArgumentItems, argument_items};
+ghost use Rattle.alethe_text.specs.PrintedCommands.{IsFormulaItem, AreFormulaItems, IsArgumentItem, AreArgumentItems, BeginsAsProof};
+ghost use Rattle.alethe_text.specs.PrintedCommands.{Leads, LeadAll};
+ghost use Rattle.alethe_text.specs.ProofTexts.{StandsForProof};
+ghost use Rattle.alethe_text.specs.States.{ProofSettings};
+ghost use Rattle.printed_proofs.specs.Numbered.{printed_id, numbered_proof, numbered_nesting, numbered_scope, CloseEach, AreBehind};
+ghost use Rattle.printed_proofs.specs.Arguments.{PivotItem, pivot_items, ArePivotItems, BindsAs};
+ghost use Rattle.printed_proofs.specs.Printing.{written, printed_step, HasParts};
+
+/// A command that is printed with its number as its id, and with its premises by theirs, adds itself to what is written: an assume, a
+/// step, and a step that closes its scope. Anchors have the number of their closing step.
+pub fn numbered_commands_are_read_back()
+    ensures assumes { (settings : ProofSettings) (closings : List ℕ) (scope : Scope Var Term) (id : List ℕ) (t : Term) (i : Item)
+        (before after : Script) → CloseEach closings scope.nesting → AreBehind (next_index scope) closings → next_index scope < 2 ^ 32 →
+        IsFormulaItem settings (numbered_nesting closings scope.nesting) i before t after →
+        Leads settings (assume_item (printed_id (next_index scope)) i) (written before closings scope)
+        (written after closings (add_assume scope id t)) }
+    ensures steps { (settings : ProofSettings) (closings : List ℕ) (scope : Scope Var Term) (s : Step Term) (literals arguments : Items)
+        (before after : Script) → CloseEach closings scope.nesting → AreBehind (next_index scope) closings → next_index scope < 2 ^ 32 →
+        MayStand scope.nesting scope.items s →
+        HasParts settings (numbered_nesting closings scope.nesting) (next_index scope) s literals arguments before after →
+        Leads settings (step_item (printed_step (next_index scope) s literals arguments)) (written before closings scope)
+        (written after closings (add_step scope s)) }
+    ensures closings { (settings : ProofSettings) (closings : List ℕ) (around : Nesting Var Term) (items_before : ProofItems Var Term)
+        (bindings : List (Var × Term)) (items : ProofItems Var Term) (s : Step Term) (literals arguments : Items) (before after : Script) →
+        CloseEach closings around → AreBehind (next_index (at (inner around items_before bindings s) items)) closings →
+        next_index (at (inner around items_before bindings s) items) < 2 ^ 32 →
+        MayClose around items_before (inner around items_before bindings s) items s →
+        HasParts settings (numbered_nesting closings around) (next_index (at (inner around items_before bindings s) items)) s literals
+        arguments before after →
+        Leads settings (step_item (printed_step (next_index (at (inner around items_before bindings s) items)) s literals arguments))
+        (written before (next_index (at (inner around items_before bindings s) items) ∷ closings)
+        (at (inner around items_before bindings s) items))
+        (written after closings (at around (with_subproof items_before bindings items s))) }
+    ensures anchors { (settings : ProofSettings) (closings : List ℕ) (scope : Scope Var Term) (anchor : Anchor Var Term) (closing : ℕ)
+        (xs : List ArgumentItems) (before after : Script) → CloseEach closings scope.nesting → next_index scope ≤ closing →
+        closing < 2 ^ 32 → AreBehind closing closings → AllByRecursion (λ x. IsSymbolItem x.name) xs →
+        AreArgumentItems settings (numbered_scope closings scope) [] xs before anchor.bindings after →
+        Leads settings (anchor_item (printed_id closing) (argument_items xs)) (written before closings scope)
+        (written after (closing ∷ closings) (open_anchor scope anchor)) }
+{}
+
+/// Where the printed commands of a proof lead to its whole, the text stands for the proof with its ids numbered.
+pub fn numbered_texts_are_read_back()
+    ensures { (settings : ProofSettings) (before after : Script) (items : Items) (proof : ProofItems Var Term) → AreSpelledItems items →
+        BeginsAsProof items →
+        LeadAll settings items (record { script = before; scope = unwritten }) (written after [] (at outermost proof)) →
+        StandsForProof (printed_lines items) settings before (numbered_proof proof) after }
+{}
+
+/// The parts of a step: one without arguments is known by its clause and its premises; the arguments of a strict resolution are its
+/// pivots. So are those of an anchor: each variable is read with its sort and its term.
+pub fn parts_are_read_back()
+    ensures plain { (settings : ProofSettings) (nesting : Nesting Var Term) (index : ℕ) (s : Step Term) (literals : Items)
+        (before after : Script) → s.rule ≡ rule_named s.rule_name →
+        s.ratios ≡ (if takes_coefficients s.rule then Some [] else None) → s.pivots ≡ [] →
+        AreFormulaItems settings nesting literals before s.clause after → HasParts settings nesting index s literals no_items before after }
+    ensures resolution { (settings : ProofSettings) (nesting : Nesting Var Term) (index : ℕ) (s : Step Term) (literals : Items)
+        (ps : List PivotItem) (before middle after : Script) → settings.is_strict ≡ true → takes_pivots s.rule ≡ true →
+        s.rule ≡ rule_named s.rule_name → s.ratios ≡ None → map (λ p. p.pivot) ps ≡ s.pivots →
+        AreFormulaItems settings nesting literals before s.clause middle → ArePivotItems settings nesting ps middle after →
+        HasParts settings nesting index s literals (pivot_items ps) before after }
+    ensures variables { (settings : ProofSettings) (scope : Scope Var Term) (earlier : List (List ℕ)) (x : ArgumentItems) (s : Script)
+        (b : Var × Term) (u : Script) → settings.limit ≡ None → BindsAs settings scope earlier x s b u →
+        IsArgumentItem settings scope earlier x s b (with_term (image_of scope.nesting b.1) u) }
+{}
