@@ -10,11 +10,12 @@ use Rattle.term_pool.specs.Bindings.{IsBindingOf}
 use Rattle.term_pool.specs.Views.{TermsView, KeepsPass, KeepsTerms}
 use Rattle.contexts.specs.declared.frames.Frame.{Frame}
 use Rattle.contexts.specs.declared.kept.Substitution.{Substitution}
-use Rattle.contexts.specs.Becoming.{Look}
+use Rattle.contexts.specs.Becoming.{Look, look_of}
 use Rattle.contexts.specs.Firsts.{first_for}
 use Rattle.contexts.specs.Frames.{PutsBack, frames_in_front, IsFrame, AreRightFrames}
 use Rattle.contexts.specs.Kept.{IsRight}
 use Rattle.contexts.specs.PutIn.{StandForReplacement, joined}
+use Rattle.contexts.proofs.ClosedLemmas.{closed_later}
 use Rattle.contexts.proofs.Keeping.{walked_later}
 
 -- one leaf more
@@ -90,6 +91,7 @@ right_stays v w x k h = record {
   images = h.images;
   here = frame_later v.pass w.pass k.pass (joined (frames_in_front [] x.around.items)) x.here h.here;
   around = frames_later v.pass w.pass k.pass [] x.around.items h.around;
+  closed = closed_later v.pass w.pass k.pass (look_of x.images) x.closed h.closed;
 }
 
 pub bindings_stay : (s : Table) (v w : TermsView) (bs : List (ℕ × ℕ)) (q : Replacement) → KeepsTerms v w → StandForReplacement s v bs q → StandForReplacement s w bs q

@@ -4,13 +4,16 @@ use Rattle.std.specs.HashMap.{get}
 use Rattle.pair_pool.specs.Trees.{Tree}
 use Rattle.pair_pool.specs.Views.{PassView, Knows, IsOneToOne, HasPartsOfTrees}
 use Rattle.term_pool.specs.Views.{KeepsPass}
+use Rattle.contexts.specs.declared.closed.Closed.{Closed}
 use Rattle.contexts.specs.declared.memo.Memo.{Memo}
 use Rattle.contexts.specs.declared.places.Place.{Place}
 use Rattle.contexts.specs.declared.places.Place.TheVariants.{Term}
 use Rattle.contexts.specs.Becoming.{becomes, Images, IsImageAt, AreImages, HasImages, Look, look_of}
+use Rattle.contexts.specs.Closed.{found_for, IsClosedFor}
 use Rattle.contexts.specs.Layers.{shadowed}
 use Rattle.contexts.specs.Places.{Lists, IsMemory, IsReady, IsWalked, leaf_there}
 use Rattle.contexts.specs.Remembering.{remembered, RemembersNoMore}
+use Rattle.contexts.proofs.ClosedLemmas.{found_none}
 use Rattle.contexts.proofs.Visiting.{looked, unseen_high}
 use Rattle.contexts.proofs.Walking.{images_later}
 
@@ -77,14 +80,14 @@ no_some None h = refl
 no_some (Some x) h = absurd (h x refl)
 
 -- the root is looked up
-module _ (p : PassView) (images : Images) (lists : Lists) (memo : Memo) (r : ℕ) (found : Option ℕ) (low : r < 2 ^ 30 → found ≡ Some (leaf_there images lists (Term r 0))) (high : 2 ^ 30 ≤ r → found ≡ remembered memo (Term r 0)) where
+module _ (p : PassView) (images : Images) (lists : Lists) (memo : Memo) (closed : Closed) (r : ℕ) (found : Option ℕ) (low : r < 2 ^ 30 → found ≡ Some (leaf_there images lists (Term r 0))) (high : 2 ^ 30 ≤ r → found ≡ found_for closed memo (Term r 0)) where
   pub none_high : found ≡ None → 2 ^ 30 ≤ r
   none_high e = unseen_high r found _ low e
 
   pub none_unmet : found ≡ None → remembered memo (Term r 0) ≡ None
-  none_unmet e = sym (high (none_high e)) ∙ e
+  none_unmet e = found_none closed memo (Term r 0) (sym (high (none_high e)) ∙ e)
 
-  pub found_done : IsOneToOne p → HasPartsOfTrees p → IsWalked p (look_of images) lists memo → (d : ℕ) → found ≡ Some d → (f : ℕ → Tree) (t : Tree) → AreImages p images f → Knows p r t → Knows p d (becomes f [] t)
-  found_done one parts h d e f t are known =
+  pub found_done : IsOneToOne p → HasPartsOfTrees p → IsClosedFor p (look_of images) closed → IsWalked p (look_of images) lists memo → (d : ℕ) → found ≡ Some d → (f : ℕ → Tree) (t : Tree) → AreImages p images f → Knows p r t → Knows p d (becomes f [] t)
+  found_done one parts marks h d e f t are known =
       subst (λ (hidden : List ℕ). Knows p d (becomes f hidden t)) h.first
-      (looked p one parts images lists memo f are (right_for p one images lists memo h f are) (Term r 0) found d low high e t known)
+      (looked p one parts images lists memo closed marks f are (right_for p one images lists memo h f are) (Term r 0) found d low high e t known)

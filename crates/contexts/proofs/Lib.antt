@@ -3,6 +3,7 @@ pub mod Sets
 pub mod NumberedLists
 pub mod HidingLeaves
 pub mod Agreeing
+pub mod ClosedLemmas
 pub mod Standing
 pub mod CellBuilding
 pub mod Visiting
@@ -17,5 +18,6 @@ mod TestTerms
 pub mod Keeping
 pub mod FrameLemmas
 pub mod KeptFrames
+pub mod Scanning
 pub mod FoundImages
 pub mod SlotLemmas

@@ -10,18 +10,21 @@ use Rattle.term_pool.specs.Heights.{is_let_head}
 use Rattle.term_pool.specs.Trees.{IsPartOf, depth, pair_leaves}
 use Rattle.term_pool.specs.Views.{IsKnownCell}
 use Rattle.term_pool.specs.declared.stop.TermStop.{TermStop}
+use Rattle.contexts.specs.declared.closed.Closed.{Closed}
 use Rattle.contexts.specs.declared.memo.Memo.{Memo}
 use Rattle.contexts.specs.declared.places.Place.{Place}
 use Rattle.contexts.specs.declared.places.Place.TheVariants.{Term, Bindings}
 use Rattle.contexts.specs.declared.places.Visit.{Visit}
 use Rattle.contexts.specs.declared.places.Visit.TheVariants.{Part, Done}
-use Rattle.contexts.specs.Becoming.{image, becomes, bindings_become, Images, IsImageAt, AreImages}
+use Rattle.contexts.specs.Becoming.{image, becomes, bindings_become, Images, IsImageAt, AreImages, look_of}
+use Rattle.contexts.specs.Closed.{is_closed, found_for, IsClosedFor}
 use Rattle.contexts.specs.Hiding.{Hides}
 use Rattle.contexts.specs.Layers.{shadowed, KeepsLayers}
 use Rattle.contexts.specs.Places.{Lists, layer_of, HasPlaceShape, becomes_there, IsSpot, image_of_leaf, leaf_there, other, IsMemory, IsUnder, HasDone, PlacesImage, LacksRoomForImage, IsReady, Visits, HasLetHead}
 use Rattle.contexts.specs.Remembering.{reference_of, remembered}
 use Rattle.contexts.specs.Shapes.{HasShape, HasLetShape, HasListShape, IsShaped, IsLetRest, IsBindingList}
 use Rattle.contexts.proofs.Agreeing.{becomes_agree}
+use Rattle.contexts.proofs.ClosedLemmas.{closed_same, found_none}
 use Rattle.term_pool.proofs.Keeping.{placed-none}
 use Rattle.term_pool.proofs.Depth.{is_cell}
 use Rattle.contexts.proofs.References.{from_true, from_false}
@@ -50,22 +53,35 @@ image_known p images f are hidden k itself = go (list_any (nat_eq k) hidden) (ge
     go false None at = subst (Knows p k) (sym at) itself
     go false (Some r) at = at
 
-pub looked : (p : PassView) → IsOneToOne p → HasPartsOfTrees p → (images : Images) (lists : Lists) (memo : Memo) (f : ℕ → Tree) → AreImages p images f → IsMemory p f lists memo → (place : Place) (found : Option ℕ) (d : ℕ) → (reference_of place < 2 ^ 30 → found ≡ Some (leaf_there images lists place)) → (2 ^ 30 ≤ reference_of place → found ≡ remembered memo place) → found ≡ Some d → (t : Tree) → Knows p (reference_of place) t → Knows p d (becomes_there f lists place t)
-looked p one parts images lists memo f are right (Term r layer) found d low high e (leaf k) known =
+at_memory : (p : PassView) → IsOneToOne p → (f : ℕ → Tree) (lists : Lists) (memo : Memo) → IsMemory p f lists memo → (place : Place) (d : ℕ) → remembered memo place ≡ Some d → (t : Tree) → Knows p (reference_of place) t → Knows p d (becomes_there f lists place t)
+at_memory p one f lists memo right place d e t known =
+    let m = right place d e in
+    subst (λ x. Knows p d (becomes_there f lists place x)) (one.one_tree (reference_of place) m.tree t m.known known) m.is
+
+pub looked : (p : PassView) → IsOneToOne p → HasPartsOfTrees p → (images : Images) (lists : Lists) (memo : Memo) (closed : Closed) → IsClosedFor p (look_of images) closed → (f : ℕ → Tree) → AreImages p images f → IsMemory p f lists memo → (place : Place) (found : Option ℕ) (d : ℕ) → (reference_of place < 2 ^ 30 → found ≡ Some (leaf_there images lists place)) → (2 ^ 30 ≤ reference_of place → found ≡ found_for closed memo place) → found ≡ Some d → (t : Tree) → Knows p (reference_of place) t → Knows p d (becomes_there f lists place t)
+looked p one parts images lists memo closed marks f are right (Term r layer) found d low high e (leaf k) known =
     let n = parts.leaf_number r k known in
     let less : r < 2 ^ 30 = omega (arith, n.0, n.1) in
     let is = same_some (sym (low less) ∙ e) in
     subst (λ x. Knows p x (image f (shadowed lists layer) k)) is
     (subst (λ j. Knows p (image_of_leaf images (shadowed lists layer) j) (image f (shadowed lists layer) k)) (sym n.0)
     (image_known p images f are (shadowed lists layer) k (subst (λ j. Knows p j (leaf k)) n.0 known)))
-looked p one parts images lists memo f are right (Bindings r layer) found d low high e (leaf k) known =
+looked p one parts images lists memo closed marks f are right (Bindings r layer) found d low high e (leaf k) known =
     let n = parts.leaf_number r k known in
     let less : r < 2 ^ 30 = omega (arith, n.0, n.1) in
     subst (λ x. Knows p x (leaf k)) (same_some (sym (low less) ∙ e)) known
-looked p one parts images lists memo f are right place found d low high e (cell a b) known =
-    let above : 2 ^ 30 ≤ reference_of place = one.high (reference_of place) a b known in
-    let m = right place d (sym (high above) ∙ e) in
-    subst (λ x. Knows p d (becomes_there f lists place x)) (one.one_tree (reference_of place) m.tree (cell a b) m.known known) m.is
+looked p one parts images lists memo closed marks f are right (Bindings r layer) found d low high e (cell a b) known =
+    let above : 2 ^ 30 ≤ r = one.high r a b known in
+    at_memory p one f lists memo right (Bindings r layer) d (sym (high above) ∙ e) (cell a b) known
+looked p one parts images lists memo closed marks f are right (Term r layer) found d low high e (cell a b) known =
+    let above : 2 ^ 30 ≤ r = one.high r a b known in
+    go (is_closed closed r) refl (sym (high above) ∙ e)
+  where
+    go : (t : Bool) → is_closed closed r ≡ t → (if t then Some r else remembered memo (Term r layer)) ≡ Some d → Knows p d (becomes f (shadowed lists layer) (cell a b))
+    go true told is =
+        subst (Knows p d) (sym (closed_same p images closed marks f are r told one (cell a b) known (shadowed lists layer)))
+        (subst (λ x. Knows p x (cell a b)) (same_some is) known)
+    go false untold is = at_memory p one f lists memo right (Term r layer) d is (cell a b) known
 
 low_or_high : (r : ℕ) → (r < 2 ^ 30) ⊎ (2 ^ 30 ≤ r)
 low_or_high r = grind arith
@@ -79,12 +95,12 @@ unseen_high r found d low e = go (low_or_high r)
     go (inr h) = h
 
 -- a part that was not found has to be visited first
-pub under : (p : PassView) → IsOneToOne p → (images : Images) (lists : Lists) (memo : Memo) (x y : Place) (found : Option ℕ) → (reference_of y < 2 ^ 30 → found ≡ Some (leaf_there images lists y)) → (2 ^ 30 ≤ reference_of y → found ≡ remembered memo y) → found ≡ None → (s t : Tree) → Knows p (reference_of x) s → Knows p (reference_of y) t → HasPlaceShape y t → layer_of y < length lists → depth t < depth s → ((f : ℕ → Tree) → AreImages p images f → IsPartOf (becomes_there f lists y t) (becomes_there f lists x s)) → IsUnder p images lists memo x y
-under p one images lists memo x y found low high e s t known_s known_t shape inside less part =
+pub under : (p : PassView) → IsOneToOne p → (images : Images) (lists : Lists) (memo : Memo) (closed : Closed) (x y : Place) (found : Option ℕ) → (reference_of y < 2 ^ 30 → found ≡ Some (leaf_there images lists y)) → (2 ^ 30 ≤ reference_of y → found ≡ found_for closed memo y) → found ≡ None → (s t : Tree) → Knows p (reference_of x) s → Knows p (reference_of y) t → HasPlaceShape y t → layer_of y < length lists → depth t < depth s → ((f : ℕ → Tree) → AreImages p images f → IsPartOf (becomes_there f lists y t) (becomes_there f lists x s)) → IsUnder p images lists memo x y
+under p one images lists memo closed x y found low high e s t known_s known_t shape inside less part =
     let above = unseen_high (reference_of y) found _ low e in
     record {
       spot = record { tree = t; known = known_t; shape = shape; high = above; inside = inside };
-      unmet = sym (high above) ∙ e;
+      unmet = found_none closed memo y (sym (high above) ∙ e);
       less = λ s' t' ks kt.
           let es = ap depth (one.one_tree (reference_of x) s' s ks known_s) in
           let et = ap depth (one.one_tree (reference_of y) t' t kt known_t) in
@@ -148,30 +164,30 @@ pub record IsComposed (p : PassView) (images : Images) (before after : Lists) (x
       (f : ℕ → Tree) → AreImages p images f →
       becomes_there f before x tree ≡ compose (becomes_there f after y first) (becomes_there f after z second)
 
-module _ (p : PassView) (one : IsOneToOne p) (parts : HasPartsOfTrees p) (images : Images) (before after : Lists) (memo : Memo) (x y z : Place) (compose : Tree → Tree → Tree) (h : IsComposed p images before after x y z compose) where
+module _ (p : PassView) (one : IsOneToOne p) (parts : HasPartsOfTrees p) (images : Images) (before after : Lists) (memo : Memo) (closed : Closed) (marks : IsClosedFor p (look_of images) closed) (x y z : Place) (compose : Tree → Tree → Tree) (h : IsComposed p images before after x y z compose) where
   after_is : (f : ℕ → Tree) → AreImages p images f → becomes_there f after x h.tree ≡ compose (becomes_there f after y h.first) (becomes_there f after z h.second)
   after_is f are = lists_same f before after h.keeps x h.tree h.inside ∙ h.is f are
 
-  pub first_missing : ((s t : Tree) → IsPartOf s (compose s t)) → (found : Option ℕ) → (reference_of y < 2 ^ 30 → found ≡ Some (leaf_there images after y)) → (2 ^ 30 ≤ reference_of y → found ≡ remembered memo y) → found ≡ None → Visits p p images before after memo x (Ok (Part y))
+  pub first_missing : ((s t : Tree) → IsPartOf s (compose s t)) → (found : Option ℕ) → (reference_of y < 2 ^ 30 → found ≡ Some (leaf_there images after y)) → (2 ^ 30 ≤ reference_of y → found ≡ found_for closed memo y) → found ≡ None → Visits p p images before after memo x (Ok (Part y))
   first_missing part found low high e =
       visit_part p images before after memo x y
-      (under p one images after memo x y found low high e h.tree h.first h.known h.first_known h.first_shape h.first_inside h.first_less
+      (under p one images after memo closed x y found low high e h.tree h.first h.known h.first_known h.first_shape h.first_inside h.first_less
       (λ f are. subst (IsPartOf (becomes_there f after y h.first)) (sym (after_is f are)) (part (becomes_there f after y h.first) (becomes_there f after z h.second))))
 
-  pub second_missing : ((s t : Tree) → IsPartOf t (compose s t)) → (found : Option ℕ) → (reference_of z < 2 ^ 30 → found ≡ Some (leaf_there images after z)) → (2 ^ 30 ≤ reference_of z → found ≡ remembered memo z) → found ≡ None → Visits p p images before after memo x (Ok (Part z))
+  pub second_missing : ((s t : Tree) → IsPartOf t (compose s t)) → (found : Option ℕ) → (reference_of z < 2 ^ 30 → found ≡ Some (leaf_there images after z)) → (2 ^ 30 ≤ reference_of z → found ≡ found_for closed memo z) → found ≡ None → Visits p p images before after memo x (Ok (Part z))
   second_missing part found low high e =
       visit_part p images before after memo x z
-      (under p one images after memo x z found low high e h.tree h.second h.known h.second_known h.second_shape h.second_inside h.second_less
+      (under p one images after memo closed x z found low high e h.tree h.second h.known h.second_known h.second_shape h.second_inside h.second_less
       (λ f are. subst (IsPartOf (becomes_there f after z h.second)) (sym (after_is f are)) (part (becomes_there f after y h.first) (becomes_there f after z h.second))))
 
   -- what both have become
-  pub first_is : (found : Option ℕ) (d : ℕ) → (reference_of y < 2 ^ 30 → found ≡ Some (leaf_there images after y)) → (2 ^ 30 ≤ reference_of y → found ≡ remembered memo y) → found ≡ Some d → (f : ℕ → Tree) → AreImages p images f → IsMemory p f before memo → Knows p d (becomes_there f after y h.first)
+  pub first_is : (found : Option ℕ) (d : ℕ) → (reference_of y < 2 ^ 30 → found ≡ Some (leaf_there images after y)) → (2 ^ 30 ≤ reference_of y → found ≡ found_for closed memo y) → found ≡ Some d → (f : ℕ → Tree) → AreImages p images f → IsMemory p f before memo → Knows p d (becomes_there f after y h.first)
   first_is found d low high e f are right =
-      looked p one parts images after memo f are (memory_lists p f before after h.keeps memo right) y found d low high e h.first h.first_known
+      looked p one parts images after memo closed marks f are (memory_lists p f before after h.keeps memo right) y found d low high e h.first h.first_known
 
-  pub second_is : (found : Option ℕ) (d : ℕ) → (reference_of z < 2 ^ 30 → found ≡ Some (leaf_there images after z)) → (2 ^ 30 ≤ reference_of z → found ≡ remembered memo z) → found ≡ Some d → (f : ℕ → Tree) → AreImages p images f → IsMemory p f before memo → Knows p d (becomes_there f after z h.second)
+  pub second_is : (found : Option ℕ) (d : ℕ) → (reference_of z < 2 ^ 30 → found ≡ Some (leaf_there images after z)) → (2 ^ 30 ≤ reference_of z → found ≡ found_for closed memo z) → found ≡ Some d → (f : ℕ → Tree) → AreImages p images f → IsMemory p f before memo → Knows p d (becomes_there f after z h.second)
   second_is found d low high e f are right =
-      looked p one parts images after memo f are (memory_lists p f before after h.keeps memo right) z found d low high e h.second h.second_known
+      looked p one parts images after memo closed marks f are (memory_lists p f before after h.keeps memo right) z found d low high e h.second h.second_known
 
   at_whole : (f : ℕ → Tree) → AreImages p images f → (P : Tree → Type 0) → P (compose (becomes_there f after y h.first) (becomes_there f after z h.second)) → (t : Tree) → Knows p (reference_of x) t → P (becomes_there f before x t)
   at_whole f are P k t known = at_tree p one (reference_of x) h.tree h.known (λ u. P (becomes_there f before x u)) (subst P (sym (h.is f are)) k) t known

@@ -3,6 +3,7 @@ use Rattle.std.specs.Prelude.{◌≡◌, ℕ, List, [], ◌∷◌}
 use Rattle.term_pool.specs.Views.{TermsView}
 use Rattle.contexts.specs.declared.kept.Substitution.{Substitution}
 use Rattle.contexts.specs.Becoming.{look_of}
+use Rattle.contexts.specs.Closed.{IsClosedFor}
 use Rattle.contexts.specs.Firsts.{first_for}
 use Rattle.contexts.specs.Frames.{frames_in_front, IsFrame, AreRightFrames}
 use Rattle.contexts.specs.PutIn.{joined}
@@ -21,6 +22,7 @@ pub record IsRight (v : TermsView) (x : Substitution) : Type 0 where
   pub images : (k : ℕ) → look_of x.images k ≡ first_for (all_bindings x) k
   pub here : IsFrame v.pass (joined (frames_in_front [] x.around.items)) x.here
   pub around : AreRightFrames v.pass [] x.around.items
+  pub closed : IsClosedFor v.pass (look_of x.images) x.closed
 
 -- it is right for some terms
 pub record IsRightForSome (x : Substitution) : Type 0 where

@@ -4,6 +4,8 @@ pub mod Searching
 pub mod Layers
 pub mod Becoming
 pub mod Remembering
+pub mod Closed
+pub mod Looking
 pub mod Places
 pub mod Hiding
 pub mod PutIn

@@ -39,7 +39,7 @@ pub fn free_in(
         IsTrue yes ↔ IsFree x t) }
     ensures same { terms.new ≡ terms.old }
 {
-    let _leaves = symbols.count();
+    symbols.leaves_differ();
     stands_free(alloc, terms, var, r)
 }
 

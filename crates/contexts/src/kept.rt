@@ -14,7 +14,9 @@ ghost use Rattle.contexts.specs.Kept.{IsRight, IsRightForSome, all_bindings, fra
 ghost use Rattle.contexts.specs.PutIn.{AreReplacementBy, StandForReplacement};
 ghost use Rattle.term_pool.specs.Placing.{LacksRoomFor, PlacesTerm};
 
+use crate::closed::Closed;
 use crate::frames::{Frame, put_all, put_all_back};
+use crate::looking::look_through;
 use crate::putting::put;
 use crate::walked::Walked;
 use pair_pool::{Memory, Ref};
@@ -25,7 +27,7 @@ use sym_table::Symbols;
 use term_pool::{TermStop, Terms};
 
 /// What is put in for variables, in frames that are entered and left, the last one first, and what has become so of the
-/// cells that were gone through in each.
+/// cells that were gone through in each. What has no variable in it is marked once for all frames, and never gone into.
 ///
 /// To enter a frame or to leave it costs what the frame itself binds: what is put in around it is not copied.
 #[derive(Drop)]
@@ -33,6 +35,7 @@ pub struct Substitution {
     images: HashMap<u32, Ref>,
     around: Vec<Frame>,
     here: Frame,
+    closed: Closed,
 }
 
 impl Substitution {
@@ -51,6 +54,7 @@ impl Substitution {
             images: HashMap::new(alloc),
             around: Vec::new(alloc),
             here,
+            closed: Closed::new(alloc),
         })
     }
 
@@ -69,7 +73,7 @@ impl Substitution {
         ensures frames { frames_of self.new ≡ (if is_ok result then bindings.items ∷ frames_of self.old else frames_of self.old) }
         ensures right { IsRight terms.now self.new }
     {
-        let _leaves = symbols.count();
+        symbols.leaves_differ();
         let _ = terms;
         let alloc = self.here.walked.layers.alloc;
         let walked = Walked::new(alloc)?;
@@ -79,6 +83,7 @@ impl Substitution {
             put_all_back(&mut self.images, before);
             return Err(stop);
         }
+        self.closed.give_way(alloc, &bindings);
         let inner = Frame {
             bindings,
             before,
@@ -107,7 +112,8 @@ impl Substitution {
     /// `put_in` has it, by all frames that were entered and not left, the last one first.
     ///
     /// A cell is not gone through again that was gone through in this frame before, so over all calls in a frame it costs
-    /// what one call would that goes through all the terms. Refuses where the pool had no room for a cell of the answer,
+    /// what one call would that goes through all the terms; and one in which no variable stands is gone through in no other
+    /// frame either. Refuses where the pool had no room for a cell of the answer,
     /// and when out of memory; what was gone through before a refusal stays remembered.
     pub fn put_in(
         &mut self,
@@ -131,8 +137,10 @@ impl Substitution {
         ensures right { IsRight terms.new self.new }
         ensures same { frames_of self.new ≡ frames_of self.old }
     {
-        let _leaves = symbols.count();
-        put(terms, &self.images, &mut self.here.walked, r)
+        symbols.leaves_differ();
+        let alloc = self.here.walked.layers.alloc;
+        look_through(&mut self.closed, &self.images, alloc, symbols, terms, r)?;
+        put(terms, &self.images, &self.closed, &mut self.here.walked, r)
     }
 
     /// What is put in for a variable, by its leaf, by all frames that were entered and not left, the last one first; `None`
@@ -146,7 +154,7 @@ impl Substitution {
         ensures replaced { (v : TermsView) (x : Var) (q : Replacement) → IsLeaf symbols.now variable (variable_leaf x) →
             StandForReplacement symbols.now v (all_bindings self.now) q → IsSome result ↔ Replaces q x }
     {
-        let _leaves = symbols.count();
+        symbols.leaves_differ();
         self.images.get(&variable).copied()
     }
 }

@@ -4,12 +4,14 @@
 //! its own, so no term takes stack.
 #![tactic(auto)]
 
+mod closed;
 mod frames;
 mod free;
 mod hiding;
 mod kept;
 mod layers;
 mod leaves;
+mod looking;
 mod memo;
 mod met;
 mod places;

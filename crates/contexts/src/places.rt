@@ -2,8 +2,10 @@
 
 ghost use Rattle.std.specs.Prelude.{◌≡◌, ◌<◌, ◌≤◌, ◌^◌, Some, length};
 ghost use Rattle.contexts.specs.Places.{image_of_leaf, layer_of, leaf_there};
-ghost use Rattle.contexts.specs.Remembering.{reference_of, remembered};
+ghost use Rattle.contexts.specs.Closed.{found_for};
+ghost use Rattle.contexts.specs.Remembering.{reference_of};
 
+use crate::closed::Closed;
 use crate::layers::Layers;
 use crate::memo::Memo;
 use pair_pool::Ref;
@@ -39,21 +41,26 @@ pub(crate) fn of_leaf(images: &HashMap<u32, Ref>, hidden: &[u32], leaf: Ref) -> 
     }
 }
 
-/// What has become of a place: of a leaf always something, of a cell what is remembered.
+/// What has become of a place: of a leaf always something, of a cell in which no variable stands the cell itself, and of any
+/// other what is remembered.
 pub(crate) fn look(
     images: &HashMap<u32, Ref>,
     layers: &Layers,
+    closed: &Closed,
     memo: &Memo,
     place: &Place,
 ) -> Option<Ref>
     requires { layer_of place.now < length layers.now.lists.items }
     ensures leaf { reference_of place.now < 2 ^ 30 → result ≡ Some (leaf_there images.now layers.now.lists.items place.now) }
-    ensures cell { 2 ^ 30 ≤ reference_of place.now → result ≡ remembered memo.now place.now }
+    ensures cell { 2 ^ 30 ≤ reference_of place.now → result ≡ found_for closed.now memo.now place.now }
 {
     match place {
         Place::Term(r, layer) => {
             if r.is_leaf() {
                 return Some(of_leaf(images, layers.list(*layer), *r));
+            }
+            if closed.has(*r) {
+                return Some(*r);
             }
         }
         Place::Bindings(r, _) => {

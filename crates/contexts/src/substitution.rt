@@ -12,6 +12,7 @@ ghost use Rattle.contexts.specs.PutIn.{AreReplacementBy, StandForReplacement};
 ghost use Rattle.term_pool.specs.Placing.{LacksRoomFor, PlacesTerm};
 ghost use Rattle.contexts.specs.Firsts.{first_for};
 
+use crate::closed::Closed;
 use crate::putting::put;
 use crate::walked::Walked;
 use pair_pool::{Memory, Ref};
@@ -71,8 +72,8 @@ pub fn put_in(
     ensures known { IfOk result (IsKnown terms.new.pass) }
     ensures keeps { KeepsTerms terms.old terms.new }
 {
-    let _leaves = symbols.count();
+    symbols.leaves_differ();
     let images = images_of(alloc, bindings)?;
     let mut walked = Walked::new(alloc)?;
-    put(terms, &images, &mut walked, r)
+    put(terms, &images, &Closed::new(alloc), &mut walked, r)
 }

@@ -3,6 +3,7 @@ use Rattle.pair_pool.specs.Views.{Knows}
 use Rattle.term_pool.specs.Building.{PlacesOnlyIn, IsFullIn}
 use Rattle.contexts.specs.declared.places.Place.TheVariants.{Term}
 use Rattle.term_pool.proofs.Keeping.{terms-refl, terms-trans}
+use Rattle.contexts.proofs.ClosedLemmas.{closed_later}
 use Rattle.contexts.proofs.PlaceKeys.{same_place}
 use Rattle.contexts.proofs.Results.{handed_on}
 use Rattle.contexts.proofs.Walking.{images_later, walk_start, right_start, walk_spot, walk_unmet, walk_down, walk_up, walk_root, no_places, places_more, lacks_more, memory_kept, memory_more, made_high, right_lists, at_root, ready_of, root_done}
@@ -11,18 +12,18 @@ use Rattle.contexts.proofs.putting.put.Goals as goal
 
 pub returns-in-Some-clause-image : goal.returns-in-Some-clause-image
 returns-in-Some-clause-image c =
-    found_done _ c.args.images.now _ _ c.args.r c.look.result c.look.ensures.leaf c.look.ensures.cell c.one_to_one.ensures c.parts_of_trees.ensures c.requires.walked _ c.in-Some.is
+    found_done _ c.args.images.now _ _ c.args.closed.now c.args.r c.look.result c.look.ensures.leaf c.look.ensures.cell c.one_to_one.ensures c.parts_of_trees.ensures c.requires.closed c.requires.walked _ c.in-Some.is
 
 pub places-init : goal.places-init
 places-init c =
-    let high : 2 ^ 30 ≤ c.args.r = none_high c.args.terms.now.pass c.args.images.now c.args.walked.now.layers.lists.items c.args.walked.now.memo c.args.r c.look.result c.look.ensures.leaf c.look.ensures.cell (no_some c.look.result c.in_default.not-Some) in
+    let high : 2 ^ 30 ≤ c.args.r = none_high c.args.terms.now.pass c.args.images.now c.args.walked.now.layers.lists.items c.args.walked.now.memo c.args.closed.now c.args.r c.look.result c.look.ensures.leaf c.look.ensures.cell (no_some c.look.result c.in_default.not-Some) in
     record {
       keeps = terms-refl _;
       first = c.requires.walked.first;
       some = c.requires.walked.some;
       whole = c.requires.shaped.tree;
       whole_known = c.requires.shaped.known;
-      walk = walk_start _ c.args.images.now _ _ _ _ (none_unmet c.args.terms.now.pass c.args.images.now c.args.walked.now.layers.lists.items c.args.walked.now.memo c.args.r c.look.result c.look.ensures.leaf c.look.ensures.cell (no_some c.look.result c.in_default.not-Some)) c.requires.walked.some c.requires.shaped high c.new-way.ensures.items;
+      walk = walk_start _ c.args.images.now _ _ _ _ (none_unmet c.args.terms.now.pass c.args.images.now c.args.walked.now.layers.lists.items c.args.walked.now.memo c.args.closed.now c.args.r c.look.result c.look.ensures.leaf c.look.ensures.cell (no_some c.look.result c.in_default.not-Some)) c.requires.walked.some c.requires.shaped high c.new-way.ensures.items;
       right = λ f are. right_start _ f _ _ _ _ (right_for _ c.one_to_one.ensures c.args.images.now _ _ c.requires.walked f are);
     }
 
@@ -31,6 +32,9 @@ visit-requires-clause-spot c = walk_spot _ _ c.one_to_one-in-places.ensures c.ar
 
 pub visit-requires-clause-ready : goal.visit-requires-clause-ready
 visit-requires-clause-ready c = ready_of _ _ c.places.invariant.keeps.pass _ _ _ _ _ (have_images _ _ _ _ c.requires.walked) c.places.invariant.right
+
+pub visit-requires-clause-closed : goal.visit-requires-clause-closed
+visit-requires-clause-closed c = closed_later _ _ c.places.invariant.keeps.pass _ _ c.requires.closed
 
 pub returns-in_err-part-clause-placed : goal.returns-in_err-part-clause-placed
 returns-in_err-part-clause-placed c =
