@@ -5,15 +5,14 @@ use file_ports::{MemoryFolder, MemorySink, OpenGate};
 use std::alloc::{AllocError, Global};
 use std::test::Fail;
 
-// Each macro puts the one above it four times around its argument, so `e` has 4^5 = 1,024 unary minuses. A minus takes
-// two cells: 2,048 over each of x, 1 and 2, and three for the equality, 6,147 in all. A pool of 2^12 = 4,096 places has no
-// room for them, and one of 2^13 = 8,192 has.
-static MINUSES: &[u8] = b"(define-fun a ((x Int)) Int (- (- (- (- x)))))
-(define-fun b ((x Int)) Int (a (a (a (a x)))))
-(define-fun c ((x Int)) Int (b (b (b (b x)))))
-(define-fun d ((x Int)) Int (c (c (c (c x)))))
-(define-fun e ((x Int)) Int (d (d (d (d x)))))
-(assert (= (e 1) (e 2)))
+// m, n and q are 100, 400 and 1,600 minuses. What is read are three chains of 1,600 minuses, over x, 1 and 2, of two cells for
+// each minus, and the equality of three: 9,603 cells. Pools of 2^12 and 2^13 = 8,192 places have no room for them, and one
+// of 2^14 has.
+static MINUSES: &[u8] = b"(define-fun a ((x Int)) Int (- (- (- (- (- (- (- (- (- (- x)))))))))))
+(define-fun m ((x Int)) Int (a (a (a (a (a (a (a (a (a (a x)))))))))))
+(define-fun n ((x Int)) Int (m (m (m (m x)))))
+(define-fun q ((x Int)) Int (n (n (n (n x)))))
+(assert (= (q 1) (q 2)))
 ";
 
 const OPTIONS: Options = Options {
@@ -33,20 +32,20 @@ fn judged(alloc: Global, bits: u32) -> Option<Judgement> {
 // Where the largest pool that may be made is full, that is the answer, and not out of memory.
 #[test]
 fn the_largest_pool_is_full(rt: HostRuntime) -> Result<(), Fail> {
-    let judgement = judged(rt.alloc(), 12);
+    let judgement = judged(rt.alloc(), 13);
     assert!(rt; matches!(judgement, Some(Judgement::PoolFull)));
     Ok(())
 }
 
-// The first pool is the same one, since the text is short. Where it is full and a larger one may be made, that is made.
+// The first pool has 2^12 places, since the text is short. It is full, and so is the next; the third has room.
 #[test]
 fn a_full_pool_is_read_again(rt: HostRuntime) -> Result<(), Fail> {
-    let judgement = judged(rt.alloc(), 13);
+    let judgement = judged(rt.alloc(), 14);
     assert!(rt; matches!(judgement, Some(Judgement::NoEmptyClause)));
     Ok(())
 }
 
-// What the top call prints and returns of the two texts, in pools of at most 2^12 places.
+// What the top call prints and returns of the two texts, in pools of at most 2^13 places.
 fn answered(rt: &impl AllocGlobal) -> Result<(u8, Vec<u8>), AllocError> {
     let alloc = rt.alloc();
     let mut files = Vec::new(alloc);
@@ -61,7 +60,7 @@ fn answered(rt: &impl AllocGlobal) -> Result<(u8, Vec<u8>), AllocError> {
     words.push(String::from_str(alloc, "PROBLEM")?)?;
     let mut folder = MemoryFolder::new(files, 65_536, Vec::new(alloc));
     let mut out = MemorySink::new(65_536, Vec::new(alloc));
-    let status = carcara_within(rt, &words, &mut folder, &mut out, &OpenGate, 12);
+    let status = carcara_within(rt, &words, &mut folder, &mut out, &OpenGate, 13);
     let output = Vec::from_slice(alloc, out.written())?;
     drop(out);
     drop(folder);

@@ -15,7 +15,6 @@ use Rattle.problem_text.specs.Problems.{StandsForProblem, IsFirstFault}
 use Rattle.problem_text.specs.Scripts.{Script}
 use Rattle.alethe_text.specs.ProofTexts.{StandsForProof, IsFirstProofFault}
 use Rattle.alethe_text.specs.States.{ProofSettings}
-use Rattle.step_check.specs.Statuses.{checking}
 use Rattle.command_words.specs.declared.request.Options.{Options}
 use Rattle.command_words.specs.CommandLine.{Asked}
 use Rattle.carcara_cli.specs.declared.answer.Answer.{Answer}
@@ -27,8 +26,8 @@ use Rattle.carcara_cli.specs.Exactness.{IsDefinedAnswer, IsExact, SaySame}
 use Rattle.carcara_cli.specs.Holes.{Hole, holes_from, told_hole}
 use Rattle.carcara_cli.specs.Judgement.{IsCheckedAs, IsJudgement}
 use Rattle.carcara_cli.specs.Printed.{line_end, text_of_step_cause, step_text, hole_line, refusal_text, text_of_judgement, status_of_judgement, status_of}
-use Rattle.carcara_cli.specs.Reading.{flags_of, settings_of}
-use Rattle.carcara_cli.specs.TopCall.{most_bytes, IsTooLong, IsJudgedOfFiles, IsAnswerOf, IsAnswerTo, IsPrinted}
+use Rattle.carcara_cli.specs.Reading.{checking_of, settings_of}
+use Rattle.carcara_cli.specs.TopCall.{most_bytes, IsTooLong, IsJudgedOfFiles, IsAnswerTo, IsPrinted}
 
 same_lists : (ss zs : List Status) → length ss ≡ length zs → ((i : ℕ) (s z : Status) → slice_get ss i ≡ Some s → slice_get zs i ≡ Some z → s ≡ z) → ss ≡ zs
 same_lists [] [] e h = refl
@@ -61,6 +60,13 @@ verdict_status Verdict.NoEmpty = 1
 verdict_status (Verdict.InvalidAt i cause) = 1
 verdict_status (Verdict.Unknown i) = 4
 
+-- the answer to a check of two files that are both read
+abbrev IsAnswerOf : ℕ → Options → Option (List ℕ) → Option (List ℕ) → Answer → Type 0
+IsAnswerOf bits options problem proof Usage = ⊥
+IsAnswerOf bits options problem proof ReadFault = ⊥
+IsAnswerOf bits options problem proof TooLong = IsTooLong problem proof
+IsAnswerOf bits options problem proof (Judged j) = IsJudgedOfFiles bits options problem proof j
+
 -- where no fault rose, both files were read
 read_both : (bits : ℕ) (content : List ℕ → Option (List ℕ)) (p : Asked) (a : Answer) → IsAnswerTo bits content 0 0 (Some p) a
     → IsAnswerOf bits p.options (content p.problem) (content p.proof) a
@@ -89,15 +95,15 @@ module _
           (one_proof proof (settings_of options) b.script a.commands b.commands a.after b.after
           (subst (λ s. StandsForProof proof (settings_of options) s a.commands a.after) same_script a.proof_text) b.proof_text).0
 
-      moved : AreStatuses (checking (flags_of options) b.script.assertions) b.commands a.statuses
+      moved : AreStatuses (checking_of options b.script.assertions) b.commands a.statuses
       moved =
-          subst (λ c. AreStatuses (checking (flags_of options) b.script.assertions) c a.statuses) same_commands
-          (subst (λ (s : Script). AreStatuses (checking (flags_of options) s.assertions) a.commands a.statuses) same_script a.are)
+          subst (λ c. AreStatuses (checking_of options b.script.assertions) c a.statuses) same_commands
+          (subst (λ (s : Script). AreStatuses (checking_of options s.assertions) a.commands a.statuses) same_script a.are)
 
       same_statuses : a.statuses ≡ b.statuses
       same_statuses =
           same_lists a.statuses b.statuses (moved.count ∙ sym b.are.count)
-          (λ i s z e f. one_status (checking (flags_of options) b.script.assertions) b.commands i s z (moved.each i s e) (b.are.each i z f))
+          (λ i s z e f. one_status (checking_of options b.script.assertions) b.commands i s z (moved.each i s e) (b.are.each i z f))
 
       same_verdict : v ≡ w
       same_verdict =

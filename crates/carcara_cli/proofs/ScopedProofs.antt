@@ -12,8 +12,8 @@ use Rattle.alethe_text.specs.States.{ProofSettings}
 use Rattle.alethe_text.proofs.KeptProofs.{BindingsAre, AreOf, text_keeps}
 use Rattle.carcara_cli.proofs.ScopedTerms.{IsGood, IsTermIn, scoped_terms}
 
-scoped_bindings : BindingsAre IsGood IsTermIn IsBindingIn
-scoped_bindings = record {
+scoped_bindings : (settings : ProofSettings) → BindingsAre settings IsGood IsTermIn IsBindingIn
+scoped_bindings settings = record {
   binding = λ nesting name t h low. record { sort = h.sort; closed = h.closed };
   name_added = λ name s h. record {
     sound = record { named = h.sound.named; macros = h.sound.macros; assertions = h.sound.assertions };
@@ -37,4 +37,4 @@ are_well_sorted nesting (with_subproof items bindings proof s) h =
 pub text_scoped : (source : List ℕ) (settings : ProofSettings) (before : Script) (proof : Proof Var Term) (after : Script) → IsSound before
     → HasScopedTerms before → StandsForProof source settings before proof after → IsWellSortedProof proof
 text_scoped source settings before proof after sound scoped h =
-    are_well_sorted outermost proof (text_keeps (scoped_terms settings) scoped_bindings (record { sound = sound; scoped = scoped }) h).0
+    are_well_sorted outermost proof (text_keeps (scoped_terms settings) (scoped_bindings settings) (record { sound = sound; scoped = scoped }) h).0

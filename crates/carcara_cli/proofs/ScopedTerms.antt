@@ -17,7 +17,7 @@ use Rattle.rule_model.specs.Visibility.{open_bindings}
 use Rattle.problem_text.specs.Forms.{form_of}
 use Rattle.problem_text.specs.Names.{Bound, Place, itself}
 use Rattle.problem_text.specs.Scripts.{Script}
-use Rattle.problem_text.specs.Soundness.{IsRead, IsSound, HasScopedTerms, IsScoped, AreThemselves, AreBoundSorted}
+use Rattle.problem_text.specs.Soundness.{IsReadWithin, IsSound, HasScopedTerms, IsScoped, AreThemselves, AreBoundSorted}
 use Rattle.problem_text.specs.Terms.{read_term}
 use Rattle.problem_text.specs.TypedTerms.{Typed}
 use Rattle.problem_text.proofs.Readings.{term-sound}
@@ -90,7 +90,7 @@ module _ (settings : ProofSettings) where
       place : Place
       place = place_in settings nesting
 
-      sound : IsSound (read_term i place s.script).state × IfOk (read_term i place s.script).result IsRead
+      sound : IsSound (read_term i place s.script).state × IfOk (read_term i place s.script).result (IsReadWithin settings.limit)
       sound = term-sound (form_of i) place s.script (themselves_sorted (reverse (open_bindings nesting))) h.script.sound
 
       alone : AreThemselves place
@@ -102,7 +102,7 @@ module _ (settings : ProofSettings) where
       script : IsGood (read_term i place s.script).state
       script = record { sound = sound.0; scoped = script-scoped i place s.script alone h.script.scoped }
 
-      go : (r : Result Typed Refusal) → IfOk r IsRead → IfOk r (λ t. IsScoped (variables_in nesting) t.tree)
+      go : (r : Result Typed Refusal) → IfOk r (IsReadWithin settings.limit) → IfOk r (λ t. IsScoped (variables_in nesting) t.tree)
           → After (λ t u. IsTermIn nesting t × Keeps IsGood P u) r (record s { script = (read_term i place s.script).state })
       go (Ok t) k l = (record { sort = k.sorted; closed = closed_where_scoped nesting t.tree l }, record { script = script; scope = h.scope })
       go (Err refusal) k l = tt

@@ -18,10 +18,9 @@ use Rattle.problem_text.specs.Problems.{StandsForProblem, IsFirstFault}
 use Rattle.problem_text.specs.Scripts.{Script}
 use Rattle.alethe_text.specs.ProofTexts.{StandsForProof, IsFirstProofFault}
 use Rattle.alethe_text.specs.States.{ProofSettings}
-use Rattle.step_check.specs.Statuses.{checking}
 use Rattle.command_words.specs.declared.request.Options.{Options}
 use Rattle.carcara_cli.specs.Judgement.{HasJudgement}
-use Rattle.carcara_cli.specs.Reading.{flags_of, settings_of}
+use Rattle.carcara_cli.specs.Reading.{checking_of, settings_of}
 
 -- it is not so that there is none
 abbrev pub Surely : Type 0 → Type 0
@@ -146,7 +145,7 @@ module _ (problem : List ℕ) (options : Options) (text : List ℕ) where
   checked : (script : Script) → StandsForProblem problem options.replaces_lets script
       → (p : ProofItems Var Term) × (after : Script) × StandsForProof text (settings_of options) script p after → Surely Judged
   checked script stands (p, after, read) =
-      then (statuses_from (checking (flags_of options) script.assertions) p (commands_in p) 0) (λ of.
+      then (statuses_from (checking_of options script.assertions) p (commands_in p) 0) (λ of.
       then (by_first p of.0 (first_stop of.0)) (λ v.
       so (inr (inr (
         v.0,
@@ -157,7 +156,7 @@ module _ (problem : List ℕ) (options : Options) (text : List ℕ) where
           statuses = of.0;
           problem_text = stands;
           proof_text = read;
-          are = record { count = of.1; each = from_first (checking (flags_of options) script.assertions) p of.0 of.2 };
+          are = record { count = of.1; each = from_first (checking_of options script.assertions) p of.0 of.2 };
           verdict = v.1;
         },
       )))))

@@ -10,11 +10,10 @@ use Rattle.rule_model.specs.Statuses.{AreStatuses, IsVerdict}
 use Rattle.problem_text.specs.Problems.{StandsForProblem, IsFirstFault}
 use Rattle.problem_text.specs.Scripts.{Script}
 use Rattle.alethe_text.specs.ProofTexts.{StandsForProof, IsFirstProofFault}
-use Rattle.step_check.specs.Statuses.{checking}
 use Rattle.command_words.specs.declared.request.Options.{Options}
 use Rattle.carcara_cli.specs.declared.judgement.Judgement.{Judgement}
 use Rattle.carcara_cli.specs.declared.judgement.Judgement.TheVariants.{Valid, Holey, NoEmptyClause, Faulty, TooWide, RefusedProblem, RefusedProof, PoolFull}
-use Rattle.carcara_cli.specs.Reading.{flags_of, settings_of, NeedsRoom}
+use Rattle.carcara_cli.specs.Reading.{checking_of, settings_of, NeedsRoom}
 use Rattle.carcara_cli.specs.Cells.{HasMoreCells}
 use Rattle.carcara_cli.specs.Holes.{holes_from, told_hole}
 
@@ -27,7 +26,7 @@ pub record IsCheckedAs (problem : List ℕ) (options : Options) (proof : List �
   pub statuses : List Status
   pub problem_text : StandsForProblem problem options.replaces_lets script
   pub proof_text : StandsForProof proof (settings_of options) script commands after
-  pub are : AreStatuses (checking (flags_of options) script.assertions) commands statuses
+  pub are : AreStatuses (checking_of options script.assertions) commands statuses
   pub verdict : IsVerdict statuses commands v
 
 -- a command is named by its id
@@ -42,10 +41,8 @@ IsJudgement problem options proof bits (Holey holes) =
     (checked : IsCheckedAs problem options proof Verdict.Holey)
     × (map told_hole holes.items ≡ holes_from checked.commands 0 checked.statuses)
 IsJudgement problem options proof bits NoEmptyClause = IsCheckedAs problem options proof Verdict.NoEmpty
-IsJudgement problem options proof bits (Faulty id cause) =
-    NamesCommand problem options proof (λ i. Verdict.InvalidAt i cause) id.items
-IsJudgement problem options proof bits (TooWide id) =
-    NamesCommand problem options proof Verdict.Unknown id.items
+IsJudgement problem options proof bits (Faulty id cause) = NamesCommand problem options proof (λ i. Verdict.InvalidAt i cause) id.items
+IsJudgement problem options proof bits (TooWide id) = NamesCommand problem options proof Verdict.Unknown id.items
 IsJudgement problem options proof bits (RefusedProblem r) = IsFirstFault problem options.replaces_lets r
 IsJudgement problem options proof bits (RefusedProof r) =
     (script : Script) × StandsForProblem problem options.replaces_lets script

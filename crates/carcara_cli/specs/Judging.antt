@@ -20,6 +20,14 @@ use Rattle.carcara_cli.specs.declared.judgement.Judgement.{Judgement}
 use Rattle.carcara_cli.specs.Answering.{NamesIds}
 use Rattle.carcara_cli.specs.Reading.{settings_of}
 
+-- the flags by which the code reads and checks
+abbrev pub flags_of : Options → Flags
+flags_of options = record {
+  expand_lets = options.replaces_lets;
+  strict = options.is_strict;
+  ignore_unknown = options.ignores_unknown_rules;
+}
+
 -- what was read of the two texts, in a table and a pool: the references of the assertions, and the proof over references
 pub record IsReadProof (problem : List ℕ) (options : Options) (text : List ℕ) (s : Table) (v : TermsView) (asserted : List ℕ) (refs : ProofItems ℕ ℕ)
     : Type 0 where

@@ -1,29 +1,29 @@
 -- Public. How the two texts are read, which of their terms count as read, and which terms need room in the pool.
-use Rattle.std.specs.Prelude.{◌⊎◌, ℕ, List}
+use Rattle.std.specs.Prelude.{◌⊎◌, ℕ, List, if◌then◌else◌}
 use Rattle.term_model.specs.Terms.{Var, Term}
+use Rattle.rule_model.specs.declared.rules.Mode.{Mode}
 use Rattle.rule_model.specs.Proofs.{ProofItems}
+use Rattle.rule_model.specs.Statuses.{Checking}
 use Rattle.problem_text.specs.Problems.{StandsForProblem}
 use Rattle.problem_text.specs.Scripts.{Script}
 use Rattle.term_reader.specs.ProblemViews.{IsCounted}
-use Rattle.term_reader.specs.declared.flags.Flags.{Flags}
 use Rattle.command_words.specs.declared.request.Options.{Options}
 use Rattle.alethe_text.specs.ProofTexts.{StandsForProof}
-use Rattle.alethe_text.specs.States.{ProofSettings}
+use Rattle.alethe_text.specs.States.{ProofSettings, limited_proof}
 use Rattle.alethe_reader.specs.Reading.{IsCountedOfProof as IsCountedOfProof}
 use Rattle.step_check.specs.Statuses.{IsPlacedOf}
 
--- The flags of a check: lets are replaced, conditions are strict, and steps by unknown rules are holes, where the options ask
--- for that.
-abbrev pub flags_of : Options → Flags
-flags_of options = record {
-  expand_lets = options.replaces_lets;
-  strict = options.is_strict;
-  ignore_unknown = options.ignores_unknown_rules;
+-- how the proof is checked: conditions are strict, and steps by unknown rules are holes, where the options ask for that
+abbrev pub checking_of : Options → List Term → Checking
+checking_of options assertions = record {
+  mode = if options.is_strict then Mode.Strict else Mode.Check;
+  unknown_are_holes = options.ignores_unknown_rules;
+  assertions = assertions;
 }
 
 -- how the proof is read: its lets are replaced where the problem's are, and pivots are read where conditions are strict
 abbrev pub settings_of : Options → ProofSettings
-settings_of options = record { replaces_lets = options.replaces_lets; is_strict = options.is_strict }
+settings_of options = limited_proof options.replaces_lets options.is_strict
 
 -- The term counts as read of the proof's text, behind the script for which the problem's text stands.
 pub record IsReadOfProof (problem : List ℕ) (options : Options) (proof : List ℕ) (t : Term) : Type 0 where

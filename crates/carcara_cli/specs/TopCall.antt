@@ -6,7 +6,7 @@ use Rattle.term_model.specs.Unsatisfiable.{Unsatisfiable}
 use Rattle.problem_text.specs.Problems.{StandsForProblem}
 use Rattle.problem_text.specs.Scripts.{Script}
 use Rattle.file_ports.specs.Faults.{HasRisen}
-use Rattle.file_ports.specs.Texts.{AreTold, IsLongerThan, AppendsFront}
+use Rattle.file_ports.specs.Texts.{AreTold, IsLongerThan, AppendsPrefix}
 use Rattle.carcara_cli.specs.declared.judgement.Judgement.{Judgement}
 use Rattle.carcara_cli.specs.declared.answer.Answer.{Answer}
 use Rattle.carcara_cli.specs.declared.answer.Answer.TheVariants.{Usage, ReadFault, TooLong, Judged}
@@ -48,18 +48,14 @@ pub record IsJudgedOfFiles (bits : ℕ) (options : Options) (problem proof : Opt
   pub proof_within : length proof_text ≤ most_bytes
   pub judged : IsJudgement problem_text options proof_text bits j
 
--- the answer to a check of two files, by what is told of them, where each is read
-abbrev pub IsAnswerOf : ℕ → Options → Option (List ℕ) → Option (List ℕ) → Answer → Type 0
-IsAnswerOf bits options problem proof TooLong = IsTooLong problem proof
-IsAnswerOf bits options problem proof (Judged j) = IsJudgedOfFiles bits options problem proof j
-IsAnswerOf bits options problem proof _ = ⊥
-
 -- What an answer says: over what a folder tells of its files and its count of faults before and after, and over what
 -- the words ask for, where the largest pool has 2^bits places.
 abbrev pub IsAnswerTo : ℕ → (List ℕ → Option (List ℕ)) → ℕ → ℕ → Option Asked → Answer → Type 0
 IsAnswerTo bits content before after None a = a ≡ Usage
 IsAnswerTo bits content before after (Some p) ReadFault = HasRisen before after
-IsAnswerTo bits content before after (Some p) a = IsAnswerOf bits p.options (content p.problem) (content p.proof) a
+IsAnswerTo bits content before after (Some p) TooLong = IsTooLong (content p.problem) (content p.proof)
+IsAnswerTo bits content before after (Some p) (Judged j) = IsJudgedOfFiles bits p.options (content p.problem) (content p.proof) j
+IsAnswerTo bits content before after (Some p) Usage = ⊥
 
 -- the whole text of an answer was printed, and the status is the answer's
 pub record PrintsWhole (MayAnswer : Answer → Type 0) (old new : Option (List ℕ)) (status : ℕ) : Type 0 where
@@ -69,17 +65,17 @@ pub record PrintsWhole (MayAnswer : Answer → Type 0) (old new : Option (List �
   pub printed : Appends old new (text_of answer)
 
 -- a prefix of the text of an answer was printed
-pub record PrintsFront (MayAnswer : Answer → Type 0) (old new : Option (List ℕ)) : Type 0 where
+pub record PrintsPrefix (MayAnswer : Answer → Type 0) (old new : Option (List ℕ)) : Type 0 where
   pub answer : Answer
   pub may_answer : MayAnswer answer
-  pub printed : AppendsFront old new (text_of answer)
+  pub printed : AppendsPrefix old new (text_of answer)
 
 -- What was printed, by the status. After a failed write (6) it is a prefix of an answer, after out of memory (7) such a
 -- prefix or nothing, and with any other status the whole text of an answer of that status.
 pub record IsPrinted (MayAnswer : Answer → Type 0) (old new : Option (List ℕ)) (status : ℕ) : Type 0 where
   pub whole : status ≢ 6 → status ≢ 7 → PrintsWhole MayAnswer old new status
-  pub write_fault : status ≡ 6 → PrintsFront MayAnswer old new
-  pub memory : status ≡ 7 → PrintsFront MayAnswer old new ⊎ (new ≡ old)
+  pub write_fault : status ≡ 6 → PrintsPrefix MayAnswer old new
+  pub memory : status ≡ 7 → PrintsPrefix MayAnswer old new ⊎ (new ≡ old)
 
 -- There are bytes of both files, those that are told where some are, and the problem's stand for a script whose assertions no
 -- interpretation makes all true.

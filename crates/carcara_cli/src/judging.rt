@@ -12,10 +12,10 @@ ghost use Rattle.rule_model.specs.Reading.{clause_at};
 ghost use Rattle.rules_resolution.specs.Steps.{IsShort};
 ghost use Rattle.term_reader.specs.ProblemViews.{IsNewTable};
 ghost use Rattle.step_check.specs.Statuses.{AreAsserted, LacksRoomForPlaced, PlacesOnly};
-ghost use Rattle.carcara_cli.specs.Reading.{flags_of, IsReadOf};
+ghost use Rattle.carcara_cli.specs.Reading.{IsReadOf};
 ghost use Rattle.carcara_cli.specs.Pools.{HoldsOnly, IsReadProblem};
 ghost use Rattle.carcara_cli.specs.Judgement.{IsJudgement};
-ghost use Rattle.carcara_cli.specs.Judging.{Corresponds, IsJudgedProof, IsReadProof};
+ghost use Rattle.carcara_cli.specs.Judging.{flags_of, Corresponds, IsJudgedProof, IsReadProof};
 ghost use Rattle.carcara_cli.specs.TopCall.{most_bytes};
 
 use crate::judgement::Judgement;
@@ -116,7 +116,7 @@ fn judge_read(
     proofs_have_scoped_terms();
     proofs_correspond();
     proofs_stand_for_one();
-    let _leaves = symbols.count();
+    symbols.leaves_differ();
     terms.one_to_one();
     let flags = flags_of(texts.options);
     match judge_commands(alloc, flags, problem, proof, symbols, &mut terms) {

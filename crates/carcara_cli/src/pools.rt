@@ -36,7 +36,7 @@ pub fn pool_full(symbols: &Symbols, terms: Terms<'_>) -> Judgement
     ensures one_reference { IsOneToOne terms.entry.pass }
     ensures in_order { HasListsInOrder terms.entry.pass }
 {
-    let _leaves = symbols.count();
+    symbols.leaves_differ();
     let pass = terms.into_pass();
     pass.one_to_one();
     pass.lists_in_order();

@@ -2,7 +2,7 @@
 ghost use Rattle.std.specs.Prelude.{◌≡◌, ◌≢◌, ◌⊎◌, ◌≤◌, ◌↔◌, ℕ, List, length, map, string_bytes, IsTrue, IfOk, IsErrOf};
 ghost use Rattle.std.specs.Io.KnownBytes.{Appends};
 ghost use Rattle.file_ports.specs.Faults.{HasRisen};
-ghost use Rattle.file_ports.specs.Texts.{AreTold, AppendsFront};
+ghost use Rattle.file_ports.specs.Texts.{AreTold, AppendsPrefix};
 ghost use Rattle.carcara_cli.specs.Printed as spec;
 ghost use Rattle.command_words.specs.CommandLine.{asked_of};
 ghost use Rattle.carcara_cli.specs.TopCall.{most_bits, most_bytes, IsTooLong, IsAnswerTo, IsPrinted, MayAskBoth, ShowsUnsatisfiable};
@@ -88,7 +88,7 @@ fn answer_to<F: Folder>(
 /// Prints an answer, and says the status with which the program ends.
 fn report<S: Sink>(alloc: Global, answer: &Answer, out: &mut S) -> u8
     ensures whole { result ≢ 6 → result ≢ 7 → (result ≡ spec.status_of answer.now) × Appends (S.written out.old) (S.written out.new) (spec.text_of answer.now) }
-    ensures front { (result ≡ 6) ⊎ (result ≡ 7) → AppendsFront (S.written out.old) (S.written out.new) (spec.text_of answer.now) }
+    ensures prefix { (result ≡ 6) ⊎ (result ≡ 7) → AppendsPrefix (S.written out.old) (S.written out.new) (spec.text_of answer.now) }
     ensures failed { result ≡ 6 → HasRisen (S.faults out.old) (S.faults out.new) }
 {
     let Ok(text) = text_of(alloc, answer) else {

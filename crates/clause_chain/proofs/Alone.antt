@@ -3,24 +3,9 @@ use Rattle.std.proofs.Common.{◌≡◌, ◌≢◌, ◌⊎◌, ◌↔◌, inl, i
 use Rattle.std.proofs.lemmas.List.Elements.{Contains-append_left, Contains-push, Contains-push_cases}
 use Rattle.term_model.proofs.Lists.{contains_none, contains_cases, contains_head, contains_later}
 use Rattle.rule_model.specs.Resolution.{LeavesWithout, IsFirstsOf, IsJoined}
+use Rattle.rule_model.proofs.JoinedLists.{leaves_one, firsts_one}
 use Rattle.clause_chain.specs.declared.signed_term.SignedTerm.{SignedTerm}
 use Rattle.clause_chain.proofs.Keys.{signed_tells}
-
-pub leaves_one : {X : Type 0} (p : X) (xs a b : List X) → LeavesWithout p xs a → LeavesWithout p xs b → a ≡ b
-leaves_one p [] a b h k = h ∙ sym k
-leaves_one p (x ∷ xs) a b (inl (same, h)) (inl (again, k)) = leaves_one p xs a b h k
-leaves_one p (x ∷ xs) a b (inl (same, h)) (inr (other, k)) = absurd (other same)
-leaves_one p (x ∷ xs) a b (inr (other, h)) (inl (same, k)) = absurd (other same)
-leaves_one p (x ∷ xs) a b (inr (other, (us, e, h))) (inr (again, (vs, f, k))) =
-    rw (e, f, leaves_one p xs us vs h k) refl
-
-pub firsts_one : {X : Type 0} (seen xs a b : List X) → IsFirstsOf seen xs a → IsFirstsOf seen xs b → a ≡ b
-firsts_one seen [] a b h k = h ∙ sym k
-firsts_one seen (x ∷ xs) a b (inl (has, h)) (inl (again, k)) = firsts_one seen xs a b h k
-firsts_one seen (x ∷ xs) a b (inl (has, h)) (inr (lacks, k)) = absurd (lacks has)
-firsts_one seen (x ∷ xs) a b (inr (lacks, h)) (inl (has, k)) = absurd (lacks has)
-firsts_one seen (x ∷ xs) a b (inr (lacks, (us, e, h))) (inr (again, (vs, f, k))) =
-    rw (e, f, firsts_one (seen ++ x ∷ []) xs us vs h k) refl
 
 pub joined_one : {X : Type 0} (left right : List X) (here there : X) (a b : List X) → IsJoined left right here there a
     → IsJoined left right here there b → a ≡ b

@@ -4,6 +4,7 @@ use Rattle.std.proofs.lemmas.List.{append-nil, append_assoc}
 use Rattle.std.proofs.lemmas.List.Elements.{Contains-append_left}
 use Rattle.term_model.proofs.Lists.{contains_none, contains_cases, contains_head, contains_later}
 use Rattle.rule_model.specs.Resolution.{LeavesWithout, IsFirstsOf, IsJoined}
+use Rattle.rule_model.proofs.JoinedLists.{without_last, kept_last, repeated_last, new_last}
 use Rattle.clause_chain.specs.Adding.{AddsMissing, AddsOthers, StandsBefore}
 use Rattle.clause_chain.specs.declared.signed_term.SignedTerm.{SignedTerm}
 
@@ -17,32 +18,6 @@ kept_without p (x ∷ xs) rest u (inr (other, (us, e, w))) c =
       | inl here ↦ inr (rw (e, ← here) (contains_head x us))
       | inr later ↦ elim (kept_without p xs us u w later) [ inl same ↦ inl same | inr left ↦ inr (rw e (contains_later x u us left)) ]
     ]
-
--- what is removed is one item more
-pub without_last : {X : Type 0} (p : X) (xs rest : List X) (x : X) → LeavesWithout p xs rest → x ≡ p → LeavesWithout p (xs ++ x ∷ []) rest
-without_last p [] rest x w same = inl (same, w)
-without_last p (y ∷ xs) rest x (inl (here, w)) same = inl (here, without_last p xs rest x w same)
-without_last p (y ∷ xs) rest x (inr (other, (us, e, w))) same = inr (other, (us, e, without_last p xs us x w same))
-
-pub kept_last : {X : Type 0} (p : X) (xs rest : List X) (x : X) → LeavesWithout p xs rest → x ≢ p → LeavesWithout p (xs ++ x ∷ []) (rest ++ x ∷ [])
-kept_last p [] rest x w other = inr (other, ([], rw w refl, refl))
-kept_last p (y ∷ xs) rest x (inl (here, w)) other = inl (here, kept_last p xs rest x w other)
-kept_last p (y ∷ xs) rest x (inr (differs, (us, e, w))) other = inr (differs, (us ++ x ∷ [], rw e refl, kept_last p xs us x w other))
-
--- an item more of which the first ones are told
-pub repeated_last : {X : Type 0} (seen xs rest : List X) (x : X) → IsFirstsOf seen xs rest → Contains (seen ++ rest) x → IsFirstsOf seen (xs ++ x ∷ []) rest
-repeated_last seen [] rest x f has = inl (subst (λ l. Contains l x) (rw f (append-nil seen)) has, f)
-repeated_last seen (y ∷ xs) rest x (inl (before, f)) has = inl (before, repeated_last seen xs rest x f has)
-repeated_last seen (y ∷ xs) rest x (inr (new, (us, e, f))) has =
-    inr (new, (us, e, repeated_last (seen ++ y ∷ []) xs us x f (rw (append_assoc seen (y ∷ []) us) (rw e at has))))
-
-pub new_last : {X : Type 0} (seen xs rest : List X) (x : X) → IsFirstsOf seen xs rest → (Contains (seen ++ rest) x → ⊥)
-    → IsFirstsOf seen (xs ++ x ∷ []) (rest ++ x ∷ [])
-new_last seen [] rest x f lacks =
-    inr (λ has. lacks (Contains-append_left seen rest x has), ([], rw f refl, refl))
-new_last seen (y ∷ xs) rest x (inl (before, f)) lacks = inl (before, new_last seen xs rest x f lacks)
-new_last seen (y ∷ xs) rest x (inr (new, (us, e, f))) lacks =
-    inr (new, (us ++ x ∷ [], rw e refl, new_last (seen ++ y ∷ []) xs us x f (λ has. lacks (rw e (rw (append_assoc seen (y ∷ []) us) at has)))))
 
 -- one item more of those that are added in turn
 pub added_same : (there : SignedTerm) (old items now : List SignedTerm) (x : SignedTerm) → AddsOthers there old items now → x ≡ there

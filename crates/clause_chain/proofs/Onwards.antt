@@ -6,8 +6,8 @@ use Rattle.std.specs.List.{list_any}
 use Rattle.std.proofs.lemmas.List.{take_all}
 use Rattle.std.proofs.lemmas.Bool.{true≢false}
 use Rattle.term_model.proofs.Lists.{contains_none, contains_cases, contains_head, contains_later}
-use Rattle.rule_model.specs.Resolution.{IsFirstsOf, IsJoined}
-use Rattle.clause_chain.specs.Chaining.{Joins, JoinAll, clauses_in}
+use Rattle.rule_model.specs.Resolution.{IsFirstsOf, IsJoined, Joins, JoinAll}
+use Rattle.clause_chain.specs.Chaining.{clauses_in}
 use Rattle.clause_chain.specs.contracts.signed_term.SignedTermPartialEq.TheImpl as signed
 use Rattle.clause_chain.specs.declared.signed_term.SignedTerm.{SignedTerm}
 use Rattle.clause_chain.proofs.Keys.{signed_tells}

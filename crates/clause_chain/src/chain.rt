@@ -78,7 +78,7 @@ impl Chain {
     }
 
     /// Goes back to the empty clause.
-    fn clear(&mut self)
+    pub fn clear(&mut self)
         ensures { self.new ≡ [] }
     {
         self.places = HashMap::new(self.alloc);

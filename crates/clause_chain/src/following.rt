@@ -1,8 +1,8 @@
 //! Whether a chain through premises ends in a clause.
 
 ghost use Rattle.std.specs.Prelude.{◌≡◌, ◌↔◌, Contains, IfOk, IsTrue, List, length};
-ghost use Rattle.rule_model.specs.Resolution.{IsJoined};
-ghost use Rattle.clause_chain.specs.Chaining.{JoinAll, Joins, clauses_in};
+ghost use Rattle.rule_model.specs.Resolution.{IsJoined, JoinAll, Joins};
+ghost use Rattle.clause_chain.specs.Chaining.{clauses_in};
 ghost use Rattle.clause_chain.specs.declared.signed_term.SignedTerm.{SignedTerm};
 
 use crate::chain::Chain;

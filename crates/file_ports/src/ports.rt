@@ -76,7 +76,7 @@ pub trait Folder {
         ensures limit { faults self.new ≤ greatest_count }
         ensures failed { IsErrOf result OutStop.Failed → HasRisen (faults self.old) (faults self.new) };
 
-    /// Reads the next bytes of an open file into the front of a piece, and returns how many they are.
+    /// Reads the next bytes of an open file into the beginning of a piece, and returns how many they are.
     /// At a piece that is not empty, 0 is the end of the file.
     fn read(&mut self, file: FileNo, into: &mut [u8]) -> Result<usize, Failed>
         requires { is_open self.old file.0 }

@@ -2,7 +2,7 @@
 ghost use Rattle.std.specs.Prelude.{◌≡◌, ◌≤◌, ◌↔◌, List, [], ℕ, length, vec_len, IfOk, OnOk, OnErr, IsErrOf};
 ghost use Rattle.std.specs.Io.KnownBytes.{Appends};
 ghost use Rattle.file_ports.specs.Faults.{HasRisen};
-ghost use Rattle.file_ports.specs.Texts.{AreTold, IsLongerThan, AppendsFront};
+ghost use Rattle.file_ports.specs.Texts.{AreTold, IsLongerThan, AppendsPrefix};
 ghost use Rattle.file_ports.specs.Pieces.{AddsPiece};
 
 use crate::{Failed, FileNo, Folder, OutStop, Sink};
@@ -138,7 +138,7 @@ fn new_piece(alloc: Global, len: usize) -> Result<Vec<u8>, AllocError>
 /// Writes a whole text, in as many writes as the sink needs. After an error some beginning of the text was taken.
 pub fn write_whole<S: Sink>(out: &mut S, text: &[u8]) -> Result<(), OutStop>
     ensures all { OnOk result (Appends (S.written out.old) (S.written out.new) text.now) }
-    ensures front { OnErr result (AppendsFront (S.written out.old) (S.written out.new) text.now) }
+    ensures prefix { OnErr result (AppendsPrefix (S.written out.old) (S.written out.new) text.now) }
 
     ensures count { S.faults out.old ≤ S.faults out.new }
     ensures failed { IsErrOf result OutStop.Failed → HasRisen (S.faults out.old) (S.faults out.new) }

@@ -149,7 +149,7 @@ impl Assertions {
         ensures ready { OnOk result (AreAssertionsReady terms.new self.new) }
         ensures same { terms.new ≡ terms.old }
     {
-        let _leaves = symbols.count();
+        symbols.leaves_differ();
         terms.one_to_one();
         if is_placed(&self.placed, r) {
             return Ok(true);
@@ -166,7 +166,7 @@ impl Assertions {
         ensures { (ts : List Term) (t : Term) → ReferToAll symbols.now terms.now (references_of self.now) ts →
             RefersTo symbols.now terms.now r t → IsTrue result ↔ Contains ts t }
     {
-        let _leaves = symbols.count();
+        symbols.leaves_differ();
         terms.equal_exactly_where_terms_are();
         is_placed(&self.placed, r)
     }

@@ -179,7 +179,7 @@ impl LinearForms {
         ensures weight { IfOk result (λ w. (t : Term) → RefersTo symbols.now terms.old r t → IsToldWeight w (weight t)) }
         ensures same { terms.new ≡ terms.old }
     {
-        let _leaves = symbols.count();
+        symbols.leaves_differ();
         terms.one_to_one();
         terms.parts_of_trees();
         let k = self.root(symbols, terms, r)?;
@@ -197,7 +197,7 @@ impl LinearForms {
         ensures expanded { IfOk result (λ n. (t : Term) → RefersTo symbols.now terms.old r t → IsExpanded symbols.now terms.old t n self.new.found.items) }
         ensures same { terms.new ≡ terms.old }
     {
-        let _leaves = symbols.count();
+        symbols.leaves_differ();
         terms.one_to_one();
         terms.parts_of_trees();
         let k = self.root(symbols, terms, r)?;
@@ -249,7 +249,7 @@ impl LinearForms {
             IsDifference symbols.now terms.old t u n self.new.found.items) }
         ensures same { terms.new ≡ terms.old }
     {
-        let _leaves = symbols.count();
+        symbols.leaves_differ();
         terms.one_to_one();
         terms.parts_of_trees();
         let pair = self.root_pair(symbols, terms, one, other)?;

@@ -89,7 +89,7 @@ impl Graph {
         ensures met { IfOk result (λ found. MeetsTerm symbols.now terms.old self.old self.new r found) }
         ensures same { terms.new ≡ terms.old }
     {
-        let _leaves = symbols.count();
+        symbols.leaves_differ();
         terms.one_to_one();
         terms.parts_of_trees();
         if let Some(found) = self.find(&Item::Term(r)) {
@@ -125,7 +125,7 @@ impl Graph {
         if let Some(number) = self.memo.look(&at) {
             return Ok(number);
         }
-        let _leaves = symbols.count();
+        symbols.leaves_differ();
         terms.one_to_one();
         way.clear();
         'items: loop {

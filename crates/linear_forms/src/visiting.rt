@@ -53,7 +53,7 @@ fn look_list(
     ensures graph { OnOk result (MeetsParts symbols.now terms.old graph.old graph.new (Item.List list)) }
     ensures same { terms.new ≡ terms.old }
 {
-    let _leaves = symbols.count();
+    symbols.leaves_differ();
     terms.one_to_one();
     terms.parts_of_trees();
     let (first, rest) = terms.cell_parts(list);
@@ -143,7 +143,7 @@ fn visit_difference(
     ensures graph { OnOk result (MeetsParts symbols.now terms.old graph.old graph.new (Item.List list)) }
     ensures same { terms.new ≡ terms.old }
 {
-    let _leaves = symbols.count();
+    symbols.leaves_differ();
     match look_list(symbols, terms, graph, list)? {
         Listed::Part(part) => Ok(Visit::Part(part)),
         Listed::One(first, term) => match numeral(symbols, first) {
@@ -170,7 +170,7 @@ fn visit_term(
     ensures graph { OnOk result (MeetsParts symbols.now terms.old graph.old graph.new (Item.Term r)) }
     ensures same { terms.new ≡ terms.old }
 {
-    let _leaves = symbols.count();
+    symbols.leaves_differ();
     terms.one_to_one();
     terms.parts_of_trees();
     if r.is_leaf() {
@@ -199,7 +199,7 @@ pub(crate) fn visit_item(
     ensures graph { OnOk result (MeetsParts symbols.now terms.old graph.old graph.new item.now) }
     ensures same { terms.new ≡ terms.old }
 {
-    let _leaves = symbols.count();
+    symbols.leaves_differ();
     terms.one_to_one();
     terms.parts_of_trees();
     match item {

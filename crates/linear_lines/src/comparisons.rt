@@ -101,7 +101,7 @@ fn binary_operator(symbols: &Symbols, terms: &mut Terms<'_>, r: Ref) -> Option<O
     ensures other { IfNone result ((op : Op) (t : Term) → RefersTo symbols.now terms.old r t → ¬ IsOver op 2 t) }
     ensures same { terms.new ≡ terms.old }
 {
-    let _leaves = symbols.count();
+    symbols.leaves_differ();
     let Some(head) = terms.head(r) else {
         return None;
     };
@@ -180,7 +180,7 @@ fn compared(symbols: &Symbols, terms: &mut Terms<'_>, truth: bool, r: Ref) -> Op
     ensures read { (t : Term) → RefersTo symbols.now terms.old r t → IsComparisonRead symbols.now terms.old truth t result }
     ensures same { terms.new ≡ terms.old }
 {
-    let _leaves = symbols.count();
+    symbols.leaves_differ();
     terms.equal_exactly_where_terms_are();
     let Some(op) = binary_operator(symbols, terms, r) else {
         return None;

@@ -10,13 +10,12 @@ use Rattle.rule_model.specs.declared.rules.StepCause.{StepCause}
 use Rattle.rule_model.specs.declared.statuses.Status.{Status}
 use Rattle.rule_model.specs.declared.statuses.Verdict.{Verdict}
 use Rattle.rule_model.specs.Columns.{checking_in}
-use Rattle.rule_model.specs.Conditions.{MeetsRule, Met, MeetsWhere, IsMetAt, IsTooWideBy, IsTooWide, IsTooWideWhere, IsTooWideAt}
+use Rattle.rule_model.specs.Conditions.{MeetsRule, Met, MeetsWhere, IsMetAt, IsTooWideBy, IsTooWide, IsTooWideWhere, IsTooWideAt, MeetsClosing}
 use Rattle.rule_model.specs.Judged.{Judged, judged_at, anchors_at}
 use Rattle.rule_model.specs.Proofs.{Fraction, ProofItems}
-use Rattle.rule_model.specs.Reading.{rule_at, clause_at, premises_at, discharged_at, pivots_at, ratios_at, closes_at, bindings_at}
-use Rattle.rule_model.specs.RuleNames.{is_assume}
+use Rattle.rule_model.specs.Reading.{rule_at, clause_at, premises_at, discharged_at, pivots_at, ratios_at, closes_at, bindings_at, is_assume}
 use Rattle.rule_model.specs.Statuses.{Checking, IsAsserted, MayAssume, kind_of_rule, IsStatusBy, IsStatusAt, AreStatuses, ReachesEmpty, IsVerdict}
-use Rattle.rule_model.specs.Subproof.{IsAssumeIn, EndsIn, negations, AreLinkedTo, IsSubproof, IsLetClosing, MeetsClosing}
+use Rattle.rule_model.specs.Subproof.{IsAssumeIn, EndsIn, negations, AreLinkedTo, IsSubproof, IsLetClosing}
 use Rattle.mode_laws.specs.Pivots.{without_pivots}
 use Rattle.mode_laws.proofs.ReadAlike.{ReadAlike, flipped, joined, bare_alike}
 

@@ -78,7 +78,7 @@ impl OpenScopes {
             LacksCellOf symbols.now terms.new.pass (IsAnchorImage of)) }
         ensures keeps { KeepsTerms terms.old terms.new }
     {
-        let _leaves = symbols.count();
+        symbols.leaves_differ();
         terms.one_to_one();
         terms_correspond();
         proofs_stand_for_one();

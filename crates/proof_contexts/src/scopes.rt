@@ -96,7 +96,7 @@ impl OpenScopes {
         ensures scope { scope_of self.new ≡ scope_of self.old }
     {
         let _ = proof;
-        let _leaves = symbols.count();
+        symbols.leaves_differ();
         terms.one_to_one();
         proofs_stand_for_one();
         proofs_stay();
@@ -125,7 +125,7 @@ impl OpenScopes {
             IsLeaf symbols.now variable (variable_leaf x) → IsSome result ↔ IsBoundBy anchors x }
     {
         let _ = proof;
-        let _leaves = symbols.count();
+        symbols.leaves_differ();
         terms.one_to_one();
         proofs_stand_for_one();
         images_are_closed();

@@ -3,7 +3,8 @@ use Rattle.std.proofs.Common.{◌≡◌, ◌<◌, ◌-◌, ◌^◌, ℕ, suc, Bo
 use Rattle.std.specs.Borrow.{Bor}
 use Rattle.std.specs.Option.{option_map}
 use Rattle.std.proofs.lemmas.List.{length-map}
-use Rattle.rule_model.specs.RuleNames.{word_of, is_assume, is_unknown}
+use Rattle.rule_model.specs.RuleNames.{word_of, is_unknown}
+use Rattle.rule_model.specs.Reading.{is_assume}
 use Rattle.rule_model.specs.Proofs.{Step}
 use Rattle.rule_model.specs.Scopes.{Scope, next_index, next_scope}
 use Rattle.rule_model.specs.Commands.{assume, step, scopes_to}

@@ -4,7 +4,7 @@ use Rattle.std.specs.Prelude.{if◌then◌else◌, Some, None, ⊤}
 use Rattle.std.specs.List.{AllByRecursion}
 use Rattle.std.specs.Option.{option_map}
 use Rattle.rule_model.specs.declared.rules.Rule.{Rule}
-use Rattle.rule_model.specs.RuleNames.{is_assume}
+use Rattle.rule_model.specs.Reading.{is_assume}
 use Rattle.rule_model.specs.Proofs.{Step}
 use Rattle.rule_model.specs.Scopes.{Anchor, Nesting, outermost, inside, Scope, scope_number}
 use Rattle.rule_model.specs.Commands.{Line, IndexedCommand, assume, step, closing, lines_to, scopes_to}

@@ -1,6 +1,6 @@
 //! Laws of the proof over terms for which a proof over references stands.
 
-ghost use Rattle.std.specs.Prelude.{◌≡◌, ℕ};
+ghost use Rattle.std.specs.Prelude.{◌≡◌, ℕ, All};
 ghost use Rattle.std.specs.List.{AllZip};
 ghost use Rattle.pair_pool.specs.Views.{IsOneToOne};
 ghost use Rattle.rule_model.specs.Proofs.{ProofItems};
@@ -9,7 +9,7 @@ ghost use Rattle.rule_model.specs.Reading.{parent_at, bindings_at, last_inside_a
 ghost use Rattle.rule_model.specs.Scopes.{commands_in, subproofs_in};
 ghost use Rattle.sym_table.specs.Table.{Table, IsTable, Keeps};
 ghost use Rattle.term_model.specs.Terms.{Var, Term};
-ghost use Rattle.term_pool.specs.Views.{TermsView, RefersTo, KeepsTerms};
+ghost use Rattle.term_pool.specs.Views.{TermsView, IsTerm, RefersTo, KeepsTerms};
 ghost use Rattle.term_pool.specs.Bindings.{IsBindingOf};
 ghost use Rattle.proof_store.specs.Meaning.{IsPivotOf, StandForItems, AreOfTerms, IsMeant};
 
@@ -67,6 +67,8 @@ pub fn terms_correspond()
         AllZip (RefersTo s v) (clause_at refs i) (clause_at proof i) }
     ensures pivots { (s : Table) (v : TermsView) (refs : ProofItems ℕ ℕ) (proof : ProofItems Var Term) (i : ℕ) → StandForItems s v refs proof →
         AllZip (IsPivotOf s v) (pivots_at refs i) (pivots_at proof i) }
+    ensures pivot_terms { (s : Table) (v : TermsView) (refs : ProofItems ℕ ℕ) (proof : ProofItems Var Term) (i : ℕ) → StandForItems s v refs proof →
+        All (λ p. IsTerm s v p.0) (pivots_at refs i) }
     ensures bindings { (s : Table) (v : TermsView) (refs : ProofItems ℕ ℕ) (proof : ProofItems Var Term) (k : ℕ) → StandForItems s v refs proof →
         AllZip (IsBindingOf s v) (bindings_at refs k) (bindings_at proof k) }
     ensures parent { (s : Table) (v : TermsView) (refs : ProofItems ℕ ℕ) (proof : ProofItems Var Term) (k : ℕ) → StandForItems s v refs proof →

@@ -17,12 +17,14 @@ use Rattle.term_model.proofs.Basics.{any_here, any_later}
 use Rattle.term_model.proofs.Chains.{less_eq_is, less_is}
 use Rattle.term_model.proofs.Meanings.{negation_is, equality_is}
 use Rattle.term_model.proofs.Sorting.{value_has_sort, int_value, when-same}
-use Rattle.rule_model.specs.Arith.{MeetsFormSimplification, Relation, exceeds, reaches, equals, Comparison, if_true, if_false, denial, coefficient_in, bound_by, bound_in, CoefficientLine, IsEquation, AreLines, signed_by, factor, scaled, IsWhole, IsRoundedUp, IsScaledBound, added_coefficient, IsAddedBound, MeetsLaGeneric, MeetsLaDisequality, MeetsLaTotality, MeetsLaRwEq}
+use Rattle.rule_model.specs.Arith.{MeetsFormSimplification, Relation, exceeds, reaches, equals, Comparison, if_true, if_false, denial, coefficient_in, bound_by, bound_in, CoefficientLine, IsEquation, AreLines, signed_by, factor, scaled, IsWhole, IsRoundedUp, IsScaledBound, added_coefficient, IsAddedBound, MeetsLaGeneric}
 use Rattle.rule_model.specs.declared.letter.Letter.{Letter}
 use Rattle.rule_model.specs.Clauses.{MakesClauseTrue}
 use Rattle.rule_model.specs.Conditions.{IsClauseOfTruths}
 use Rattle.rule_model.specs.LinearForms.{constant, part, coefficient, opaque_terms, dot, is_listed, AreDistinct, Covers}
+use Rattle.rule_model.specs.Patterns.{a, b, no, conj, disj, equal, less_eq}
 use Rattle.rule_model.specs.Proofs.{Fraction}
+use Rattle.rule_model.specs.Schemas.{ternary, tautology, IsInstanceOf}
 use Rattle.rule_model.proofs.ArgumentLists.{true_or_not, all_of_and, and_of_all, or_of_some}
 use Rattle.rule_model.proofs.Arguments.{all_arguments_are_truths}
 use Rattle.rule_model.proofs.Joining.{equal_sorts, same_value}
@@ -271,7 +273,7 @@ module _ (I : Interpretation) (r : Valuation) where
   la_generic_keeps ratios premises clause met =
       elim (some_or_none clause) [
         | inl now ↦ now
-        | inr none ↦ absurd (lines_absurd met.form.multiple met.form.lines met.bound met.cancelled met.added met.absurd_bound (lines_hold clause met.form.fractions met.form.lines met.form.read none))
+        | inr none ↦ absurd (lines_absurd met.form.multiple met.form.lines met.absurd_by.bound met.absurd_by.cancelled met.absurd_by.added met.absurd_by.absurd_bound (lines_hold clause met.form.fractions met.form.lines met.form.read none))
       ]
 
   -- la_disequality, la_totality and la_rw_eq
@@ -297,7 +299,7 @@ module _ (I : Interpretation) (r : Valuation) where
         | inr (inr above) ↦ any_later (MakesTrue I r) (equality t u) later (any_here (MakesTrue I r) (not_of (at_most t u)) last (not_at_most t u above))
       ]
 
-  pub la_disequality_keeps : ValuationFits r → (premises : List (List Term)) (clause : List Term) → MeetsLaDisequality premises clause → IsClauseOfTruths clause → MakesClauseTrue I r clause
+  pub la_disequality_keeps : ValuationFits r → (premises : List (List Term)) (clause : List Term) → IsInstanceOf (tautology (ternary Op.Or (equal a b) (no (less_eq a b)) (no (less_eq b a)) ∷ [])) premises clause → IsClauseOfTruths clause → MakesClauseTrue I r clause
   la_disequality_keeps fits premises clause met sorted =
       let t = met.terms Letter.A in
       let u = met.terms Letter.B in
@@ -317,14 +319,14 @@ module _ (I : Interpretation) (r : Valuation) where
         | inr (inr above) ↦ any_later (MakesTrue I r) (at_most t u) (at_most u t ∷ []) (any_here (MakesTrue I r) (at_most u t) [] ((less_eq_is I r u t).1 (omega (arith, ints, above))))
       ]
 
-  pub la_totality_keeps : (premises : List (List Term)) (clause : List Term) → MeetsLaTotality premises clause → MakesClauseTrue I r clause
+  pub la_totality_keeps : (premises : List (List Term)) (clause : List Term) → IsInstanceOf (tautology (disj (less_eq a b) (less_eq b a) ∷ [])) premises clause → MakesClauseTrue I r clause
   la_totality_keeps premises clause met =
       let t = met.terms Letter.A in
       let u = met.terms Letter.B in
       rw met.literals (any_here (MakesTrue I r) (operation Op.Or (terms_of (at_most t u ∷ at_most u t ∷ []))) []
       (or_of_some I r (at_most t u ∷ at_most u t ∷ []) (one_of_two t u)))
 
-  pub la_rw_eq_keeps : ValuationFits r → (premises : List (List Term)) (clause : List Term) → MeetsLaRwEq premises clause → IsClauseOfTruths clause → MakesClauseTrue I r clause
+  pub la_rw_eq_keeps : ValuationFits r → (premises : List (List Term)) (clause : List Term) → IsInstanceOf (tautology (equal (equal a b) (conj (less_eq a b) (less_eq b a)) ∷ [])) premises clause → IsClauseOfTruths clause → MakesClauseTrue I r clause
   la_rw_eq_keeps fits premises clause met sorted =
       let t = met.terms Letter.A in
       let u = met.terms Letter.B in

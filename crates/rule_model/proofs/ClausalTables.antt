@@ -1,7 +1,7 @@
 -- The truth table of each clausal rule that has a schema.
 use Rattle.std.proofs.Common.{◌≡◌, true, Option, Some, None, refl}
 use Rattle.rule_model.specs.declared.rules.Rule.{Rule}
-use Rattle.rule_model.specs.Clausal.{schema_of}
+use Rattle.rule_model.specs.RuleSchemas.{schema_of}
 use Rattle.rule_model.specs.Schemas.{Schema}
 use Rattle.rule_model.proofs.TruthTables.{is_sound}
 

@@ -11,15 +11,15 @@ use Rattle.rule_model.specs.declared.kinds.Family.{Family}
 use Rattle.rule_model.specs.declared.kinds.Kind.{Kind}
 use Rattle.rule_model.specs.declared.rules.Mode.{Mode}
 use Rattle.rule_model.specs.declared.rules.Rule.{Rule}
-use Rattle.rule_model.specs.Clausal.{schema_of, Begins, IsOnlyPremise, Changes, HasEachOnce, HasEach, IsTautology, MeetsClausal}
+use Rattle.rule_model.specs.Clausal.{Begins, IsOnlyPremise, Changes, HasEachOnce, HasEach, IsTautology}
 use Rattle.rule_model.specs.Clauses.{MakesClauseTrue}
 use Rattle.rule_model.specs.Conditions.{MeetsRule, Met, LooksAtContext, IsClauseOfTruths, IsWellSortedStep, KeepsTruth}
 use Rattle.rule_model.specs.Contexts.{IsInContext}
-use Rattle.rule_model.specs.Ite.{choice_schema_of, MeetsChoice}
 use Rattle.rule_model.specs.Judged.{Judged}
 use Rattle.rule_model.specs.Resolution.{Resolves}
 use Rattle.rule_model.specs.Rewriting.{RewriteRow}
 use Rattle.rule_model.specs.RuleNames.{kind_of}
+use Rattle.rule_model.specs.RuleSchemas.{schema_of, choice_schema_of, MeetsChoice, MeetsClausal}
 use Rattle.rule_model.specs.Schemas.{Schema, IsInstanceOf}
 use Rattle.rule_model.specs.Simplify.{not_simplify, implies_simplify, equiv_simplify, bool_simplify, ite_simplify, eq_simplify, comp_simplify, MeetsSimplification}
 use Rattle.rule_model.proofs.ArgumentLists.{and_pos_keeps, and_neg_keeps, or_pos_keeps, or_neg_keeps, and_keeps, or_keeps, not_or_keeps, not_and_keeps}
@@ -36,12 +36,6 @@ use Rattle.rule_model.proofs.StrictResolution.{strict_sound}
 
 -- a clausal rule asks what its row asks
 pub clausal_asks : (rule : Rule) (j : Judged) → kind_of rule ≡ Kind.Judged Family.Clausal → MeetsRule rule j ↔ MeetsClausal rule j.premises j.clause
-clausal_asks Rule.Assume j is = absurd cc
-clausal_asks Rule.Unknown j is = absurd cc
-clausal_asks Rule.Hole j is = absurd cc
-clausal_asks Rule.LiaGeneric j is = absurd cc
-clausal_asks Rule.RareRewrite j is = absurd cc
-clausal_asks Rule.AllSimplify j is = absurd cc
 clausal_asks Rule.True j is = (λ h. h, λ h. h)
 clausal_asks Rule.False j is = (λ h. h, λ h. h)
 clausal_asks Rule.NotNot j is = (λ h. h, λ h. h)
@@ -60,10 +54,6 @@ clausal_asks Rule.EquivPos1 j is = (λ h. h, λ h. h)
 clausal_asks Rule.EquivPos2 j is = (λ h. h, λ h. h)
 clausal_asks Rule.EquivNeg1 j is = (λ h. h, λ h. h)
 clausal_asks Rule.EquivNeg2 j is = (λ h. h, λ h. h)
-clausal_asks Rule.ItePos1 j is = absurd cc
-clausal_asks Rule.ItePos2 j is = absurd cc
-clausal_asks Rule.IteNeg1 j is = absurd cc
-clausal_asks Rule.IteNeg2 j is = absurd cc
 clausal_asks Rule.And j is = (λ h. h, λ h. h)
 clausal_asks Rule.Or j is = (λ h. h, λ h. h)
 clausal_asks Rule.NotOr j is = (λ h. h, λ h. h)
@@ -79,48 +69,11 @@ clausal_asks Rule.Equiv1 j is = (λ h. h, λ h. h)
 clausal_asks Rule.Equiv2 j is = (λ h. h, λ h. h)
 clausal_asks Rule.NotEquiv1 j is = (λ h. h, λ h. h)
 clausal_asks Rule.NotEquiv2 j is = (λ h. h, λ h. h)
-clausal_asks Rule.Ite1 j is = absurd cc
-clausal_asks Rule.Ite2 j is = absurd cc
-clausal_asks Rule.NotIte1 j is = absurd cc
-clausal_asks Rule.NotIte2 j is = absurd cc
 clausal_asks Rule.Contraction j is = (λ h. h, λ h. h)
 clausal_asks Rule.Reordering j is = (λ h. h, λ h. h)
 clausal_asks Rule.Weakening j is = (λ h. h, λ h. h)
 clausal_asks Rule.Tautology j is = (λ h. h, λ h. h)
-clausal_asks Rule.Resolution j is = absurd cc
-clausal_asks Rule.ThResolution j is = absurd cc
-clausal_asks Rule.Refl j is = absurd cc
-clausal_asks Rule.Symm j is = absurd cc
-clausal_asks Rule.NotSymm j is = absurd cc
-clausal_asks Rule.Trans j is = absurd cc
-clausal_asks Rule.Cong j is = absurd cc
-clausal_asks Rule.EqReflexive j is = absurd cc
-clausal_asks Rule.EqSymmetric j is = absurd cc
-clausal_asks Rule.EqTransitive j is = absurd cc
-clausal_asks Rule.EqCongruent j is = absurd cc
-clausal_asks Rule.EqCongruentPred j is = absurd cc
-clausal_asks Rule.Subproof j is = absurd cc
-clausal_asks Rule.Let j is = absurd cc
-clausal_asks Rule.ConnectiveDef j is = absurd cc
-clausal_asks Rule.IteIntro j is = absurd cc
-clausal_asks Rule.DistinctElim j is = absurd cc
-clausal_asks Rule.NotSimplify j is = absurd cc
-clausal_asks Rule.ImpliesSimplify j is = absurd cc
-clausal_asks Rule.EquivSimplify j is = absurd cc
-clausal_asks Rule.BoolSimplify j is = absurd cc
-clausal_asks Rule.IteSimplify j is = absurd cc
-clausal_asks Rule.EqSimplify j is = absurd cc
-clausal_asks Rule.CompSimplify j is = absurd cc
-clausal_asks Rule.AndSimplify j is = absurd cc
-clausal_asks Rule.OrSimplify j is = absurd cc
-clausal_asks Rule.LaGeneric j is = absurd cc
-clausal_asks Rule.LaDisequality j is = absurd cc
-clausal_asks Rule.LaTotality j is = absurd cc
-clausal_asks Rule.LaRwEq j is = absurd cc
-clausal_asks Rule.SumSimplify j is = absurd cc
-clausal_asks Rule.ProdSimplify j is = absurd cc
-clausal_asks Rule.MinusSimplify j is = absurd cc
-clausal_asks Rule.UnaryMinusSimplify j is = absurd cc
+clausal_asks rule j is = absurd cc
 
 -- a clause with the literals of one that is true
 any_moved : {X : Type 0} (P : X → Type 0) (xs ys : List X) → ((x : X) → Contains xs x → Contains ys x) → Any P xs → Any P ys

@@ -14,7 +14,8 @@ use Rattle.term_model.proofs.Flips.{flips_value, value_turned}
 use Rattle.term_model.proofs.Meanings.{negation_is, equality_is}
 use Rattle.rule_model.specs.declared.rules.Mode.{Mode}
 use Rattle.rule_model.specs.Clauses.{MakesClauseTrue}
-use Rattle.rule_model.specs.Congruence.{Equates, Implies, IsImplied, units, denials, Denies, AreSides, IsConnected, here, further, IsChain, IsWay, Head, operator, function, applied, IsLinked, AreLinked, AreDifferences, ArePlaces, HangTogether, HangTogetherDenied, AreCongruent, AreCongruentTruths, GivesPredicates, MeetsSymm, MeetsNotSymm, MeetsTrans, MeetsCong, MeetsEqReflexive, MeetsEqSymmetric, MeetsEqTransitive, MeetsEqCongruent, MeetsEqCongruentPred}
+use Rattle.rule_model.specs.Congruence.{Equates, Implies, IsImplied, units, denials, Denies, AreSides, IsConnected, here, further, IsChain, IsWay, Head, operator, function, applied, IsLinked, AreLinked, AreDifferences, ArePlaces, HangTogether, HangTogetherDenied, AreCongruent, AreCongruentTruths, GivesPredicates, TurnsRound, IsReflexive, IsSymmetric}
+use Rattle.rule_model.specs.Clausal.{as_it_stands}
 use Rattle.rule_model.proofs.ArgumentLists.{true_or_not}
 
 module _ (I : Interpretation) (r : Valuation) where
@@ -41,21 +42,21 @@ module _ (I : Interpretation) (r : Valuation) where
   turned : (t u : Term) → MakesTrue I r (equality t u) → MakesTrue I r (equality u t)
   turned t u h = (equality_is I r u t).1 (sym ((equality_is I r t u).0 h))
 
-  pub symm_keeps : (mode : Mode) (premises : List (List Term)) (clause : List Term) → MeetsSymm mode premises clause → AreTrue premises → MakesClauseTrue I r clause
+  pub symm_keeps : (mode : Mode) (premises : List (List Term)) (clause : List Term) → TurnsRound as_it_stands premises clause → AreTrue premises → MakesClauseTrue I r clause
   symm_keeps mode premises clause met all =
       let unit = All-head (MakesClauseTrue I r) _ [] (subst AreTrue met.premise all) in
       rw met.turned (true_unit _ (turned met.left met.right (unit_true _ unit)))
 
-  pub not_symm_keeps : (mode : Mode) (premises : List (List Term)) (clause : List Term) → MeetsNotSymm mode premises clause → AreTrue premises → MakesClauseTrue I r clause
+  pub not_symm_keeps : (mode : Mode) (premises : List (List Term)) (clause : List Term) → TurnsRound not_of premises clause → AreTrue premises → MakesClauseTrue I r clause
   not_symm_keeps mode premises clause met all =
       let unit = All-head (MakesClauseTrue I r) _ [] (subst AreTrue met.premise all) in
       let fails = (negation_is I r (equality met.left met.right)).0 (unit_true _ unit) in
       rw met.turned (true_unit _ ((negation_is I r (equality met.right met.left)).1 (λ h. fails (turned met.right met.left h))))
 
-  pub eq_reflexive_keeps : (mode : Mode) (premises : List (List Term)) (clause : List Term) → MeetsEqReflexive mode premises clause → MakesClauseTrue I r clause
+  pub eq_reflexive_keeps : (mode : Mode) (premises : List (List Term)) (clause : List Term) → IsReflexive premises clause → MakesClauseTrue I r clause
   eq_reflexive_keeps mode premises clause met = rw met.literal (equal_unit met.side met.side refl)
 
-  pub eq_symmetric_keeps : (mode : Mode) (premises : List (List Term)) (clause : List Term) → MeetsEqSymmetric mode premises clause → MakesClauseTrue I r clause
+  pub eq_symmetric_keeps : (mode : Mode) (premises : List (List Term)) (clause : List Term) → IsSymmetric premises clause → MakesClauseTrue I r clause
   eq_symmetric_keeps mode premises clause met =
       rw met.literal (equal_unit (equality met.left met.right) (equality met.right met.left)
       (ap (λ (x : Bool). truth (x && true)) (value_turned (value I r met.left) (value I r met.right))))
@@ -198,20 +199,20 @@ module _ (I : Interpretation) (r : Valuation) where
       rw h.literals (denied_keeps h.sides h.rest (keeps (units h.sides) h.rest h.given))
 
   -- trans, cong, eq_transitive, eq_congruent, eq_congruent_pred
-  pub trans_keeps : (mode : Mode) (premises : List (List Term)) (clause : List Term) → MeetsTrans mode premises clause → AreTrue premises → MakesClauseTrue I r clause
+  pub trans_keeps : (mode : Mode) (premises : List (List Term)) (clause : List Term) → Equates (IsWay mode) premises clause → AreTrue premises → MakesClauseTrue I r clause
   trans_keeps mode = equates_keeps (IsWay mode) (way_equal mode)
 
-  pub cong_keeps : (mode : Mode) (premises : List (List Term)) (clause : List Term) → MeetsCong mode premises clause → AreTrue premises → MakesClauseTrue I r clause
+  pub cong_keeps : (mode : Mode) (premises : List (List Term)) (clause : List Term) → Equates (AreCongruent (HangTogether mode)) premises clause → AreTrue premises → MakesClauseTrue I r clause
   cong_keeps mode =
       equates_keeps (AreCongruent (HangTogether mode)) (congruent_equal (HangTogether mode) (together_equal mode))
 
-  pub eq_transitive_keeps : (mode : Mode) (premises : List (List Term)) (clause : List Term) → MeetsEqTransitive mode premises clause → MakesClauseTrue I r clause
+  pub eq_transitive_keeps : (mode : Mode) (premises : List (List Term)) (clause : List Term) → Denies (Equates (IsWay mode)) premises clause → MakesClauseTrue I r clause
   eq_transitive_keeps mode = denies_keeps (Equates (IsWay mode)) (equates_keeps (IsWay mode) (way_equal mode))
 
   denied_congruent : (mode : Mode) → MakesEqual (AreCongruent (HangTogetherDenied mode))
   denied_congruent mode = congruent_equal (HangTogetherDenied mode) (denied_equal mode)
 
-  pub eq_congruent_keeps : (mode : Mode) (premises : List (List Term)) (clause : List Term) → MeetsEqCongruent mode premises clause → MakesClauseTrue I r clause
+  pub eq_congruent_keeps : (mode : Mode) (premises : List (List Term)) (clause : List Term) → Denies (Equates (AreCongruent (HangTogetherDenied mode))) premises clause → MakesClauseTrue I r clause
   eq_congruent_keeps mode =
       denies_keeps (Equates (AreCongruent (HangTogetherDenied mode)))
       (equates_keeps (AreCongruent (HangTogetherDenied mode)) (denied_congruent mode))
@@ -230,5 +231,5 @@ module _ (I : Interpretation) (r : Valuation) where
   predicates_keep Mode.Strict premises clause (inr h) =
       implies_keeps (AreCongruent (HangTogetherDenied Mode.Strict)) (denied_congruent Mode.Strict) premises clause h
 
-  pub eq_congruent_pred_keeps : (mode : Mode) (premises : List (List Term)) (clause : List Term) → MeetsEqCongruentPred mode premises clause → MakesClauseTrue I r clause
+  pub eq_congruent_pred_keeps : (mode : Mode) (premises : List (List Term)) (clause : List Term) → Denies (GivesPredicates mode) premises clause → MakesClauseTrue I r clause
   eq_congruent_pred_keeps mode = denies_keeps (GivesPredicates mode) (predicates_keep mode)

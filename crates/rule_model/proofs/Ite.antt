@@ -19,7 +19,8 @@ use Rattle.term_model.proofs.Sorting.{value_has_sort, bool_value, when-same}
 use Rattle.rule_model.specs.declared.rules.Rule.{Rule}
 use Rattle.rule_model.specs.Clauses.{MakesClauseTrue}
 use Rattle.rule_model.specs.Conditions.{IsClauseOfTruths}
-use Rattle.rule_model.specs.Ite.{choice_schema_of, connective_definitions, MeetsConnectiveDef, choice, IsFactOfChoice, MeetsIteIntro, IsInequality, AreInequalities, IsOfTwo, IsOfTruths, IsOfOthers, MeetsDistinctElim}
+use Rattle.rule_model.specs.RuleSchemas.{choice_schema_of}
+use Rattle.rule_model.specs.Ite.{connective_definitions, MeetsConnectiveDef, choice, IsFactOfChoice, MeetsIteIntro, IsInequality, AreInequalities, IsOfTwo, IsOfTruths, IsOfOthers, MeetsDistinctElim}
 use Rattle.rule_model.specs.Rewriting.{RewriteRow, Rewrites}
 use Rattle.rule_model.specs.Schemas.{Schema, fill, IsInstanceOf}
 use Rattle.rule_model.proofs.ArgumentLists.{true_or_not, all_of_and, and_of_all}

@@ -1,6 +1,6 @@
 -- and_simplify and or_simplify keep truth.
-use Rattle.std.proofs.Common.{◌≡◌, ◌↔◌, inl, inr, ℕ, zero, suc, ◌+◌, List, [], ◌∷◌, Bool, true, false, not, refl, sym, ap, ◌∙◌, subst, arith, Some, All, Any}
-use Rattle.std.proofs.lemmas.List.Elements.{All-nil, All-cons, All-head, All-tail, All-contains}
+use Rattle.std.proofs.Common.{◌≡◌, ◌↔◌, inl, inr, ℕ, zero, suc, ◌+◌, List, [], ◌∷◌, ◌++◌, Bool, true, false, not, refl, sym, ap, ◌∙◌, subst, arith, Some, All, Any}
+use Rattle.std.proofs.lemmas.List.Elements.{All-nil, All-cons, All-head, All-tail, All-contains, All-append}
 use Rattle.term_model.specs.declared.symbols.Op.{Op}
 use Rattle.term_model.specs.declared.symbols.Sort.{Sort}
 use Rattle.term_model.specs.Flips.{equality}
@@ -14,7 +14,8 @@ use Rattle.term_model.proofs.Tests.{sort_eq_decides}
 use Rattle.term_model.proofs.Basics.{and-left, any_here, any_later, any_cases, same_tests}
 use Rattle.term_model.proofs.Meanings.{is_true, true_is, not_not, equality_is}
 use Rattle.term_model.proofs.Sorting.{value_has_sort, bool_value, when-same, when-true}
-use Rattle.rule_model.specs.Simplify.{negated, AreOpposed, IsWithout, end, drop, keep, IsOnceEach, end_of, repeat, fresh, IsShortened, StandsAs, JoinsTo, MeetsJoining, MeetsAndSimplify, MeetsOrSimplify}
+use Rattle.rule_model.specs.Resolution.{LeavesWithout, IsFirstsOf}
+use Rattle.rule_model.specs.Simplify.{negated, AreOpposed, IsShortened, StandsAs, JoinsTo, MeetsJoining}
 use Rattle.rule_model.specs.Clauses.{MakesClauseTrue}
 use Rattle.rule_model.specs.Conditions.{IsClauseOfTruths}
 use Rattle.rule_model.proofs.ArgumentLists.{true_or_not, all_of_and, and_of_all, some_of_or, or_of_some}
@@ -38,31 +39,33 @@ equal_sorts t u h = sides_listed t u h.sorts h.arguments h.is
 
 -- A shortened list has a property of all its items where the whole list has, as far as the neutral term has it.
 module _ (P : Term → Type 0) where
-  without_keeps : (t : Term) (ts us : List Term) → IsWithout t ts us → All P ts → All P us
-  without_keeps t _ _ end all = All-nil P
-  without_keeps t _ _ (drop ts us more) all = without_keeps t ts us more (All-tail P t ts all)
-  without_keeps t _ _ (keep u ts us apart more) all =
-      All-cons P u us (All-head P u ts all) (without_keeps t ts us more (All-tail P u ts all))
+  without_keeps : (t : Term) (ts us : List Term) → LeavesWithout t ts us → All P ts → All P us
+  without_keeps t [] us h all = rw h (All-nil P)
+  without_keeps t (u ∷ ts) us (inl (e, more)) all = without_keeps t ts us more (All-tail P u ts all)
+  without_keeps t (u ∷ ts) us (inr (apart, (ws, e, more))) all =
+      rw e (All-cons P u ws (All-head P u ts all) (without_keeps t ts ws more (All-tail P u ts all)))
 
-  within_keeps : (t : Term) → P t → (ts us : List Term) → IsWithout t ts us → All P us → All P ts
-  within_keeps t p _ _ end all = All-nil P
-  within_keeps t p _ _ (drop ts us more) all = All-cons P t ts p (within_keeps t p ts us more all)
-  within_keeps t p _ _ (keep u ts us apart more) all =
-      All-cons P u ts (All-head P u us all) (within_keeps t p ts us more (All-tail P u us all))
+  within_keeps : (t : Term) → P t → (ts us : List Term) → LeavesWithout t ts us → All P us → All P ts
+  within_keeps t p [] us h all = All-nil P
+  within_keeps t p (u ∷ ts) us (inl (e, more)) all = All-cons P u ts (rw e p) (within_keeps t p ts us more all)
+  within_keeps t p (u ∷ ts) us (inr (apart, (ws, e, more))) all =
+      let kept : All P (u ∷ ws) = subst (All P) e all in
+      All-cons P u ts (All-head P u ws kept) (within_keeps t p ts ws more (All-tail P u ws kept))
 
-  once_keeps : (before ts us : List Term) → IsOnceEach before ts us → All P ts → All P us
-  once_keeps _ _ _ (end_of before) all = All-nil P
-  once_keeps _ _ _ (repeat before t ts us there more) all = once_keeps before ts us more (All-tail P t ts all)
-  once_keeps _ _ _ (fresh before t ts us new more) all =
-      All-cons P t us (All-head P t ts all) (once_keeps (t ∷ before) ts us more (All-tail P t ts all))
+  once_keeps : (seen ts us : List Term) → IsFirstsOf seen ts us → All P ts → All P us
+  once_keeps seen [] us h all = rw h (All-nil P)
+  once_keeps seen (t ∷ ts) us (inl (there, more)) all = once_keeps seen ts us more (All-tail P t ts all)
+  once_keeps seen (t ∷ ts) us (inr (new, (ws, e, more))) all =
+      rw e (All-cons P t ws (All-head P t ts all) (once_keeps (seen ++ t ∷ []) ts ws more (All-tail P t ts all)))
 
-  again_keeps : (before ts us : List Term) → IsOnceEach before ts us → All P before → All P us → All P ts
-  again_keeps _ _ _ (end_of before) earlier all = All-nil P
-  again_keeps _ _ _ (repeat before t ts us there more) earlier all =
-      All-cons P t ts (All-contains P before t earlier there) (again_keeps before ts us more earlier all)
-  again_keeps _ _ _ (fresh before t ts us new more) earlier all =
-      let here = All-head P t us all in
-      All-cons P t ts here (again_keeps (t ∷ before) ts us more (All-cons P t before here earlier) (All-tail P t us all))
+  again_keeps : (seen ts us : List Term) → IsFirstsOf seen ts us → All P seen → All P us → All P ts
+  again_keeps seen [] us h earlier all = All-nil P
+  again_keeps seen (t ∷ ts) us (inl (there, more)) earlier all =
+      All-cons P t ts (All-contains P seen t earlier there) (again_keeps seen ts us more earlier all)
+  again_keeps seen (t ∷ ts) us (inr (new, (ws, e, more))) earlier all =
+      let kept : All P (t ∷ ws) = subst (All P) e all in
+      let here = All-head P t ws kept in
+      All-cons P t ts here (again_keeps (seen ++ t ∷ []) ts ws more (All-append P seen (t ∷ []) earlier (All-cons P t [] here (All-nil P))) (All-tail P t ws kept))
 
   shortened_is : (neutral : Term) → P neutral → (ts us : List Term) → IsShortened neutral ts us → All P ts ↔ All P us
   shortened_is neutral p ts us (inl h) = (without_keeps neutral ts us h, within_keeps neutral p ts us h)
@@ -207,10 +210,10 @@ module _ (I : Interpretation) (r : Valuation) where
       (same_value fits left met.right (subst (IsOf left) is_bool sides.first) (subst (IsOf met.right) is_bool sides.second)
       (same met.arguments met.right met.joins))))
 
-  pub and_simplify_keeps : ValuationFits r → (premises : List (List Term)) (clause : List Term) → MeetsAndSimplify premises clause → IsClauseOfTruths clause → MakesClauseTrue I r clause
+  pub and_simplify_keeps : ValuationFits r → (premises : List (List Term)) (clause : List Term) → MeetsJoining Op.And (operation Op.True no_terms) (operation Op.False no_terms) premises clause → IsClauseOfTruths clause → MakesClauseTrue I r clause
   and_simplify_keeps fits premises clause met sorted =
       joining_keeps Op.And (operation Op.True no_terms) (operation Op.False no_terms) (λ ts s h. when-same _ _ s h.is) and_same fits premises clause met sorted
 
-  pub or_simplify_keeps : ValuationFits r → (premises : List (List Term)) (clause : List Term) → MeetsOrSimplify premises clause → IsClauseOfTruths clause → MakesClauseTrue I r clause
+  pub or_simplify_keeps : ValuationFits r → (premises : List (List Term)) (clause : List Term) → MeetsJoining Op.Or (operation Op.False no_terms) (operation Op.True no_terms) premises clause → IsClauseOfTruths clause → MakesClauseTrue I r clause
   or_simplify_keeps fits premises clause met sorted =
       joining_keeps Op.Or (operation Op.False no_terms) (operation Op.True no_terms) (λ ts s h. when-same _ _ s h.is) or_same fits premises clause met sorted

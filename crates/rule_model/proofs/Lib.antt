@@ -7,6 +7,7 @@ pub mod Sets
 pub mod Numbers
 pub mod Writing
 pub mod RuleWords
+pub mod RuleKinds
 pub mod Lines
 pub mod ReplacementLists
 pub mod Sights
@@ -25,6 +26,7 @@ pub mod Ring
 pub mod LinearForms
 pub mod Weights
 pub mod Arith
+pub mod JoinedLists
 pub mod Joining
 pub mod Ite
 pub mod Freedom
@@ -44,3 +46,9 @@ pub mod StrictConditions
 pub mod Soundness
 pub mod Verdicts
 pub mod Multiples
+pub mod Elaboration
+pub mod Correspondence
+pub mod ElaborationExamples
+pub mod Chaining
+pub mod Forms
+pub mod WithoutIds

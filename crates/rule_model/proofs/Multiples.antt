@@ -208,11 +208,9 @@ any_multiple ls m n one other h =
 module _ (ratios : Option (List Fraction)) (premises : List (List Term)) (clause : List Term) where
   pub asks_by : (met : MeetsLaGeneric ratios premises clause) (n : ℕ) → IsMultipleOfAll met.form.lines n → AreAbsurdBy n met.form.lines
   asks_by met n multiple =
-      any_multiple met.form.lines met.form.multiple n met.form.least.multiple multiple
-      (record { bound = met.bound; cancelled = met.cancelled; added = met.added; absurd_bound = met.absurd_bound })
+      any_multiple met.form.lines met.form.multiple n met.form.least.multiple multiple met.absurd_by
 
   pub enough_by : (form : IsLinearStep ratios premises clause) (n : ℕ) → IsMultipleOfAll form.lines n →
       AreAbsurdBy n form.lines → MeetsLaGeneric ratios premises clause
   enough_by form n multiple h =
-      let least = any_multiple form.lines n form.multiple multiple form.least.multiple h in
-      record { form = form; bound = least.bound; cancelled = least.cancelled; added = least.added; absurd_bound = least.absurd_bound }
+      record { form = form; absurd_by = any_multiple form.lines n form.multiple multiple form.least.multiple h }

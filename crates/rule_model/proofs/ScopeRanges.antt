@@ -18,7 +18,7 @@ module _ {V T : Type 0} where
   number l = own_scope l.scope.nesting l.command
 
   -- the numbers of the commands of a scope are those of it and of the scopes inside it
-  numbers_in : (nesting : Nesting V T) (items : ProofItems V T) → AllByRecursion (λ l. (scope_number nesting ≤ number l) × (number l ≤ scope_number nesting + subproofs_in items)) (lines_in nesting items)
+  pub numbers_in : (nesting : Nesting V T) (items : ProofItems V T) → AllByRecursion (λ l. (scope_number nesting ≤ number l) × (number l ≤ scope_number nesting + subproofs_in items)) (lines_in nesting items)
   numbers_in nesting no_items = tt
   numbers_in nesting (with_assume items id t) =
       all_joined _ (lines_in nesting items) _ (numbers_in nesting items) ((omega arith, omega arith), tt)

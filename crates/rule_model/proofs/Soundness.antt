@@ -19,14 +19,14 @@ use Rattle.rule_model.specs.declared.rules.Mode.{Mode}
 use Rattle.rule_model.specs.declared.rules.Rule.{Rule}
 use Rattle.rule_model.specs.declared.statuses.Status.{Status}
 use Rattle.rule_model.specs.Clauses.{MakesClauseTrue}
-use Rattle.rule_model.specs.Subproof.{AreLinkedTo, IsAssumeIn, IsSubproof, IsLetClosing, MeetsClosing, EndsIn}
+use Rattle.rule_model.specs.Subproof.{AreLinkedTo, IsAssumeIn, IsSubproof, IsLetClosing, EndsIn}
 use Rattle.rule_model.specs.Commands.{IndexedCommand, assume, step, closing, Line, lines_in, lines_around, lines_to, own_scope}
-use Rattle.rule_model.specs.Conditions.{Met, MeetsWhere, IsMetAt, IsClauseOfTruths}
+use Rattle.rule_model.specs.Conditions.{Met, MeetsClosing, MeetsWhere, IsMetAt, IsClauseOfTruths}
 use Rattle.rule_model.specs.Contexts.{context_values, IsInContext}
 use Rattle.rule_model.specs.Judged.{judged_at, open_anchors, anchors_at}
 use Rattle.rule_model.specs.Proofs.{Step, ProofItems, no_items, with_assume, with_step, with_subproof}
-use Rattle.rule_model.specs.Reading.{rule_of, clause_of, premises_of, rule_at, clause_at, premises_at, discharged_at}
-use Rattle.rule_model.specs.RuleNames.{is_assume, kind_of}
+use Rattle.rule_model.specs.Reading.{rule_of, clause_of, premises_of, rule_at, clause_at, premises_at, discharged_at, is_assume}
+use Rattle.rule_model.specs.RuleNames.{kind_of}
 use Rattle.rule_model.specs.Scopes.{Anchor, Nesting, outermost, inside, Scope, at, inner, scope_number}
 use Rattle.rule_model.specs.Soundness.{IsJustified, AreJustifiedTo}
 use Rattle.rule_model.specs.Statuses.{Checking, IsAsserted, kind_under, kind_of_rule, IsStatusBy, IsStatusAt}

@@ -13,7 +13,7 @@ use Rattle.rule_model.specs.declared.rules.Rule.{Rule}
 use Rattle.rule_model.specs.declared.statuses.Status.{Status}
 use Rattle.rule_model.specs.declared.statuses.Verdict.{Verdict}
 use Rattle.rule_model.specs.Columns.{judged_in, checking_in}
-use Rattle.rule_model.specs.Conditions.{MeetsRule, Met, MeetsWhere, IsMetAt, IsTooWideBy, IsTooWideWhere}
+use Rattle.rule_model.specs.Conditions.{MeetsRule, Met, MeetsClosing, MeetsWhere, IsMetAt, IsTooWideBy, IsTooWideWhere}
 use Rattle.rule_model.specs.Congruence.{Equates, Implies, Denies, AreSides, IsConnected, here, further, IsChain, IsWay, Head, IsLinked}
 use Rattle.rule_model.specs.Congruence.{AreDifferences, ArePlaces, HangTogether, HangTogetherDenied, AreCongruent, AreCongruentTruths}
 use Rattle.rule_model.specs.Congruence.{GivesPredicates}
@@ -22,7 +22,7 @@ use Rattle.rule_model.specs.Proofs.{ProofItems}
 use Rattle.rule_model.specs.Reading.{rule_at, clause_at, closes_at}
 use Rattle.rule_model.specs.Refl.{MeetsRefl}
 use Rattle.rule_model.specs.Statuses.{Checking, IsAsserted, MayAssume, kind_of_rule, IsStatusBy, IsStatusAt, AreStatuses, Passes, IsVerdict}
-use Rattle.rule_model.specs.Subproof.{IsLetClosing, MeetsClosing}
+use Rattle.rule_model.specs.Subproof.{IsLetClosing}
 use Rattle.rule_model.proofs.StrictChains.{chains_follow}
 
 -- a chain is a way

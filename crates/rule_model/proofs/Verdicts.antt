@@ -166,7 +166,7 @@ module _ (statuses : List Status) where
     one_verdict Verdict.Valid Verdict.Valid h k = refl
 
 -- a valid proof
-some_at : {X : Type 0} (xs : List X) (k : ℕ) → k < length xs → (x : X) × (slice_get xs k ≡ Some x) × Contains xs x
+pub some_at : {X : Type 0} (xs : List X) (k : ℕ) → k < length xs → (x : X) × (slice_get xs k ≡ Some x) × Contains xs x
 some_at [] k h = absurd (omega arith)
 some_at (x ∷ xs) zero h = (x, refl, (0, omega arith, refl))
 some_at (x ∷ xs) (suc k) h = let s = some_at xs k (omega arith) in (s.0, s.1, (suc s.2.0, let w = s.2.1 in omega arith, s.2.2))

@@ -8,25 +8,12 @@ use Rattle.term_model.specs.Flips.{equality}
 use Rattle.term_model.specs.Sorts.{IsOf}
 use Rattle.term_model.specs.Terms.{Term, operation, no_terms, term}
 use Rattle.rule_model.specs.LinearForms.{constant, coefficient, HaveOneForm}
-use Rattle.rule_model.specs.Patterns.{a, b, no, conj, disj, equal, less_eq}
 use Rattle.rule_model.specs.Proofs.{Fraction}
-use Rattle.rule_model.specs.Schemas.{ternary, tautology, IsInstanceOf}
 use Rattle.rule_model.specs.Weights.{weight}
 
 -- numbers have 128 bits, one of which is the sign
 abbrev pub limit : ℕ
 limit = 2 ^ 127
-
--- la_disequality, la_totality and la_rw_eq
-abbrev pub MeetsLaDisequality : List (List Term) → List Term → Type 0
-MeetsLaDisequality =
-    IsInstanceOf (tautology (ternary Op.Or (equal a b) (no (less_eq a b)) (no (less_eq b a)) ∷ []))
-
-abbrev pub MeetsLaTotality : List (List Term) → List Term → Type 0
-MeetsLaTotality = IsInstanceOf (tautology (disj (less_eq a b) (less_eq b a) ∷ []))
-
-abbrev pub MeetsLaRwEq : List (List Term) → List Term → Type 0
-MeetsLaRwEq = IsInstanceOf (tautology (equal (equal a b) (conj (less_eq a b) (less_eq b a)) ∷ []))
 
 -- an equality of two terms of Int
 pub record EquatesNumbers (premises : List (List Term)) (clause : List Term) : Type 0 where
@@ -176,20 +163,17 @@ pub record IsLinearStep (ratios : Option (List Fraction)) (premises : List (List
   pub read : AreLines clause fractions lines
   pub least : IsLeastMultiple lines multiple
 
--- la_generic: the negated literals, added up, are absurd
-pub record MeetsLaGeneric (ratios : Option (List Fraction)) (premises : List (List Term)) (clause : List Term) : Type 0 where
-  pub form : IsLinearStep ratios premises clause
-  pub bound : ℤ
-  pub cancelled : (u : Term) → added_coefficient form.multiple form.lines u ≡ pos 0
-  pub added : IsAddedBound form.multiple form.lines bound
-  pub absurd_bound : (pos 0 <ℤ bound) ⊎ (All IsEquation form.lines × (bound ≢ pos 0))
-
--- the same by any whole multiple of the denominators
+-- the lines, added up, are absurd
 pub record AreAbsurdBy (multiple : ℕ) (lines : List CoefficientLine) : Type 0 where
   pub bound : ℤ
   pub cancelled : (u : Term) → added_coefficient multiple lines u ≡ pos 0
   pub added : IsAddedBound multiple lines bound
   pub absurd_bound : (pos 0 <ℤ bound) ⊎ (All IsEquation lines × (bound ≢ pos 0))
+
+-- la_generic: the negated literals are absurd
+pub record MeetsLaGeneric (ratios : Option (List Fraction)) (premises : List (List Term)) (clause : List Term) : Type 0 where
+  pub form : IsLinearStep ratios premises clause
+  pub absurd_by : AreAbsurdBy form.multiple form.lines
 
 -- The weight of a step bounds the numbers that are met while it is judged.
 abbrev pub line_weight : ℕ → CoefficientLine → ℕ

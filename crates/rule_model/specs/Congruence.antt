@@ -9,7 +9,6 @@ use Rattle.term_model.specs.Flips.{equality, EqualUpToFlips}
 use Rattle.term_model.specs.Sorts.{IsOf}
 use Rattle.term_model.specs.Terms.{Fun, Term, operation, call, terms_of, not_of}
 use Rattle.rule_model.specs.declared.rules.Mode.{Mode}
-use Rattle.rule_model.specs.Clausal.{as_it_stands}
 
 -- the one premise is an equality, or its negation, and the clause is the same with the sides exchanged
 pub record TurnsRound (sign : Term → Term) (premises : List (List Term)) (clause : List Term) : Type 0 where
@@ -169,31 +168,3 @@ GivesPredicates Mode.Check premises clause =
 GivesPredicates Mode.Strict premises clause =
     Equates (AreCongruentTruths (HangTogetherDenied Mode.Strict)) premises clause
     ⊎ Implies (AreCongruent (HangTogetherDenied Mode.Strict)) premises clause
-
--- the condition of each rule, by the mode, the premises' clauses and the clause
-abbrev pub MeetsSymm : Mode → List (List Term) → List Term → Type 0
-MeetsSymm mode premises clause = TurnsRound as_it_stands premises clause
-
-abbrev pub MeetsNotSymm : Mode → List (List Term) → List Term → Type 0
-MeetsNotSymm mode premises clause = TurnsRound not_of premises clause
-
-abbrev pub MeetsTrans : Mode → List (List Term) → List Term → Type 0
-MeetsTrans mode premises clause = Equates (IsWay mode) premises clause
-
-abbrev pub MeetsCong : Mode → List (List Term) → List Term → Type 0
-MeetsCong mode premises clause = Equates (AreCongruent (HangTogether mode)) premises clause
-
-abbrev pub MeetsEqReflexive : Mode → List (List Term) → List Term → Type 0
-MeetsEqReflexive mode premises clause = IsReflexive premises clause
-
-abbrev pub MeetsEqSymmetric : Mode → List (List Term) → List Term → Type 0
-MeetsEqSymmetric mode premises clause = IsSymmetric premises clause
-
-abbrev pub MeetsEqTransitive : Mode → List (List Term) → List Term → Type 0
-MeetsEqTransitive mode premises clause = Denies (Equates (IsWay mode)) premises clause
-
-abbrev pub MeetsEqCongruent : Mode → List (List Term) → List Term → Type 0
-MeetsEqCongruent mode premises clause = Denies (Equates (AreCongruent (HangTogetherDenied mode))) premises clause
-
-abbrev pub MeetsEqCongruentPred : Mode → List (List Term) → List Term → Type 0
-MeetsEqCongruentPred mode premises clause = Denies (GivesPredicates mode) premises clause

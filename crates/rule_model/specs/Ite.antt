@@ -1,31 +1,14 @@
 -- Public. The rules over `ite`, and the rules that say what a connective stands for (Alethe specification, "List of rules"):
 -- connective_def, ite_intro and distinct_elim. Both modes ask the same.
-use Rattle.std.specs.Prelude.{◌≡◌, ◌≢◌, ◌≤◌, ◌⊎◌, List, [], ◌∷◌, ◌++◌, length, All, Any, Option, None}
+use Rattle.std.specs.Prelude.{◌≡◌, ◌≢◌, ◌≤◌, ◌⊎◌, List, [], ◌∷◌, ◌++◌, length, All, Any}
 use Rattle.std.specs.List.{AllZip}
 use Rattle.term_model.specs.declared.symbols.Op.{Op}
 use Rattle.term_model.specs.declared.symbols.Sort.{Sort}
 use Rattle.term_model.specs.Flips.{equality, EqualUpToFlips}
 use Rattle.term_model.specs.Sorts.{IsOf}
 use Rattle.term_model.specs.Terms.{Term, operation, no_terms, terms_of, not_of}
-use Rattle.rule_model.specs.declared.rules.Rule.{Rule}
 use Rattle.rule_model.specs.Patterns.{a, b, c, no, conj, disj, xor, implies, ite}
 use Rattle.rule_model.specs.Rewriting.{RewriteRow, ◌⇝◌, over_truths, Rewrites}
-use Rattle.rule_model.specs.Schemas.{Schema, tautology, from, IsInstanceOf}
-
--- the schemas of the rules over `ite`
-abbrev pub choice_schema_of : Rule → Option Schema
-choice_schema_of Rule.ItePos1 = tautology (no (ite c a b) ∷ c ∷ b ∷ [])  -- ite_pos1
-choice_schema_of Rule.ItePos2 = tautology (no (ite c a b) ∷ no c ∷ a ∷ [])  -- ite_pos2
-choice_schema_of Rule.IteNeg1 = tautology (ite c a b ∷ c ∷ no b ∷ [])  -- ite_neg1
-choice_schema_of Rule.IteNeg2 = tautology (ite c a b ∷ no c ∷ no a ∷ [])  -- ite_neg2
-choice_schema_of Rule.Ite1 = from (ite c a b) (c ∷ b ∷ [])  -- ite1
-choice_schema_of Rule.Ite2 = from (ite c a b) (no c ∷ a ∷ [])  -- ite2
-choice_schema_of Rule.NotIte1 = from (no (ite c a b)) (c ∷ no b ∷ [])  -- not_ite1
-choice_schema_of Rule.NotIte2 = from (no (ite c a b)) (no c ∷ no a ∷ [])  -- not_ite2
-choice_schema_of _ = None
-
-abbrev pub MeetsChoice : Rule → List (List Term) → List Term → Type 0
-MeetsChoice rule premises clause = IsInstanceOf (choice_schema_of rule) premises clause
 
 -- connective_def: what `xor`, the equality of two terms of Bool and `ite` over terms of Bool stand for
 abbrev pub connective_definitions : List RewriteRow

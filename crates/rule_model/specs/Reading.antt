@@ -1,50 +1,54 @@
 -- Public. What a proof has at an index, and at a scope's number. Past the end there is nothing.
-use Rattle.std.specs.Prelude.{ℕ, List, [], ◌∷◌, Bool, slice_get, Option, None}
+use Rattle.std.specs.Prelude.{ℕ, List, [], ◌∷◌, Bool, true, false, slice_get, Option, None}
 use Rattle.std.specs.Option.{option_map_or}
 use Rattle.rule_model.specs.declared.rules.Rule.{Rule}
-use Rattle.rule_model.specs.Proofs.{Fraction, ProofItems}
+use Rattle.rule_model.specs.Proofs.{Fraction, Step, ProofItems}
 use Rattle.rule_model.specs.Commands.{IndexedCommand, assume, step, closing, entries, scopes}
 
--- what a command has: an assume's clause is its term, and it has no rule and no word of one
+-- a command as a step: that of an assume has no rule and no word of one, and its clause is the term
+abbrev pub step_of : {T : Type 0} → IndexedCommand T → Step T
+step_of (assume id t) = record {
+  id = id;
+  rule = Rule.Assume;
+  rule_name = [];
+  clause = t ∷ [];
+  premises = [];
+  discharged = [];
+  pivots = [];
+  ratios = None;
+}
+step_of (step s) = s
+step_of (closing s) = s
+
+-- whether a rule is that of an assume
+abbrev pub is_assume : Rule → Bool
+is_assume Rule.Assume = true
+is_assume _ = false
+
+-- what a command has
 abbrev pub id_of : {T : Type 0} → IndexedCommand T → List ℕ
-id_of (assume id t) = id
-id_of (step s) = s.id
-id_of (closing s) = s.id
+id_of c = (step_of c).id
 
 abbrev pub rule_of : {T : Type 0} → IndexedCommand T → Rule
-rule_of (assume id t) = Rule.Assume
-rule_of (step s) = s.rule
-rule_of (closing s) = s.rule
+rule_of c = (step_of c).rule
 
 abbrev pub rule_name_of : {T : Type 0} → IndexedCommand T → List ℕ
-rule_name_of (assume id t) = []
-rule_name_of (step s) = s.rule_name
-rule_name_of (closing s) = s.rule_name
+rule_name_of c = (step_of c).rule_name
 
 abbrev pub clause_of : {T : Type 0} → IndexedCommand T → List T
-clause_of (assume id t) = t ∷ []
-clause_of (step s) = s.clause
-clause_of (closing s) = s.clause
+clause_of c = (step_of c).clause
 
 abbrev pub premises_of : {T : Type 0} → IndexedCommand T → List ℕ
-premises_of (assume id t) = []
-premises_of (step s) = s.premises
-premises_of (closing s) = s.premises
+premises_of c = (step_of c).premises
 
 abbrev pub discharged_of : {T : Type 0} → IndexedCommand T → List ℕ
-discharged_of (assume id t) = []
-discharged_of (step s) = s.discharged
-discharged_of (closing s) = s.discharged
+discharged_of c = (step_of c).discharged
 
 abbrev pub pivots_of : {T : Type 0} → IndexedCommand T → List (T × Bool)
-pivots_of (assume id t) = []
-pivots_of (step s) = s.pivots
-pivots_of (closing s) = s.pivots
+pivots_of c = (step_of c).pivots
 
 abbrev pub ratios_of : {T : Type 0} → IndexedCommand T → Option (List Fraction)
-ratios_of (assume id t) = None
-ratios_of (step s) = s.ratios
-ratios_of (closing s) = s.ratios
+ratios_of c = (step_of c).ratios
 
 -- the same of the command at an index
 abbrev pub id_at : {V T : Type 0} → ProofItems V T → ℕ → List ℕ

@@ -51,6 +51,20 @@ pub record IsJoined {X : Type 0} (left right : List X) (here there : X) (result 
   pub right_is : LeavesWithout there right right_rest
   pub firsts : IsFirstsOf [] (left_rest ++ right_rest) result
 
+-- A chain from a clause through others to its result. For each of the others it has what is taken away: an item on the left
+-- and one on the right.
+abbrev pub Joins : {X : Type 0} → List X → List (List X) → List (X × X) → List X → Type 0
+Joins left [] [] result = left ≡ result
+Joins left [] (taken ∷ more) result = ⊥
+Joins left (right ∷ premises) [] result = ⊥
+Joins {X} left (right ∷ premises) (taken ∷ more) result =
+    (next : List X) × IsJoined left right taken.0 taken.1 next × Joins next premises more result
+
+-- the chain from the first premise through the others, in order, ends in exactly the clause
+abbrev pub JoinAll : {X : Type 0} → List (X × X) → List (List X) → List X → Type 0
+JoinAll taken [] clause = ⊥
+JoinAll taken (first ∷ premises) clause = Joins first premises taken clause
+
 -- a pivot where it is true, and its negation where it is false
 abbrev pub with_sign : Term → Bool → Term
 with_sign p true = p
@@ -60,19 +74,18 @@ with_sign p false = not_of p
 abbrev pub IsResolvent : List Term → List Term → Term → Bool → List Term → Type 0
 IsResolvent left right pivot sign result = IsJoined left right (with_sign pivot sign) (with_sign pivot (not sign)) result
 
--- a chain from a clause through others, with a pivot for each, to its result
+-- what a pivot takes away: on the left it stands with its sign, on the right with the other one
+abbrev pub sides_of : Term × Bool → Term × Term
+sides_of pivot = (with_sign pivot.0 pivot.1, with_sign pivot.0 (not pivot.1))
+
+-- a chain of resolutions from a clause through others, with a pivot for each, to its result
 abbrev pub Chains : List Term → List (List Term) → List (Term × Bool) → List Term → Type 0
-Chains left [] [] result = left ≡ result
-Chains left [] (pivot ∷ pivots) result = ⊥
-Chains left (right ∷ premises) [] result = ⊥
-Chains left (right ∷ premises) (pivot ∷ pivots) result =
-    (next : List Term) × IsResolvent left right pivot.0 pivot.1 next × Chains next premises pivots result
+Chains left premises pivots result = Joins left premises (map sides_of pivots) result
 
 -- Strict mode: the chain from the first premise through the others, in order, ends in exactly the clause. There is at
 -- least one premise, and a pivot for each of the others.
 abbrev pub ResolvesStrictly : List (Term × Bool) → List (List Term) → List Term → Type 0
-ResolvesStrictly pivots [] clause = ⊥
-ResolvesStrictly pivots (first ∷ premises) clause = Chains first premises pivots clause
+ResolvesStrictly pivots premises clause = JoinAll (map sides_of pivots) premises clause
 
 -- the condition of both rules, in either mode
 abbrev pub Resolves : Mode → List (Term × Bool) → List (List Term) → List Term → Type 0

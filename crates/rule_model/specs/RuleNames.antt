@@ -1,113 +1,20 @@
--- Public. The table of rules: the words by which a proof names them (Alethe, "List of rules"), and how their commands are
--- judged.
+-- Public. The words by which a proof names rules (Alethe, "List of rules"), and how their commands are judged.
 use Rattle.std.specs.Prelude.{◌≡◌, ◌≢◌, ℕ, Bool, true, false, List, [], ◌∷◌, All, codes, if◌then◌else◌}
 use Rattle.std.specs.Str.{bytes_eq}
 use Rattle.rule_model.specs.declared.kinds.Family.{Family}
 use Rattle.rule_model.specs.declared.kinds.Kind.{Kind}
 use Rattle.rule_model.specs.declared.rules.Rule.{Rule}
-
--- The table of rules: the word of each, and how a command of it is judged. An assume has no word, and the rules that are
--- unknown have words of their own.
-abbrev pub row_of : Rule → List ℕ × Kind
-row_of Rule.Assume = ([], Kind.Assumed)
-row_of Rule.Unknown = ([], Kind.Unknown)
-row_of Rule.Hole = (codes "hole", Kind.Hole)
-row_of Rule.LiaGeneric = (codes "lia_generic", Kind.Hole)
-row_of Rule.RareRewrite = (codes "rare_rewrite", Kind.Hole)
-row_of Rule.AllSimplify = (codes "all_simplify", Kind.Hole)
-row_of Rule.True = (codes "true", Kind.Judged Family.Clausal)
-row_of Rule.False = (codes "false", Kind.Judged Family.Clausal)
-row_of Rule.NotNot = (codes "not_not", Kind.Judged Family.Clausal)
-row_of Rule.AndPos = (codes "and_pos", Kind.Judged Family.Clausal)
-row_of Rule.AndNeg = (codes "and_neg", Kind.Judged Family.Clausal)
-row_of Rule.OrPos = (codes "or_pos", Kind.Judged Family.Clausal)
-row_of Rule.OrNeg = (codes "or_neg", Kind.Judged Family.Clausal)
-row_of Rule.XorPos1 = (codes "xor_pos1", Kind.Judged Family.Clausal)
-row_of Rule.XorPos2 = (codes "xor_pos2", Kind.Judged Family.Clausal)
-row_of Rule.XorNeg1 = (codes "xor_neg1", Kind.Judged Family.Clausal)
-row_of Rule.XorNeg2 = (codes "xor_neg2", Kind.Judged Family.Clausal)
-row_of Rule.ImpliesPos = (codes "implies_pos", Kind.Judged Family.Clausal)
-row_of Rule.ImpliesNeg1 = (codes "implies_neg1", Kind.Judged Family.Clausal)
-row_of Rule.ImpliesNeg2 = (codes "implies_neg2", Kind.Judged Family.Clausal)
-row_of Rule.EquivPos1 = (codes "equiv_pos1", Kind.Judged Family.Clausal)
-row_of Rule.EquivPos2 = (codes "equiv_pos2", Kind.Judged Family.Clausal)
-row_of Rule.EquivNeg1 = (codes "equiv_neg1", Kind.Judged Family.Clausal)
-row_of Rule.EquivNeg2 = (codes "equiv_neg2", Kind.Judged Family.Clausal)
-row_of Rule.ItePos1 = (codes "ite_pos1", Kind.Judged Family.Ite)
-row_of Rule.ItePos2 = (codes "ite_pos2", Kind.Judged Family.Ite)
-row_of Rule.IteNeg1 = (codes "ite_neg1", Kind.Judged Family.Ite)
-row_of Rule.IteNeg2 = (codes "ite_neg2", Kind.Judged Family.Ite)
-row_of Rule.And = (codes "and", Kind.Judged Family.Clausal)
-row_of Rule.Or = (codes "or", Kind.Judged Family.Clausal)
-row_of Rule.NotOr = (codes "not_or", Kind.Judged Family.Clausal)
-row_of Rule.NotAnd = (codes "not_and", Kind.Judged Family.Clausal)
-row_of Rule.Xor1 = (codes "xor1", Kind.Judged Family.Clausal)
-row_of Rule.Xor2 = (codes "xor2", Kind.Judged Family.Clausal)
-row_of Rule.NotXor1 = (codes "not_xor1", Kind.Judged Family.Clausal)
-row_of Rule.NotXor2 = (codes "not_xor2", Kind.Judged Family.Clausal)
-row_of Rule.Implies = (codes "implies", Kind.Judged Family.Clausal)
-row_of Rule.NotImplies1 = (codes "not_implies1", Kind.Judged Family.Clausal)
-row_of Rule.NotImplies2 = (codes "not_implies2", Kind.Judged Family.Clausal)
-row_of Rule.Equiv1 = (codes "equiv1", Kind.Judged Family.Clausal)
-row_of Rule.Equiv2 = (codes "equiv2", Kind.Judged Family.Clausal)
-row_of Rule.NotEquiv1 = (codes "not_equiv1", Kind.Judged Family.Clausal)
-row_of Rule.NotEquiv2 = (codes "not_equiv2", Kind.Judged Family.Clausal)
-row_of Rule.Ite1 = (codes "ite1", Kind.Judged Family.Ite)
-row_of Rule.Ite2 = (codes "ite2", Kind.Judged Family.Ite)
-row_of Rule.NotIte1 = (codes "not_ite1", Kind.Judged Family.Ite)
-row_of Rule.NotIte2 = (codes "not_ite2", Kind.Judged Family.Ite)
-row_of Rule.Contraction = (codes "contraction", Kind.Judged Family.Clausal)
-row_of Rule.Reordering = (codes "reordering", Kind.Judged Family.Clausal)
-row_of Rule.Weakening = (codes "weakening", Kind.Judged Family.Clausal)
-row_of Rule.Tautology = (codes "tautology", Kind.Judged Family.Clausal)
-row_of Rule.Resolution = (codes "resolution", Kind.Judged Family.Resolution)
-row_of Rule.ThResolution = (codes "th_resolution", Kind.Judged Family.Resolution)
-row_of Rule.Refl = (codes "refl", Kind.Judged Family.Refl)
-row_of Rule.Symm = (codes "symm", Kind.Judged Family.Congruence)
-row_of Rule.NotSymm = (codes "not_symm", Kind.Judged Family.Congruence)
-row_of Rule.Trans = (codes "trans", Kind.Judged Family.Congruence)
-row_of Rule.Cong = (codes "cong", Kind.Judged Family.Congruence)
-row_of Rule.EqReflexive = (codes "eq_reflexive", Kind.Judged Family.Congruence)
-row_of Rule.EqSymmetric = (codes "eq_symmetric", Kind.Judged Family.Congruence)
-row_of Rule.EqTransitive = (codes "eq_transitive", Kind.Judged Family.Congruence)
-row_of Rule.EqCongruent = (codes "eq_congruent", Kind.Judged Family.Congruence)
-row_of Rule.EqCongruentPred = (codes "eq_congruent_pred", Kind.Judged Family.Congruence)
-row_of Rule.Subproof = (codes "subproof", Kind.Judged Family.Subproof)
-row_of Rule.Let = (codes "let", Kind.Judged Family.Subproof)
-row_of Rule.ConnectiveDef = (codes "connective_def", Kind.Judged Family.Ite)
-row_of Rule.IteIntro = (codes "ite_intro", Kind.Judged Family.Ite)
-row_of Rule.DistinctElim = (codes "distinct_elim", Kind.Judged Family.Ite)
-row_of Rule.NotSimplify = (codes "not_simplify", Kind.Judged Family.Simplify)
-row_of Rule.ImpliesSimplify = (codes "implies_simplify", Kind.Judged Family.Simplify)
-row_of Rule.EquivSimplify = (codes "equiv_simplify", Kind.Judged Family.Simplify)
-row_of Rule.BoolSimplify = (codes "bool_simplify", Kind.Judged Family.Simplify)
-row_of Rule.IteSimplify = (codes "ite_simplify", Kind.Judged Family.Simplify)
-row_of Rule.EqSimplify = (codes "eq_simplify", Kind.Judged Family.Simplify)
-row_of Rule.CompSimplify = (codes "comp_simplify", Kind.Judged Family.Simplify)
-row_of Rule.AndSimplify = (codes "and_simplify", Kind.Judged Family.Simplify)
-row_of Rule.OrSimplify = (codes "or_simplify", Kind.Judged Family.Simplify)
-row_of Rule.LaGeneric = (codes "la_generic", Kind.Judged Family.Arith)
-row_of Rule.LaDisequality = (codes "la_disequality", Kind.Judged Family.Arith)
-row_of Rule.LaTotality = (codes "la_totality", Kind.Judged Family.Arith)
-row_of Rule.LaRwEq = (codes "la_rw_eq", Kind.Judged Family.Arith)
-row_of Rule.SumSimplify = (codes "sum_simplify", Kind.Judged Family.Arith)
-row_of Rule.ProdSimplify = (codes "prod_simplify", Kind.Judged Family.Arith)
-row_of Rule.MinusSimplify = (codes "minus_simplify", Kind.Judged Family.Arith)
-row_of Rule.UnaryMinusSimplify = (codes "unary_minus_simplify", Kind.Judged Family.Arith)
+use Rattle.rule_model.specs.Conditions.{row_of}
 
 -- the word of a rule
 abbrev pub word_of : Rule → List ℕ
-word_of rule = (row_of rule).0
+word_of rule = (row_of rule).word
 
 -- how a command of a rule is judged
 abbrev pub kind_of : Rule → Kind
-kind_of rule = (row_of rule).1
+kind_of rule = (row_of rule).kind
 
--- whether a command with this rule is an assume, or has a word of its own
-abbrev pub is_assume : Rule → Bool
-is_assume Rule.Assume = true
-is_assume _ = false
-
+-- whether a command with this rule has a word of its own
 abbrev pub is_unknown : Rule → Bool
 is_unknown Rule.Unknown = true
 is_unknown _ = false

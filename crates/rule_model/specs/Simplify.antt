@@ -3,8 +3,9 @@
 use Rattle.std.specs.Prelude.{ℕ, suc, zero, ◌+◌, ◌≡◌, ◌≢◌, ◌⊎◌, List, [], ◌∷◌, Contains}
 use Rattle.term_model.specs.declared.symbols.Op.{Op}
 use Rattle.term_model.specs.Flips.{equality}
-use Rattle.term_model.specs.Terms.{Term, operation, no_terms, terms_of, not_of}
+use Rattle.term_model.specs.Terms.{Term, operation, terms_of, not_of}
 use Rattle.rule_model.specs.Patterns.{a, b, c, d, yes, never, no, conj, disj, implies, equal, ite, less, less_eq, greater, greater_eq}
+use Rattle.rule_model.specs.Resolution.{LeavesWithout, IsFirstsOf}
 use Rattle.rule_model.specs.Rewriting.{RewriteRow, ◌⇝◌, over_truths, one_number, two_numbers, below, at_most, where_constants, Simplifies}
 
 abbrev pub not_simplify : List RewriteRow
@@ -108,26 +109,10 @@ pub record AreOpposed (items : List Term) : Type 0 where
   pub even : Contains items (negated (m + m) same)
   pub odd : Contains items (negated (suc (n + n)) same)
 
--- a list without each occurrence of this term
-pub data IsWithout (left_out : Term) : List Term → List Term → Type 0 where
-  end : IsWithout left_out [] []
-  drop : (ts us : List Term) → IsWithout left_out ts us → IsWithout left_out (left_out ∷ ts) us
-  keep : (t : Term) (ts us : List Term) → t ≢ left_out → IsWithout left_out ts us → IsWithout left_out (t ∷ ts) (t ∷ us)
-
--- a list without later repeats, where these terms stand before it
-pub data IsOnceEach : List Term → List Term → List Term → Type 0 where
-  end_of : (before : List Term) → IsOnceEach before [] []
-  repeat :
-      (before : List Term) (t : Term) (ts us : List Term) → Contains before t → IsOnceEach before ts us →
-      IsOnceEach before (t ∷ ts) us
-  fresh :
-      (before : List Term) (t : Term) (ts us : List Term) → (¬ Contains before t) → IsOnceEach (t ∷ before) ts us →
-      IsOnceEach before (t ∷ ts) (t ∷ us)
-
 -- without the neutral term, without later repeats, or without both
 abbrev pub IsShortened : Term → List Term → List Term → Type 0
 IsShortened neutral ts us =
-    IsWithout neutral ts us ⊎ (IsOnceEach [] ts us ⊎ ((vs : List Term) × IsWithout neutral ts vs × IsOnceEach [] vs us))
+    LeavesWithout neutral ts us ⊎ (IsFirstsOf [] ts us ⊎ ((vs : List Term) × LeavesWithout neutral ts vs × IsFirstsOf [] vs us))
 
 -- what a list of arguments stands as: none as the neutral term, one as itself or as an application
 abbrev pub StandsAs : Op → Term → List Term → Term → Type 0
@@ -140,15 +125,10 @@ abbrev pub JoinsTo : Op → Term → Term → List Term → Term → Type 0
 JoinsTo op neutral absorbing ts t =
     ((t ≡ absorbing) × (Contains ts absorbing ⊎ AreOpposed ts)) ⊎ ((us : List Term) × IsShortened neutral ts us × StandsAs op neutral us t)
 
+-- and_simplify and or_simplify
 pub record MeetsJoining (op : Op) (neutral absorbing : Term) (premises : List (List Term)) (clause : List Term) : Type 0 where
   pub arguments : List Term
   pub right : Term
   pub none : premises ≡ []
   pub literal : clause ≡ equality (operation op (terms_of arguments)) right ∷ []
   pub joins : JoinsTo op neutral absorbing arguments right
-
-abbrev pub MeetsAndSimplify : List (List Term) → List Term → Type 0
-MeetsAndSimplify = MeetsJoining Op.And (operation Op.True no_terms) (operation Op.False no_terms)
-
-abbrev pub MeetsOrSimplify : List (List Term) → List Term → Type 0
-MeetsOrSimplify = MeetsJoining Op.Or (operation Op.False no_terms) (operation Op.True no_terms)

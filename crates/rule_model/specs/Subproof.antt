@@ -7,11 +7,9 @@ use Rattle.term_model.specs.Flips.{equality}
 use Rattle.term_model.specs.FreeVariables.{IsFree, variables_of, bound_terms}
 use Rattle.term_model.specs.Terms.{Var, Term, operation, let_in, Bindings, no_terms, not_of}
 use Rattle.rule_model.specs.declared.rules.Mode.{Mode}
-use Rattle.rule_model.specs.declared.rules.Rule.{Rule}
 use Rattle.rule_model.specs.Congruence.{AreSides, AreDifferences}
 use Rattle.rule_model.specs.Proofs.{ProofItems}
-use Rattle.rule_model.specs.Reading.{rule_at, clause_at, premises_at, discharged_at, scope_at, bindings_at, last_inside_at}
-use Rattle.rule_model.specs.RuleNames.{is_assume}
+use Rattle.rule_model.specs.Reading.{rule_at, clause_at, premises_at, discharged_at, scope_at, bindings_at, last_inside_at, is_assume}
 
 -- the command at index j is an assume that stands directly in scope k, before the step that closes this
 pub record IsAssumeIn {V T : Type 0} (proof : ProofItems V T) (i k j : ℕ) : Type 0 where
@@ -68,9 +66,3 @@ pub record IsLetClosing (mode : Mode) (proof : ProofItems Var Term) (i k : ℕ) 
   pub variables : map (λ (b : Var × Term). b.0) (bindings_at proof k) ≡ variables_of bindings
   pub hidden : All (λ x. ¬ IsFree x result) (variables_of bindings)
   pub linked : AreLinkedTo mode (map (clause_at proof) (premises_at proof i)) (bound_terms bindings) (map (λ (b : Var × Term). b.1) (bindings_at proof k))
-
--- What a step meets that closes a scope. No other rule closes one.
-abbrev pub MeetsClosing : Mode → Rule → ProofItems Var Term → ℕ → ℕ → Type 0
-MeetsClosing mode Rule.Subproof proof i k = IsSubproof proof i k
-MeetsClosing mode Rule.Let proof i k = IsLetClosing mode proof i k
-MeetsClosing mode rule proof i k = ⊥

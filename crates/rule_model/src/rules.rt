@@ -104,7 +104,7 @@ pub enum Rule {
 /// Why a command is faulty.
 #[derive(Clone, Copy, Debug, PartialEq, Eq)]
 pub enum StepCause {
-    /// The step's rule has no condition here.
+    /// The step is by a rule of a name that the table does not have.
     UnknownRule,
     /// The step does not meet its rule's condition.
     NotMet,

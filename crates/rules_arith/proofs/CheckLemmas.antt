@@ -1,9 +1,11 @@
 -- What the rules of this family ask of a step.
-use Rattle.std.proofs.Common.{◌≡◌, ◌≢◌, ◌↔◌, ℕ, List, [], length, Bool, true, false, IsTrue, Option, Some, None, refl, sym, subst}
-use Rattle.std.specs.Borrow.{Bor}
+use Rattle.std.proofs.Common.{◌≡◌, ◌≢◌, ◌↔◌, List, [], length, Bool, IsTrue, Option, Some, None, refl, sym, subst}
 use Rattle.sym_table.specs.Table.{Table}
 use Rattle.term_model.specs.Terms.{Term}
+use Rattle.term_parts.proofs.JudgingLemmas.{tells_if, tells_same}
+use Rattle.term_parts.specs.Judging.{Tells, TellsEach, met_if}
 use Rattle.term_parts.specs.declared.answers.Answer.{Answer}
+use Rattle.term_parts.specs.declared.steps.Step.{Step}
 use Rattle.term_pool.specs.Views.{TermsView, ReferToAll}
 use Rattle.rule_model.specs.declared.kinds.Family.{Family}
 use Rattle.rule_model.specs.declared.kinds.Kind.{Kind}
@@ -17,27 +19,19 @@ use Rattle.rule_model.specs.Schemas.{Schema, IsInstance}
 use Rattle.schema_match.specs.declared.instances.SchemaParts.{SchemaParts}
 use Rattle.schema_match.specs.Schemas.{AreSchemaParts, HasParts}
 use Rattle.schema_match.proofs.PremiseLemmas.{no_premises, some_premises}
-use Rattle.rules_arith.specs.Answers.{StandsWithRatios, Tells}
-use Rattle.rules_arith.specs.Steps.{arithmetic_schema_of, MeetsArithmetic, IsWideArithmetic, met_if}
+use Rattle.rules_arith.specs.Answers.{StandsWithRatios}
+use Rattle.rules_arith.specs.Steps.{arithmetic_schema_of, MeetsArithmetic, IsWideArithmetic}
 
 abbrev pub IsArith : Rule → Type 0
 IsArith rule = kind_of rule ≡ Kind.Judged Family.Arith
 
--- an answer says the same of what is the same
-pub tells_same : {W V M N : Type 0} (a : Answer) → (W ↔ V) → (M ↔ N) → Tells a W M → Tells a V N
-tells_same Answer.TooWide w m h = w.0 h
-tells_same Answer.Met w m h = (λ v. h.0 (w.1 v), m.0 h.1)
-tells_same Answer.NotMet w m h = (λ v. h.0 (w.1 v), λ n. h.1 (m.1 n))
-
-met_tells : {W M : Type 0} (b : Bool) → (W → ⊥) → IsTrue b ↔ M → Tells (met_if b) W M
-met_tells true none test = (none, test.0 refl)
-met_tells false none test = (none, λ m. let e = test.1 m in absurd cc)
-
 -- a rule that has a schema, and one that has none
-pub schema_tells : (rule : Rule) (ratios : Option (List Fraction)) (parts : SchemaParts) (ts : List Term) (b : Bool) → AreSchemaParts (arithmetic_schema_of rule) (Some parts) → ((of : Schema) → HasParts of.premises of.clause parts → IsTrue b ↔ IsInstance of [] ts) → Tells (met_if b) (IsWideArithmetic rule ratios ts) (MeetsArithmetic rule ratios ts)
-schema_tells Rule.LaDisequality ratios parts ts b are test = met_tells b (λ h. h) (test _ are)
-schema_tells Rule.LaTotality ratios parts ts b are test = met_tells b (λ h. h) (test _ are)
-schema_tells Rule.LaRwEq ratios parts ts b are test = met_tells b (λ h. h) (test _ are)
+pub schema_tells : (rule : Rule) (ratios : Option (List Fraction)) (parts : SchemaParts) (ts : List Term) (b : Bool) →
+    AreSchemaParts (arithmetic_schema_of rule) (Some parts) → ((of : Schema) → HasParts of.premises of.clause parts → IsTrue b ↔ IsInstance of [] ts) →
+    Tells (met_if b) (IsWideArithmetic rule ratios ts) (MeetsArithmetic rule ratios ts)
+schema_tells Rule.LaDisequality ratios parts ts b are test = tells_if b (λ h. h) (test _ are)
+schema_tells Rule.LaTotality ratios parts ts b are test = tells_if b (λ h. h) (test _ are)
+schema_tells Rule.LaRwEq ratios parts ts b are test = tells_if b (λ h. h) (test _ are)
 schema_tells _ ratios parts ts b are test = absurd are
 
 pub form_rule_tells : (rule : Rule) (ratios : Option (List Fraction)) (ts : List Term) (a : Answer) →
@@ -89,26 +83,21 @@ premised_meets_none Rule.MinusSimplify j is some = (λ h. some h.sides.none, λ 
 premised_meets_none Rule.UnaryMinusSimplify j is some = (λ h. some h.sides.none, λ h. some h.sides.none)
 premised_meets_none _ j is some = absurd cc
 
-module _ (s : Table) (v : TermsView) (rule : Rule) (qs : Option (List Fraction)) (premises : List (Bor (List ℕ))) (clause : List ℕ) (is : IsArith rule) where
-  abbrev pub TellsBy : Answer → Judged → Type 0
-  TellsBy a j = Tells a (IsTooWide j) (Met j)
-
-  by_rule : (a : Answer) (j : Judged) → StandsWithRatios s v rule qs premises clause j → Tells a (IsTooWideBy rule j) (MeetsRule rule j) → TellsBy a j
+module _ {s : Table} {v : TermsView} {step : Step} {qs : Option (List Fraction)} (is : IsArith step.rule) where
+  by_rule : (a : Answer) (j : Judged) → StandsWithRatios s v step qs j → Tells a (IsTooWideBy step.rule j) (MeetsRule step.rule j) →
+      Tells a (IsTooWide j) (Met j)
   by_rule a j stands tells = subst (λ r. Tells a (IsTooWideBy r j) (MeetsRule r j)) (sym stands.step.rule) tells
 
-  pub premised_tells : length premises ≢ 0 → (j : Judged) → StandsWithRatios s v rule qs premises clause j → TellsBy Answer.NotMet j
+  pub premised_tells : length step.premises.now ≢ 0 → TellsEach (StandsWithRatios s v step qs) Answer.NotMet
   premised_tells some j stands =
-      by_rule Answer.NotMet j stands (premised_meets_none rule j is (some_premises s v premises j.premises some stands.step.premises))
+      by_rule Answer.NotMet j stands (premised_meets_none step.rule j is (some_premises s v step.premises.now j.premises some stands.step.premises))
 
   -- what is told of all terms of its clause is told of a step that has no premise
-  pub plain_tells : (a : Answer) → length premises ≡ 0 →
-      ((ts : List Term) → ReferToAll s v clause ts → Tells a (IsWideArithmetic rule qs ts) (MeetsArithmetic rule qs ts)) →
-      (j : Judged) → StandsWithRatios s v rule qs premises clause j → TellsBy a j
+  pub plain_tells : (a : Answer) → length step.premises.now ≡ 0 →
+      ((ts : List Term) → ReferToAll s v step.clause.now ts → Tells a (IsWideArithmetic step.rule qs ts) (MeetsArithmetic step.rule qs ts)) →
+      TellsEach (StandsWithRatios s v step qs) a
   plain_tells a none told j stands =
-      let no_premise = no_premises s v premises j.premises none stands.step.premises in
-      let here = subst (λ x. Tells a (IsWideArithmetic rule x j.clause) (MeetsArithmetic rule x j.clause)) (sym stands.ratios)
+      let no_premise = no_premises s v step.premises.now j.premises none stands.step.premises in
+      let here = subst (λ x. Tells a (IsWideArithmetic step.rule x j.clause) (MeetsArithmetic step.rule x j.clause)) (sym stands.ratios)
       (told j.clause stands.step.clause) in
-      by_rule a j stands (tells_same a (rule_wide rule j is no_premise) (rule_meets rule j is no_premise) here)
-
-pub met_of : (j : Judged) (a : Answer) → a ≡ Answer.Met → Tells a (IsTooWide j) (Met j) → Met j
-met_of j a e tells = (subst (λ b. Tells b (IsTooWide j) (Met j)) e tells).1
+      by_rule a j stands (tells_same a (rule_wide step.rule j is no_premise) (rule_meets step.rule j is no_premise) here)

@@ -18,7 +18,7 @@ use Rattle.rule_model.specs.Weights.{weight}
 use Rattle.rule_model.proofs.ArgumentLists.{same_sides}
 use Rattle.schema_match.specs.Equations.{StatesEquality}
 use Rattle.linear_lines.proofs.ComparisonLemmas.{both_sorted}
-use Rattle.rules_arith.specs.Answers.{Tells}
+use Rattle.term_parts.specs.Judging.{Tells}
 use Rattle.rules_arith.specs.Steps.{form_answer}
 
 -- well-sorted literals are terms

@@ -16,7 +16,7 @@ use Rattle.proof_store.specs.Ratios.{fraction_of_ratio}
 use Rattle.rule_model.specs.Arith.{Comparison, CoefficientLine, AreLines, IsLinearStep, IsLeastMultiple, MeetsLaGeneric, IsWideLaGeneric, denial, lines_weight, limit}
 use Rattle.rule_model.specs.Proofs.{Fraction}
 use Rattle.rule_model.specs.WellFormed.{IsLowest}
-use Rattle.rules_arith.specs.Answers.{Tells}
+use Rattle.term_parts.specs.Judging.{Tells}
 use Rattle.rules_arith.specs.Lines.{ComesToLine, IsLineFound, AreLinesFound}
 use Rattle.rules_arith.specs.Steps.{absurd_answer}
 
@@ -121,14 +121,17 @@ module _ (s : Table) (v : TermsView) (ts : List Term) (qs : List Fraction) where
     absurd_of : (met : MeetsLaGeneric (Some qs) [] ts) → AreAbsurd met.form.multiple ls
     absurd_of met =
         subst (AreAbsurd met.form.multiple) (lines_are met.form)
-        (record { bound = met.bound; added = met.added; sum = record { cancelled = met.cancelled; absurd_bound = met.absurd_bound } })
+        (let by = met.absurd_by in record { bound = by.bound; added = by.added; sum = record { cancelled = by.cancelled; absurd_bound = by.absurd_bound } })
 
     pub answer_tells : (a : Absurdity) → ((m : ℕ) → IsLeastMultiple ls m → TellsSum m ls a) → Tells (absurd_answer a) (IsWideLaGeneric (Some qs) [] ts) (MeetsLaGeneric (Some qs) [] ts)
     unfolding form_is
     answer_tells Absurdity.Yes told =
         let here = told multiple least in (
           λ w. (let less = (told w.form.multiple (least_of w.form)).0 in let wide = wide_of w in absurd (omega (arith, less, wide))),
-          record { form = form_is; bound = here.1.bound; cancelled = here.1.sum.cancelled; added = here.1.added; absurd_bound = here.1.sum.absurd_bound },
+          record {
+            form = form_is;
+            absurd_by = record { bound = here.1.bound; cancelled = here.1.sum.cancelled; added = here.1.added; absurd_bound = here.1.sum.absurd_bound };
+          },
         )
     answer_tells Absurdity.No told = (
       λ w. (let less = (told w.form.multiple (least_of w.form)).0 in let wide = wide_of w in absurd (omega (arith, less, wide))),

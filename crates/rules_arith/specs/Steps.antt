@@ -1,5 +1,5 @@
 -- Private. What each rule asks of the coefficients and the clause of a step that has no premise.
-use Rattle.std.specs.Prelude.{List, [], ◌∷◌, Bool, true, false, Option, None}
+use Rattle.std.specs.Prelude.{List, [], ◌∷◌, Option, None}
 use Rattle.line_judging.specs.declared.judging.Absurdity.{Absurdity}
 use Rattle.linear_forms.specs.declared.forms.OneForm.{OneForm}
 use Rattle.term_parts.specs.declared.answers.Answer.{Answer}
@@ -33,11 +33,7 @@ IsWideArithmetic Rule.MinusSimplify ratios clause = IsWideFormSimplification [] 
 IsWideArithmetic Rule.UnaryMinusSimplify ratios clause = IsWideFormSimplification [] clause
 IsWideArithmetic rule ratios clause = ⊥
 
--- the answer by a test, by whether two sides have one form, and by whether lines are absurd
-abbrev pub met_if : Bool → Answer
-met_if true = Answer.Met
-met_if false = Answer.NotMet
-
+-- the answer by whether two sides have one form, and by whether lines are absurd
 abbrev pub form_answer : OneForm → Answer
 form_answer OneForm.Yes = Answer.Met
 form_answer OneForm.No = Answer.NotMet

@@ -5,7 +5,7 @@ ghost use Rattle.sort_check.specs.WellSorted.{IsWellSortedTerm};
 ghost use Rattle.term_model.specs.Terms.{Term};
 ghost use Rattle.term_pool.specs.Views.{ReferToAll};
 ghost use Rattle.rule_model.specs.Arith.{MeetsFormSimplification, IsWideFormSimplification};
-ghost use Rattle.rules_arith.specs.Answers.{Tells};
+ghost use Rattle.term_parts.specs.Judging.{Tells};
 ghost use Rattle.rules_arith.specs.Steps.{form_answer};
 
 use linear_forms::{LinearForms, OneForm};

@@ -5,7 +5,7 @@ ghost use Rattle.line_judging.specs.Weights.{IsLineOfTerms};
 ghost use Rattle.proof_store.specs.Ratios.{fraction_of_ratio, fractions};
 ghost use Rattle.rule_model.specs.Arith.{MeetsLaGeneric, IsWideLaGeneric};
 ghost use Rattle.rule_model.specs.WellFormed.{IsLowest};
-ghost use Rattle.rules_arith.specs.Answers.{Tells};
+ghost use Rattle.term_parts.specs.Judging.{Tells};
 ghost use Rattle.rules_arith.specs.Lines.{IsLineFound, AreLinesFound};
 ghost use Rattle.rules_arith.specs.Steps.{absurd_answer};
 ghost use Rattle.sort_check.specs.WellSorted.{IsWellSortedTerm};

@@ -3,7 +3,8 @@ use Rattle.std.specs.Prelude.{◌≡◌, ◌↔◌, Bool, true, false, List, [],
 use Rattle.term_model.specs.declared.symbols.Op.{Op}
 use Rattle.term_model.specs.Terms.{Term}
 use Rattle.rule_model.specs.declared.rules.Rule.{Rule}
-use Rattle.rule_model.specs.Clausal.{GivesOne, GivesAll, Begins, IsOnlyPremise, MeetsClausal}
+use Rattle.rule_model.specs.Clausal.{GivesOne, GivesAll, Begins, IsOnlyPremise}
+use Rattle.rule_model.specs.RuleSchemas.{MeetsClausal}
 use Rattle.rules_clausal.specs.declared.argument_rules.ArgumentRule.{ArgumentRule}
 use Rattle.rules_clausal.specs.declared.argument_rules.Place.{Place}
 use Rattle.rules_clausal.specs.declared.argument_rules.Which.{Which}

@@ -4,7 +4,8 @@ use Rattle.sym_table.specs.Table.{Table}
 use Rattle.term_model.specs.Terms.{Term, not_of}
 use Rattle.term_pool.specs.Views.{TermsView, RefersTo}
 use Rattle.rule_model.specs.declared.rules.Rule.{Rule}
-use Rattle.rule_model.specs.Clausal.{Changes, HasEach, HasEachOnce, IsTautology, MeetsClausal}
+use Rattle.rule_model.specs.Clausal.{Changes, HasEach, HasEachOnce, IsTautology}
+use Rattle.rule_model.specs.RuleSchemas.{MeetsClausal}
 use Rattle.rules_clausal.specs.declared.changes.Change.{Change}
 
 -- how the clauses of the premise and of the step stand to each other

@@ -70,7 +70,7 @@ fn is_one(
         IsTrue result ↔ IsOneOf sign us ts }
     ensures same { terms.new ≡ terms.old }
 {
-    let _leaves = symbols.count();
+    symbols.leaves_differ();
     terms.equal_exactly_where_terms_are();
     let [literal] = literals else {
         return false;
@@ -94,7 +94,7 @@ fn are_all(
         IsTrue result ↔ (ts ≡ map (sign_of sign) us) }
     ensures same { terms.new ≡ terms.old }
 {
-    let _leaves = symbols.count();
+    symbols.leaves_differ();
     terms.equal_exactly_where_terms_are();
     if arguments.len() != literals.len() {
         return false;

@@ -83,7 +83,7 @@ fn negates_one(symbols: &Symbols, terms: &mut Terms<'_>, sorted: &[Slot], litera
     ensures negates { (t : Term) → RefersTo symbols.now terms.old literal t → IsTrue result ↔ NegatesOne symbols.now terms.old sorted.now t }
     ensures same { terms.new ≡ terms.old }
 {
-    let _leaves = symbols.count();
+    symbols.leaves_differ();
     terms.equal_exactly_where_terms_are();
     match under_not(symbols, terms, literal) {
         Some(negated) => has(sorted, negated),
@@ -98,7 +98,7 @@ fn has_opposites(symbols: &Symbols, terms: &mut Terms<'_>, clause: &[Ref], sorte
     ensures opposites { (ts : List Term) → ReferToAll symbols.now terms.old clause.now ts → IsTrue result ↔ HasOpposites ts }
     ensures same { terms.new ≡ terms.old }
 {
-    let _leaves = symbols.count();
+    symbols.leaves_differ();
     terms.equal_exactly_where_terms_are();
     for literal in clause {
         if negates_one(symbols, terms, sorted, *literal) {
@@ -147,7 +147,7 @@ pub(crate) fn meets_change(
         ReferToAll symbols.now terms.old clause.now ts → IsTrue yes ↔ Changes (relation_of change) ps ts) }
     ensures same { terms.new ≡ terms.old }
 {
-    let _leaves = symbols.count();
+    symbols.leaves_differ();
     terms.equal_exactly_where_terms_are();
     let [premise] = premises else {
         return Ok(false);

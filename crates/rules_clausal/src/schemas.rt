@@ -1,6 +1,6 @@
 //! The schemas of the clausal rules, in prefix order.
 
-ghost use Rattle.rule_model.specs.Clausal.{schema_of};
+ghost use Rattle.rule_model.specs.RuleSchemas.{schema_of};
 ghost use Rattle.schema_match.specs.Schemas.{AreSchemaParts};
 
 use rule_model::{Letter, Rule};

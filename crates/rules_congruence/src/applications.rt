@@ -34,7 +34,7 @@ fn common_head(symbols: &Symbols, terms: &mut Terms<'_>, left: Ref, right: Ref) 
         (head : Head) (ts us : List Term) → t ≡ applied head ts → u ≢ applied head us) }
     ensures same { terms.new ≡ terms.old }
 {
-    let _leaves = symbols.count();
+    symbols.leaves_differ();
     let Some(head) = terms.head(left) else {
         return None;
     };
@@ -54,7 +54,7 @@ fn load(symbols: &Symbols, terms: &mut Terms<'_>, r: Ref, into: &mut Scratch) ->
         ReferToAll symbols.now terms.old into.new.items (arguments_of t)) }
     ensures same { terms.new ≡ terms.old }
 {
-    let _leaves = symbols.count();
+    symbols.leaves_differ();
     let count = terms.arg_count(r);
     if count == 0 {
         into.clear();
@@ -90,7 +90,7 @@ impl Applications {
             (head : Head) (ts us : List Term) → ts ≢ [] → t ≡ applied head ts → u ≢ applied head us)) }
         ensures same { terms.new ≡ terms.old }
     {
-        let _leaves = symbols.count();
+        symbols.leaves_differ();
         let Some(head) = common_head(symbols, terms, left, right) else {
             return Ok(false);
         };

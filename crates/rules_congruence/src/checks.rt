@@ -1,28 +1,25 @@
 //! Whether a step meets the condition of its rule.
 
-ghost use Rattle.std.specs.Prelude.{◌≡◌, ◌↔◌, List, All, IsTrue, IfOk};
-ghost use Rattle.rule_model.specs.Conditions.{AlwaysKeepsTruth, Met};
-ghost use Rattle.rule_model.specs.Judged.{Judged};
+ghost use Rattle.std.specs.Prelude.{◌≡◌, All, IfOk};
 ghost use Rattle.rule_model.specs.RuleNames.{kind_of};
 ghost use Rattle.rule_model.specs.declared.kinds.Family.TheVariants as Family;
 ghost use Rattle.rule_model.specs.declared.kinds.Kind.TheVariants as Kind;
-ghost use Rattle.sort_check.specs.WellSorted.{IsWellSortedTerm};
-ghost use Rattle.term_model.specs.Terms.{Term};
-ghost use Rattle.term_parts.specs.Judging.{ReferToClauses, StandsForStep};
-ghost use Rattle.term_pool.specs.Views.{IsTerm, ReferToAll};
 ghost use Rattle.rules_congruence.specs.Rules.{uses_of, denied_uses_of, MeetsEquality};
 ghost use Rattle.rules_congruence.specs.Steps.{AreClauses};
+ghost use Rattle.sort_check.specs.WellSorted.{IsWellSortedTerm};
+ghost use Rattle.term_parts.specs.Judging.{IsStepOf, KeepsTruthOfEach, StandsForStep, TellsEach, TestsClauses};
 
 use crate::predicates::meets_eq_congruent_pred;
 use crate::together::{meets_cong, meets_eq_congruent};
 use crate::transitivity::{meets_eq_transitive, meets_trans};
 use crate::turning::{is_reflexive, is_symmetric, turns_round};
 use crate::uses::Uses;
-use pair_pool::{Memory, Ref};
+use pair_pool::Memory;
 use rule_model::laws::conditions::conditions_keep_truth;
 use rule_model::{Mode, Rule};
 use std::alloc::Global;
 use sym_table::Symbols;
+use term_parts::{Answer, Step, answer_of};
 use term_pool::Terms;
 
 /// How cong uses its premises.
@@ -45,30 +42,25 @@ fn denied_uses_of(mode: Mode) -> Uses
     }
 }
 
-/// The clauses of a step: those of its premises, in order, and its own.
-#[derive(Clone, Copy)]
-struct Clauses<'a> {
-    premises: &'a [&'a [Ref]],
-    clause: &'a [Ref],
-}
-
 /// Whether the clauses of a step are what a rule of the family asks of them.
 fn meets_equality(
     alloc: Global,
-    mode: Mode,
-    rule: Rule,
     symbols: &Symbols,
     terms: &mut Terms<'_>,
-    step: Clauses<'_>,
+    step: Step<'_>,
 ) -> Result<bool, Memory>
+    requires family { kind_of step.rule ≡ Kind.Judged Family.Congruence }
     requires premises { AreClauses symbols.now terms.old step.premises.now }
     requires clause { All (IsWellSortedTerm symbols.now terms.old) step.clause.now }
-    ensures met { IfOk result (λ yes. (ps : List (List Term)) (ts : List Term) → ReferToClauses symbols.now terms.old step.entry.premises.now ps →
-        ReferToAll symbols.now terms.old step.entry.clause.now ts → IsTrue yes ↔ MeetsEquality mode rule ps ts) }
+    ensures met { IfOk result (TestsClauses symbols.now terms.old step.entry (MeetsEquality step.entry.mode step.entry.rule)) }
     ensures same { terms.new ≡ terms.old }
 {
-    let premises = step.premises;
-    let clause = step.clause;
+    let Step {
+        mode,
+        rule,
+        premises,
+        clause,
+    } = step;
     match rule {
         Rule::Symm => Ok(turns_round(symbols, terms, false, premises, clause)),
         Rule::NotSymm => Ok(turns_round(symbols, terms, true, premises, clause)),
@@ -97,37 +89,30 @@ fn meets_equality(
                 clause,
             )
         }
-        _ => Ok(false),
+        _ => unreachable!(),
     }
 }
 
-/// Whether a step meets the condition of its rule in a mode (Alethe specification, "List of rules"): `symm`, `not_symm`,
+/// Whether a step meets the condition of its rule in its mode (Alethe specification, "List of rules"): `symm`, `not_symm`,
 /// `trans`, `cong`, `eq_reflexive`, `eq_symmetric`, `eq_transitive`, `eq_congruent` or `eq_congruent_pred`. Check mode takes
 /// the equalities in any order and either direction, strict mode as they are needed, in order.
 ///
-/// `premises` are the literals of the premises' clauses, in the order in which the step names them, and `clause` those of
-/// its own, which have to be well sorted. Where a mode asks for no search a step costs what its clauses have; else a sort of
-/// its equalities and a look-up for each link. Places no cell, and is refused only when out of memory.
+/// Where a mode asks for no search a step costs what its clauses have; else a sort of its equalities and a look-up for each
+/// link. Places no cell, and refuses out of memory alone.
 pub fn meets(
     alloc: Global,
     symbols: &Symbols,
     terms: &mut Terms<'_>,
-    mode: Mode,
-    rule: Rule,
-    premises: &[&[Ref]],
-    clause: &[Ref],
-) -> Result<bool, Memory>
-    requires family { kind_of rule ≡ Kind.Judged Family.Congruence }
-    requires premises { All (λ p. All (IsTerm symbols.now terms.old) p.now) premises.now }
-    requires clause { All (IsWellSortedTerm symbols.now terms.old) clause.now }
-    ensures met { IfOk result (λ yes. (j : Judged) → StandsForStep symbols.now terms.old mode rule premises.now clause.now j →
-        IsTrue yes ↔ Met j) }
+    step: Step<'_>,
+) -> Result<Answer, Memory>
+    requires family { kind_of step.rule ≡ Kind.Judged Family.Congruence }
+    requires step { IsStepOf symbols.now terms.old step }
+    ensures met { IfOk result (TellsEach (StandsForStep symbols.now terms.old step.entry)) }
     // under every interpretation and values of variables that make the premises true, the clause of a step that is met is
-    ensures sound { IfOk result (λ yes. IsTrue yes → (j : Judged) → StandsForStep symbols.now terms.old mode rule premises.now clause.now j →
-        AlwaysKeepsTruth j) }
+    ensures sound { IfOk result (KeepsTruthOfEach (StandsForStep symbols.now terms.old step.entry)) }
     ensures same { terms.new ≡ terms.old }
 {
     conditions_keep_truth();
-    let step = Clauses { premises, clause };
-    meets_equality(alloc, mode, rule, symbols, terms, step)
+    let met = meets_equality(alloc, symbols, terms, step)?;
+    Ok(answer_of(met))
 }

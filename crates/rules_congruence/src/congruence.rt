@@ -95,7 +95,7 @@ fn equal_pairs(symbols: &Symbols, both: &Applications) -> Option<((Ref, Ref), (R
     ensures pairs { IfSome result (ArePairs symbols.now both.now.head both.now.left.items both.now.right.items) }
     ensures other { IfNone result ((pairs : (ℕ × ℕ) × (ℕ × ℕ)) → ¬ ArePairs symbols.now both.now.head both.now.left.items both.now.right.items pairs) }
 {
-    let _leaves = symbols.count();
+    symbols.leaves_differ();
     if both.head != symbols.operator(Op::Equal) {
         return None;
     }

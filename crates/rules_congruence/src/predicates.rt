@@ -51,7 +51,7 @@ fn equates_truths(
         RefersTo symbols.now terms.old literal t → IsTrue yes ↔ Equates (AreCongruentTruths (Together uses)) ps (t ∷ [])) }
     ensures same { terms.new ≡ terms.old }
 {
-    let _leaves = symbols.count();
+    symbols.leaves_differ();
     terms.equal_exactly_where_terms_are();
     let Some(sides) = sides_of(symbols, terms, literal) else {
         return Ok(false);

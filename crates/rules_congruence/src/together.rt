@@ -50,7 +50,7 @@ fn hang_by(
         IsTrue yes ↔ Together Uses.Any a.head ps a.ts a.us) }
     ensures same { terms.new ≡ terms.old }
 {
-    let _leaves = symbols.count();
+    symbols.leaves_differ();
     terms.equal_exactly_where_terms_are();
     // most steps have the equalities of the arguments that differ, in order
     if are_in_order(false, given, both) {
@@ -75,7 +75,7 @@ fn together(
         (a : AreApplied symbols.now terms.old both.now.head both.now.left.items both.now.right.items t u) → IsTrue yes ↔ Together uses a.head ps a.ts a.us) }
     ensures same { terms.new ≡ terms.old }
 {
-    let _leaves = symbols.count();
+    symbols.leaves_differ();
     terms.equal_exactly_where_terms_are();
     match uses {
         Uses::Any => hang_by(alloc, symbols, terms, given, both),

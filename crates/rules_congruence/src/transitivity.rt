@@ -1,7 +1,7 @@
 //! trans and eq_transitive: whether equalities lead from one side of an equality to the other.
 
 ghost use Rattle.std.specs.Prelude.{◌≡◌, ◌↔◌, [], ◌∷◌, List, IsTrue, IfOk};
-ghost use Rattle.rule_model.specs.Congruence.{Equates, IsWay, MeetsTrans, MeetsEqTransitive};
+ghost use Rattle.rule_model.specs.Congruence.{Denies, Equates, IsWay};
 ghost use Rattle.term_model.specs.Terms.{Term};
 ghost use Rattle.rule_model.specs.declared.rules.Mode.{Mode};
 ghost use Rattle.term_pool.specs.Views.{IsTerm, RefersTo, ReferToAll};
@@ -57,7 +57,7 @@ fn equates(
         RefersTo symbols.now terms.old literal t → IsTrue yes ↔ Equates (IsWay mode) ps (t ∷ [])) }
     ensures same { terms.new ≡ terms.old }
 {
-    let _leaves = symbols.count();
+    symbols.leaves_differ();
     terms.equal_exactly_where_terms_are();
     let Some(sides) = sides_of(symbols, terms, literal) else {
         return Ok(false);
@@ -77,7 +77,7 @@ pub(crate) fn meets_trans(
     requires premises { AreClauses symbols.now terms.old premises.now }
     requires clause { AreTerms symbols.now terms.old clause.now }
     ensures met { IfOk result (λ yes. (ps : List (List Term)) (ts : List Term) → ReferToClauses symbols.now terms.old premises.now ps →
-        ReferToAll symbols.now terms.old clause.now ts → IsTrue yes ↔ MeetsTrans mode ps ts) }
+        ReferToAll symbols.now terms.old clause.now ts → IsTrue yes ↔ Equates (IsWay mode) ps ts) }
     ensures same { terms.new ≡ terms.old }
 {
     let Some(literal) = literal(clause) else {
@@ -98,7 +98,7 @@ pub(crate) fn meets_eq_transitive(
 ) -> Result<bool, Memory>
     requires clause { AreTerms symbols.now terms.old clause.now }
     ensures met { IfOk result (λ yes. (ps : List (List Term)) (ts : List Term) → ReferToClauses symbols.now terms.old premises.now ps →
-        ReferToAll symbols.now terms.old clause.now ts → IsTrue yes ↔ MeetsEqTransitive mode ps ts) }
+        ReferToAll symbols.now terms.old clause.now ts → IsTrue yes ↔ Denies (Equates (IsWay mode)) ps ts) }
     ensures same { terms.new ≡ terms.old }
 {
     let Some(split) = denying(premises, clause) else {

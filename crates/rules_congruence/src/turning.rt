@@ -41,7 +41,7 @@ fn are_turned(symbols: &Symbols, terms: &mut Terms<'_>, denied: bool, old: Ref, 
         IsTrue result ↔ AreTurned (sign_of denied) t u }
     ensures same { terms.new ≡ terms.old }
 {
-    let _leaves = symbols.count();
+    symbols.leaves_differ();
     terms.equal_exactly_where_terms_are();
     let Some(sides) = signed_sides(symbols, terms, denied, old) else {
         return false;
@@ -81,7 +81,7 @@ fn has_equal_sides(symbols: &Symbols, terms: &mut Terms<'_>, r: Ref) -> bool
     ensures equal { (t : Term) → RefersTo symbols.now terms.old r t → IsTrue result ↔ HasEqualSides t }
     ensures same { terms.new ≡ terms.old }
 {
-    let _leaves = symbols.count();
+    symbols.leaves_differ();
     terms.equal_exactly_where_terms_are();
     let Some(sides) = sides_of(symbols, terms, r) else {
         return false;

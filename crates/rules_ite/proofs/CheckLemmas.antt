@@ -1,9 +1,9 @@
 -- What the rules of this family ask of a step, and clauses of terms of Bool by their references.
-use Rattle.std.proofs.Common.{◌≡◌, ◌↔◌, ℕ, List, [], ◌∷◌, All, refl, subst}
+use Rattle.std.proofs.Common.{◌≡◌, ◌↔◌, ℕ, List, [], ◌∷◌, refl, subst}
 use Rattle.sym_table.specs.Table.{Table}
 use Rattle.term_model.specs.Terms.{Term}
-use Rattle.term_pool.specs.Views.{TermsView, IsTerm, ReferToAll}
-use Rattle.term_pool.proofs.References.{AreOne, refer_are_terms}
+use Rattle.term_pool.specs.Views.{TermsView, ReferToAll}
+use Rattle.term_pool.proofs.References.{AreOne}
 use Rattle.rule_model.specs.declared.kinds.Family.{Family}
 use Rattle.rule_model.specs.declared.kinds.Kind.{Kind}
 use Rattle.rule_model.specs.declared.rules.Rule.{Rule}
@@ -33,9 +33,6 @@ asks j is = rule_meets j.rule j is
 
 -- clauses of references of terms of Bool
 module _ (s : Table) (v : TermsView) where
-  pub truths_are_terms : (rs : List ℕ) → StandForTruths s v rs → All (IsTerm s v) rs
-  truths_are_terms rs are = refer_are_terms s v rs are.clause are.refer
-
   -- references stand for one list of terms
   one_clause : AreOne s v → (rs : List ℕ) (ts us : List Term) → ReferToAll s v rs ts → ReferToAll s v rs us → ts ≡ us
   one_clause one [] [] [] ts_refer us_refer = refl

@@ -1,25 +1,19 @@
 -- Steps that state one equality, and what their rules ask of its sides.
 use Rattle.std.proofs.Common.{◌≡◌, ◌↔◌, inr, ℕ, List, [], ◌∷◌, Bool, false, IsTrue, All, refl, sym, ap, ◌∙◌, subst, arith}
-use Rattle.std.specs.Borrow.{Bor}
 use Rattle.std.proofs.lemmas.List.Elements.{All-cons, All-head, All-tail}
-use Rattle.sort_check.specs.WellSorted.{IsWellSortedTerm}
 use Rattle.sym_table.specs.Table.{Table}
 use Rattle.term_model.specs.declared.symbols.Op.{Op}
 use Rattle.term_model.specs.declared.symbols.Sort.{Sort}
 use Rattle.term_model.specs.Flips.{equality}
-use Rattle.term_model.specs.Sorts.{IsOf, AreOf, IsWellSorted}
+use Rattle.term_model.specs.Sorts.{IsOf, AreOf}
 use Rattle.term_model.specs.Terms.{Term, operation, terms_of}
 use Rattle.term_model.proofs.Arities.{equality_sort}
-use Rattle.term_pool.specs.Views.{TermsView, IsTerm}
-use Rattle.rule_model.specs.Conditions.{IsClauseOfTruths}
+use Rattle.term_pool.specs.Views.{TermsView}
 use Rattle.rule_model.specs.Ite.{MeetsIteIntro, MeetsDistinctElim}
 use Rattle.rule_model.proofs.ArgumentLists.{same_sides}
 use Rattle.schema_match.specs.Equations.{StatesEquality}
-use Rattle.term_parts.specs.Judging.{ReferToClauses}
-use Rattle.schema_match.proofs.InstanceLemmas.{terms_of_references}
 use Rattle.rules_ite.specs.Distinct.{AreOfOneSort, Eliminates}
 use Rattle.rules_ite.specs.Facts.{Introduces}
-use Rattle.rules_ite.proofs.ConnectiveLemmas.{two_of}
 
 -- the two rules
 module _ (s : Table) (v : TermsView) (p : ℕ × ℕ) (ps : List (List Term)) (ts : List Term) (is : StatesEquality s v p ps ts) (told : Bool) where
@@ -50,10 +44,7 @@ no_introduction ps ts other = (λ e. absurd cc, λ m. absurd (other m.left (oper
 pub no_elimination : (ps : List (List Term)) (ts : List Term) → ((u w : Term) → ps ≡ [] → ts ≡ equality u w ∷ [] → ⊥) → IsTrue false ↔ MeetsDistinctElim ps ts
 no_elimination ps ts other = (λ e. absurd cc, λ m. absurd (other (operation Op.Distinct (terms_of m.ts)) m.result m.none m.literal))
 
--- the sides of a well-sorted equality are well sorted, and the arguments of a `distinct` of one sort
-pub left_is_sorted : (t u : Term) (s : Sort) → IsOf (equality t u) s → IsWellSorted t
-left_is_sorted t u s h = let two = two_of t u h.sorts h.arguments in record { sort = two.0; of = two.3 }
-
+-- the arguments of a well-sorted `distinct` are of one sort
 arguments_of_sort : (s : Sort) (ts : List Term) (ss : List Sort) → AreOf (terms_of ts) ss → All (λ a. a ≡ s) ss → All (λ t. IsOf t s) ts
 arguments_of_sort s [] [] h all = λ k d below. absurd (omega (arith, below))
 arguments_of_sort s [] (x ∷ ss) h all = absurd h
@@ -65,20 +56,3 @@ pub distinct_of_one_sort : (ts : List Term) (s : Sort) → IsOf (operation Op.Di
 distinct_of_one_sort ts s h =
     let alike = ((equality_sort Op.Distinct h.sorts s (inr refl)).0 h.is).0 in
     record { sort = alike.1.0; each = arguments_of_sort alike.1.0 ts h.sorts h.arguments alike.1.1 }
-
--- references that are terms stand for clauses
-module _ (s : Table) (v : TermsView) where
-  pub clauses_of_references : (premises : List (Bor (List ℕ))) → All (λ p. All (IsTerm s v) p.now) premises → (ps : List (List Term)) × ReferToClauses s v premises ps
-  clauses_of_references [] all = ([], tt)
-  clauses_of_references (p ∷ premises) all =
-      let first = terms_of_references s v p.now (All-head (λ q. All (IsTerm s v) q.now) p premises all) in
-      let others = clauses_of_references premises (All-tail (λ q. All (IsTerm s v) q.now) p premises all) in
-      (first.0 ∷ others.0, (first.1, others.1))
-
-  -- the sides of an equality that a clause of Bool states
-  pub sides_are_sorted : (p : ℕ × ℕ) (ps : List (List Term)) (ts : List Term) → StatesEquality s v p ps ts → IsClauseOfTruths ts → IsWellSortedTerm s v p.0 × IsTerm s v p.1
-  sides_are_sorted p ps ts is truths =
-      let truth = All-head (λ t. IsOf t Sort.Bool) (equality is.left is.right) [] (rw is.literal at truths) in (
-        record { means = is.left; refers = is.left_refers; sorted = left_is_sorted is.left is.right Sort.Bool truth },
-        record { means = is.right; refers = is.right_refers },
-      )

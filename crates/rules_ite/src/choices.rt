@@ -1,6 +1,6 @@
 //! The schemas of the rules over `ite`, in prefix order.
 
-ghost use Rattle.rule_model.specs.Ite.{choice_schema_of};
+ghost use Rattle.rule_model.specs.RuleSchemas.{choice_schema_of};
 ghost use Rattle.schema_match.specs.Schemas.{AreSchemaParts};
 
 use rule_model::{Letter, Rule};

@@ -38,7 +38,7 @@ fn is_inequality(
         RefersTo symbols.now terms.old literal l → IsTrue result ↔ IsInequality t u l }
     ensures same { terms.new ≡ terms.old }
 {
-    let _leaves = symbols.count();
+    symbols.leaves_differ();
     terms.equal_exactly_where_terms_are();
     let Some((left, right)) = denied_sides(symbols, terms, literal) else {
         return false;
@@ -182,7 +182,7 @@ pub(crate) fn eliminates_distinct(
         IsTrue yes ↔ Eliminates t u) }
     ensures same { terms.new ≡ terms.old }
 {
-    let _leaves = symbols.count();
+    symbols.leaves_differ();
     terms.equal_exactly_where_terms_are();
     let mut list: Scratch = SmallVec::new(alloc);
     if !load_arguments(symbols, terms, Op::Distinct, Sign::Itself, left, &mut list)? {

@@ -1,3 +1,2 @@
 pub mod Stating
-pub mod Meeting
 pub mod SideLemmas

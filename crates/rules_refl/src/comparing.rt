@@ -9,10 +9,10 @@ ghost use Rattle.term_pool.specs.Views.{RefersTo, KeepsTerms};
 ghost use Rattle.term_pool.specs.declared.stop.TermStop.TheVariants as TermStop;
 
 use pair_pool::{Memory, Ref};
-use proof_store::RuleStop;
 use rule_model::Mode;
 use std::alloc::Global;
 use sym_table::Symbols;
+use term_parts::RuleStop;
 use term_pool::{TermStop, Terms};
 
 /// Whether two terms count as the same: up to flips in check mode, and strictly where they are identical.
@@ -31,7 +31,7 @@ pub(crate) fn are_same(
     ensures keeps { KeepsTerms terms.old terms.new }
     ensures unchanged { IsUnchanged terms.old.pass terms.new.pass }
 {
-    let _leaves = symbols.count();
+    symbols.leaves_differ();
     terms.equal_exactly_where_terms_are();
     match mode {
         Mode::Check => terms.same_up_to_flips(alloc, symbols, a, b),

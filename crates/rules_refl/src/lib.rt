@@ -5,5 +5,5 @@ mod checks;
 mod comparing;
 mod substituting;
 
-pub use checks::{check, meets};
+pub use checks::meets;
 pub use comparing::refused;

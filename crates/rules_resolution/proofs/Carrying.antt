@@ -4,8 +4,7 @@ use Rattle.std.specs.List.{AllZip}
 use Rattle.term_model.proofs.Lists.{contains_none, contains_cases, contains_head, contains_later}
 use Rattle.term_model.proofs.Zips.{zip_append, zip_push}
 use Rattle.rule_model.specs.Renaming.{KeepsAtomsApart}
-use Rattle.rule_model.specs.Resolution.{LeavesWithout, IsFirstsOf, IsJoined}
-use Rattle.clause_chain.specs.Chaining.{Joins, JoinAll}
+use Rattle.rule_model.specs.Resolution.{LeavesWithout, IsFirstsOf, IsJoined, Joins, JoinAll}
 
 -- the other way round
 abbrev pub Back : {A B : Type 0} → (A → B → Type 0) → B → A → Type 0
@@ -77,7 +76,7 @@ module _ {A B : Type 0} (R : A → B → Type 0) (one : KeepsAtomsApart R) where
         ),
       )
 
-  joined_over : (left right : List A) (here there : A) (next : List A) (l r : List B) (h t : B) → AllZip R left l → AllZip R right r → R here h
+  pub joined_over : (left right : List A) (here there : A) (next : List A) (l r : List B) (h t : B) → AllZip R left l → AllZip R right r → R here h
       → R there t → IsJoined left right here there next → (n : List B) × AllZip R next n × IsJoined l r h t n
   joined_over left right here there next l r h t zl zr rh rt joined =
       let kept = leaves_over R one here h left l joined.left_rest rh zl joined.left_is in

@@ -15,6 +15,6 @@ pub mod Renamings
 pub mod Keys
 pub mod TermLiterals
 pub mod TermAnswers
-pub mod Loading
+pub mod Loaded
 pub mod Carrying
 pub mod SignedTerms

@@ -1,11 +1,12 @@
 -- Literals over references, and the terms that they stand for.
-use Rattle.std.proofs.Common.{◌≡◌, ◌≢◌, ◌↔◌, ℕ, zero, suc, ◌+◌, ◌<◌, ◌%◌, Bool, IsTrue, true, false, not, nat_eq, List, [], ◌∷◌, ◌++◌, length, get_or, take, map, vec_len, refl, sym, ◌∙◌, ap, arith, All}
+use Rattle.std.proofs.Common.{◌≡◌, ◌≢◌, ◌↔◌, ℕ, zero, suc, ◌<◌, ◌%◌, Bool, IsTrue, true, false, not, nat_eq, List, [], ◌∷◌, length, map}
+use Rattle.std.proofs.Common.{vec_len, refl, sym, ◌∙◌, ap, arith, All}
+use Rattle.std.specs.Borrow.{Bor}
 use Rattle.std.specs.Global.{Vec}
 use Rattle.std.specs.List.{AllZip}
 use Rattle.std.proofs.lemmas.Bool.{eqb-true, eq-eqb}
 use Rattle.std.proofs.lemmas.Bool.Decides.{nat_tests}
-use Rattle.std.proofs.lemmas.List.{take_more}
-use Rattle.std.proofs.lemmas.List.Elements.{All-nil, All-cons}
+use Rattle.std.proofs.lemmas.List.Elements.{All-nil, All-cons, All-head, All-tail}
 use Rattle.pair_pool.specs.Views.{Knows, IsUnchanged}
 use Rattle.pair_pool.specs.Trees.{leaf}
 use Rattle.sym_table.specs.Leaf.{operator}
@@ -21,7 +22,8 @@ use Rattle.rule_model.specs.Literals.{negation_of}
 use Rattle.rule_model.specs.Renaming.{IsLiteralImage, AreLiteralImages, AreAllImages}
 use Rattle.rule_model.specs.Resolution.{as_literal, as_clause}
 use Rattle.rule_model.proofs.Consequence.{negation_of-negation_of}
-use Rattle.term_model.proofs.Zips.{zip_push, zip_length}
+use Rattle.term_model.proofs.Zips.{zip_length}
+use Rattle.term_parts.specs.Judging.{ReferToClauses}
 use Rattle.rule_model.proofs.Resolution.{bare_is_bare, atom_is_plain}
 use Rattle.rules_resolution.specs.Literal.{Lit}
 use Rattle.rules_resolution.specs.Clause.{clauses_of}
@@ -91,10 +93,6 @@ false_image R odd t e = rw e (go odd)
 pub operator_refers : (s : Table) (v : TermsView) (r k : ℕ) (op : Op) → Knows v.pass r (leaf k) → IsLeaf s k (operator op) → RefersTo s v r (operation op no_terms)
 operator_refers s v r k op known is = record { tree = leaf k; known = known; stands = is }
 
--- one item more
-pub zip_more : {X Y : Type 0} (R : X → Y → Type 0) (xs : List X) (ys : List Y) (i : ℕ) (d : X) (y : Y) → i < length xs → AllZip R (take i xs) ys → R (get_or xs i d) y → AllZip R (take (i + 1) xs) (ys ++ y ∷ [])
-zip_more R xs ys i d y h z r = rw (take_more xs i d h) (zip_push R (take i xs) ys (get_or xs i d) y z r)
-
 -- literals are the images of the terms that the references stand for
 pub are_images : (s : Table) (v : TermsView) (references : List ℕ) (literals : List Lit) (ts : List Term) → AreLiteralsOf s v references literals → AllZip (RefersTo s v) references ts → AreLiteralImages (RefersTo s v) literals (as_clause ts)
 are_images s v [] [] [] z refer = tt
@@ -104,25 +102,24 @@ are_images s v (r ∷ rs) [] ts z refer = absurd z
 are_images s v (r ∷ rs) (l ∷ ls) [] z refer = absurd refer
 are_images s v (r ∷ rs) (l ∷ ls) (t ∷ ts) z refer = (z.0 t refer.0, are_images s v rs ls ts z.1 refer.1)
 
-pub are_all_images : (s : Table) (v : TermsView) (premises : List (List ℕ)) (clauses : List (Vec Lit)) (ps : List (List Term)) → AreClausesOf s v premises clauses → AllZip (AllZip (RefersTo s v)) premises ps → AreAllImages (RefersTo s v) (clauses_of clauses) (map as_clause ps)
+pub are_all_images : (s : Table) (v : TermsView) (premises : List (Bor (List ℕ))) (clauses : List (Vec Lit)) (ps : List (List Term))
+    → AreClausesOf s v premises clauses → ReferToClauses s v premises ps → AreAllImages (RefersTo s v) (clauses_of clauses) (map as_clause ps)
 are_all_images s v [] [] [] z refer = tt
 are_all_images s v [] [] (p ∷ ps) z refer = absurd refer
 are_all_images s v [] (c ∷ cs) ps z refer = absurd z
 are_all_images s v (r ∷ rs) [] ps z refer = absurd z
 are_all_images s v (r ∷ rs) (c ∷ cs) [] z refer = absurd refer
-are_all_images s v (r ∷ rs) (c ∷ cs) (p ∷ ps) z refer = (are_images s v r c.items p z.0 refer.0, are_all_images s v rs cs ps z.1 refer.1)
+are_all_images s v (r ∷ rs) (c ∷ cs) (p ∷ ps) z refer = (are_images s v r.now c.items p z.0 refer.0, are_all_images s v rs cs ps z.1 refer.1)
 
--- as many clauses as premises, none longer than the longest
-pub as_many_clauses : (s : Table) (v : TermsView) (premises : List (List ℕ)) (clauses : List (Vec Lit)) → AreClausesOf s v premises clauses → length premises ≡ length clauses
-as_many_clauses s v premises clauses z = zip_length (λ (references : List ℕ) (literals : Vec Lit). AreLiteralsOf s v references literals.items) premises clauses z
-
-pub short_clauses : (s : Table) (v : TermsView) (n : ℕ) (f : ℕ → List ℕ) (js : List ℕ) (clauses : List (Vec Lit)) → ((j : ℕ) → length (f j) < n) → AreClausesOf s v (map f js) clauses → All (λ (literals : Vec Lit). vec_len literals < n) clauses
-short_clauses s v n f [] [] short z = All-nil (λ (literals : Vec Lit). vec_len literals < n)
-short_clauses s v n f [] (c ∷ cs) short z = absurd z
-short_clauses s v n f (j ∷ js) [] short z = absurd z
-short_clauses s v n f (j ∷ js) (c ∷ cs) short z =
-    All-cons (λ (literals : Vec Lit). vec_len literals < n) c cs
-    (let same = zip_length (IsLiteralOf s v) (f j) c.items z.0 in
-    let first = short j in
-    omega arith)
-    (short_clauses s v n f js cs short z.1)
+-- no list is longer than the clause that is read into it
+pub short_clauses : (s : Table) (v : TermsView) (n : ℕ) (premises : List (Bor (List ℕ))) (clauses : List (Vec Lit))
+    → All (λ (p : Bor (List ℕ)). length p.now < n) premises → AreClausesOf s v premises clauses
+    → All (λ (literals : Vec Lit). vec_len literals < n) clauses
+short_clauses s v n [] [] short z = All-nil (λ (literals : Vec Lit). vec_len literals < n)
+short_clauses s v n [] (c ∷ cs) short z = absurd z
+short_clauses s v n (r ∷ rs) [] short z = absurd z
+short_clauses s v n (r ∷ rs) (c ∷ cs) short z =
+    let same = zip_length (IsLiteralOf s v) r.now c.items z.0 in
+    let first = All-head (λ (p : Bor (List ℕ)). length p.now < n) r rs short in
+    All-cons (λ (literals : Vec Lit). vec_len literals < n) c cs (omega (arith, same, first))
+    (short_clauses s v n rs cs (All-tail (λ (p : Bor (List ℕ)). length p.now < n) r rs short) z.1)

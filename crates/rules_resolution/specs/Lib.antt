@@ -14,5 +14,6 @@ pub mod Progress
 pub mod Ends
 pub mod Scans
 pub mod Steps
-pub mod TermLiterals
 pub mod SignedTerms
+pub mod Loading
+pub mod TermLiterals

@@ -5,12 +5,13 @@ use Rattle.term_model.specs.declared.symbols.Op.{Op}
 use Rattle.term_model.specs.Terms.{Term, operation, terms_of}
 use Rattle.term_pool.specs.Views.{TermsView, RefersTo, ReferToAll}
 use Rattle.term_pool.proofs.References.{AreOne}
-use Rattle.rule_model.specs.Simplify.{IsOnceEach, StandsAs}
+use Rattle.rule_model.specs.Resolution.{IsFirstsOf}
+use Rattle.rule_model.specs.Simplify.{StandsAs}
 use Rattle.rule_model.proofs.ArgumentLists.{same_arguments}
 use Rattle.schema_match.proofs.ReferLemmas.{refer_length}
 use Rattle.rules_simplify.specs.declared.joins.Junction.{Junction}
 use Rattle.rules_simplify.specs.Joins.{constant, AreWithout, AreOnceEach, IsShorter, Joins, IsJoined}
-use Rattle.rules_simplify.proofs.ListLemmas.{without_one, once_one}
+use Rattle.rule_model.proofs.JoinedLists.{leaves_one, firsts_one}
 
 pub told_apart : (b : Bool) → b ≡ true → b ≡ false → ⊥
 told_apart b e f = cc
@@ -102,11 +103,11 @@ module _ (s : Table) (v : TermsView) (j : Junction) (ts : List Term) (t : Term) 
     by_third told first second test = (λ e. (l.kept, inr (inr (h.kept, h.is, l.is)), test.0 e), go)
       where
         go : IsShorter j ts t → IsTrue told
-        go (us, inl w, stands) = absurd (first (subst StandsFor (without_one (constant j.neutral) ts us h.kept w h.is) stands))
-        go (us, inr (inl o), stands) = absurd (second (subst StandsFor (once_one [] ts us k.kept o k.is) stands))
+        go (us, inl w, stands) = absurd (first (subst StandsFor (leaves_one (constant j.neutral) ts us h.kept w h.is) stands))
+        go (us, inr (inl o), stands) = absurd (second (subst StandsFor (firsts_one [] ts us k.kept o k.is) stands))
         go (us, inr (inr (vs, w, o)), stands) =
-            (let same = without_one (constant j.neutral) ts vs h.kept w h.is in
-            test.1 (subst StandsFor (once_one [] h.kept us l.kept (subst (λ (x : List Term). IsOnceEach [] x us) same o) l.is) stands))
+            (let same = leaves_one (constant j.neutral) ts vs h.kept w h.is in
+            test.1 (subst StandsFor (firsts_one [] h.kept us l.kept (subst (λ (x : List Term). IsFirstsOf [] x us) same o) l.is) stands))
 
 -- the sides of an equality
 pub joined_none : (j : Junction) (t u : Term) (told : Bool) → t ≡ constant j.op → IsTrue told ↔ Joins j [] u → IsTrue told ↔ IsJoined j t u

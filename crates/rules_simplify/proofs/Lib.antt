@@ -1,5 +1,4 @@
 pub mod SetLemmas
-pub mod ListLemmas
 pub mod ItemLemmas
 pub mod ShorterLemmas
 pub mod NegationLemmas

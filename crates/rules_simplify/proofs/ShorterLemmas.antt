@@ -4,17 +4,15 @@ use Rattle.std.proofs.lemmas.List.Elements.{Contains-push_cases}
 use Rattle.sym_table.specs.Table.{Table}
 use Rattle.term_model.specs.declared.symbols.Op.{Op}
 use Rattle.term_model.specs.Terms.{Term, operation, no_terms}
-use Rattle.term_model.proofs.Lists.{contains_none}
 use Rattle.term_parts.specs.Parts.{IsOver}
 use Rattle.term_pool.specs.Views.{TermsView, RefersTo, ReferToAll}
 use Rattle.term_pool.proofs.References.{AreOne}
-use Rattle.rule_model.specs.Simplify.{IsWithout, end, end_of}
+use Rattle.rule_model.proofs.JoinedLists.{without_last, kept_last, repeated_last, new_last}
 use Rattle.schema_match.proofs.Counts.{none}
 use Rattle.schema_match.proofs.OverLemmas.{over_term, is_over}
 use Rattle.schema_match.proofs.ReferLemmas.{refer_append, contains_terms, contains_references}
 use Rattle.rules_simplify.specs.Joins.{constant, AreWithout, AreOnceEach, IsMet}
 use Rattle.rules_simplify.proofs.ItemLemmas.{item, item_refers, one_more, item_there, all_taken}
-use Rattle.rules_simplify.proofs.ListLemmas.{without_kept, without_dropped, once_again, once_first}
 use Rattle.rules_simplify.proofs.SetLemmas.{met_first, met_again}
 
 -- an operator without arguments
@@ -26,10 +24,10 @@ constant_is op t told test = (
 
 -- nothing is taken yet
 pub without_start : (s : Table) (v : TermsView) (c : Term) (ts : List Term) (kept : List ℕ) → kept ≡ [] → AreWithout s v c (take 0 ts) kept
-without_start s v c ts kept e = rw e (record { kept = []; refer = tt; is = end })
+without_start s v c ts kept e = rw e (record { kept = []; refer = tt; is = refl })
 
 pub once_start : (s : Table) (v : TermsView) (ts : List Term) (kept : List ℕ) → kept ≡ [] → AreOnceEach s v (take 0 ts) kept
-once_start s v ts kept e = rw e (record { kept = []; refer = tt; is = end_of [] })
+once_start s v ts kept e = rw e (record { kept = []; refer = tt; is = refl })
 
 -- the keys that are met stay those that are kept
 pub keys_again : (kept seen more : List ℕ) (r : ℕ) (new : Bool) → seen ≡ kept → IsMet seen more r new → new ≡ false → more ≡ kept
@@ -61,7 +59,7 @@ module _ (s : Table) (v : TermsView) (rs : List ℕ) (ts : List Term) (refer : R
       refer = h.refer;
       is =
           rw (one_more s v rs ts refer i r below is)
-          (subst (λ t. IsWithout c (take i ts ++ t ∷ []) h.kept) (sym (here.0 holds)) (without_dropped c (take i ts) h.kept h.is));
+          (without_last c (take i ts) h.kept (item s v rs ts refer i) h.is (here.0 holds));
     }
 
     pub kept_on : told ≡ false → (kept more : List ℕ) → more ≡ kept ++ r ∷ [] → AreWithout s v c (take i ts) kept → AreWithout s v c (take (i + 1) ts) more
@@ -71,7 +69,7 @@ module _ (s : Table) (v : TermsView) (rs : List ℕ) (ts : List Term) (refer : R
           refer = refer_append s v kept (r ∷ []) h.kept (item s v rs ts refer i ∷ []) h.refer (item_refers s v rs ts refer i r below is, tt);
           is =
               rw (one_more s v rs ts refer i r below is)
-              (without_kept c (take i ts) h.kept (item s v rs ts refer i) (λ e. absurd (let holds = here.1 e in cc)) h.is);
+              (kept_last c (take i ts) h.kept (item s v rs ts refer i) h.is (λ e. absurd (let holds = here.1 e in cc)));
         })
 
   -- the item at a place is met
@@ -86,7 +84,7 @@ module _ (s : Table) (v : TermsView) (rs : List ℕ) (ts : List Term) (refer : R
         record {
           kept = h.kept;
           refer = h.refer;
-          is = rw (one_more s v rs ts refer i r below is) (once_again [] (take i ts) h.kept (item s v rs ts refer i) h.is (inr term_there));
+          is = rw (one_more s v rs ts refer i r below is) (repeated_last [] (take i ts) h.kept (item s v rs ts refer i) h.is term_there);
         }
 
     pub met_now : new ≡ true → (longer : List ℕ) → longer ≡ kept ++ r ∷ [] → AreOnceEach s v (take i ts) kept → AreOnceEach s v (take (i + 1) ts) longer
@@ -96,7 +94,7 @@ module _ (s : Table) (v : TermsView) (rs : List ℕ) (ts : List Term) (refer : R
           refer = refer_append s v kept (r ∷ []) h.kept (item s v rs ts refer i ∷ []) h.refer (refers, tt);
           is =
               rw (one_more s v rs ts refer i r below is)
-              (once_first [] (take i ts) h.kept (item s v rs ts refer i) h.is (contains_none (item s v rs ts refer i))
+              (new_last [] (take i ts) h.kept (item s v rs ts refer i) h.is
               (λ there. (met_first seen more r new met first).0
               (subst (λ (ks : List ℕ). Contains ks r) (sym same) (contains_references s v one kept h.kept r (item s v rs ts refer i) h.refer refers there))));
         })

@@ -4,7 +4,8 @@ use Rattle.sym_table.specs.Table.{Table}
 use Rattle.term_model.specs.declared.symbols.Op.{Op}
 use Rattle.term_model.specs.Terms.{Term, operation, no_terms, terms_of}
 use Rattle.term_pool.specs.Views.{TermsView, ReferToAll}
-use Rattle.rule_model.specs.Simplify.{AreOpposed, IsWithout, IsOnceEach, IsShortened, StandsAs, JoinsTo}
+use Rattle.rule_model.specs.Resolution.{LeavesWithout, IsFirstsOf}
+use Rattle.rule_model.specs.Simplify.{AreOpposed, IsShortened, StandsAs, JoinsTo}
 use Rattle.rules_simplify.specs.declared.joins.Junction.{Junction}
 
 -- the constant of an operator
@@ -15,12 +16,12 @@ constant op = operation op no_terms
 pub record AreWithout (s : Table) (v : TermsView) (left_out : Term) (ts : List Term) (references : List ℕ) : Type 0 where
   pub kept : List Term
   pub refer : ReferToAll s v references kept
-  pub is : IsWithout left_out ts kept
+  pub is : LeavesWithout left_out ts kept
 
 pub record AreOnceEach (s : Table) (v : TermsView) (ts : List Term) (references : List ℕ) : Type 0 where
   pub kept : List Term
   pub refer : ReferToAll s v references kept
-  pub is : IsOnceEach [] ts kept
+  pub is : IsFirstsOf [] ts kept
 
 -- the term is the absorbing constant, which the list has or comes to by two opposed items
 abbrev pub IsAbsorbed : Op → List Term → Term → Type 0

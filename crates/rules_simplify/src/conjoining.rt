@@ -39,7 +39,7 @@ fn is_conjoined(
         RefersTo symbols.now terms.old r u → IsTrue result ↔ (u ≡ conjoined t us) }
     ensures same { terms.new ≡ terms.old }
 {
-    let _leaves = symbols.count();
+    symbols.leaves_differ();
     terms.equal_exactly_where_terms_are();
     let mut rest = r;
     'others: while let Some(last) = pop(others) {
@@ -72,7 +72,7 @@ pub(crate) fn reaches_conjoined(
         IsTrue yes ↔ IsReached bool_simplify t u) }
     ensures same { terms.new ≡ terms.old }
 {
-    let _leaves = symbols.count();
+    symbols.leaves_differ();
     terms.equal_exactly_where_terms_are();
     terms.terms_at();
     let Some((premises, end)) = operands(symbols, terms, Op::Implies, right) else {

@@ -41,7 +41,7 @@ fn is_applied(
         IsTrue yes ↔ (t ≡ operation op (terms_of ts))) }
     ensures same { terms.new ≡ terms.old }
 {
-    let _leaves = symbols.count();
+    symbols.leaves_differ();
     terms.equal_exactly_where_terms_are();
     let mut arguments: Scratch = SmallVec::new(alloc);
     if !load_arguments(symbols, terms, op, Sign::Itself, right, &mut arguments)? {
@@ -65,7 +65,7 @@ fn stands_as(
         IsTrue yes ↔ StandsAs junction.op (constant junction.neutral) ts t) }
     ensures same { terms.new ≡ terms.old }
 {
-    let _leaves = symbols.count();
+    symbols.leaves_differ();
     terms.equal_exactly_where_terms_are();
     match list {
         [] => Ok(is_constant(symbols, terms, junction.neutral, right)),

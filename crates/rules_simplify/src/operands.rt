@@ -49,7 +49,7 @@ pub(crate) fn is_negation_of(
     ensures negation { (t u : Term) → RefersTo symbols.now terms.old negation t → RefersTo symbols.now terms.old r u → IsTrue result ↔ (t ≡ not_of u) }
     ensures same { terms.new ≡ terms.old }
 {
-    let _leaves = symbols.count();
+    symbols.leaves_differ();
     terms.equal_exactly_where_terms_are();
     let Some(inner) = under_not(symbols, terms, negation) else {
         return false;

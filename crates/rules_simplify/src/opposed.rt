@@ -63,7 +63,7 @@ fn meets_opposed(
     ensures opposed { IfOk result (λ yes. (ts : List Term) → ReferToAll symbols.now terms.old list.now ts → IsTrue yes ↔ AreOpposed ts) }
     ensures same { terms.new ≡ terms.old }
 {
-    let _leaves = symbols.count();
+    symbols.leaves_differ();
     terms.equal_exactly_where_terms_are();
     for item in list {
         let (bare, negated) = strip(symbols, terms, item.get());

@@ -207,7 +207,7 @@ fn open_by(
         RefersTo symbols.now terms.old r t → ¬ FitsRow of t)) }
     ensures same { terms.new ≡ terms.old }
 {
-    let _leaves = symbols.count();
+    symbols.leaves_differ();
     terms.equal_exactly_where_terms_are();
     at.op = row.op;
     load_arguments(symbols, terms, row.op, Sign::Itself, r, &mut at.arguments)
@@ -362,7 +362,7 @@ fn reaches(
         IsTrue yes ↔ IsReached (rows_of table) t u) }
     ensures same { terms.new ≡ terms.old }
 {
-    let _leaves = symbols.count();
+    symbols.leaves_differ();
     terms.equal_exactly_where_terms_are();
     terms.terms_at();
     let mut stack: Scratch = SmallVec::new(alloc);

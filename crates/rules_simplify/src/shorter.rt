@@ -82,7 +82,7 @@ fn push_once_each(
     ensures { OnOk result ((ts : List Term) → ReferToAll symbols.now terms.now list.now ts →
         AreOnceEach symbols.now terms.now ts kept.new.items) }
 {
-    let _leaves = symbols.count();
+    symbols.leaves_differ();
     terms.equal_exactly_where_terms_are();
     for item in list {
         if !meet(seen, item.get())? {

@@ -10,8 +10,7 @@ use Rattle.term_pool.specs.Views.{TermsView, RefersTo}
 use Rattle.rule_model.specs.declared.rules.Mode.{Mode}
 use Rattle.rule_model.specs.Subproof.{IsAssumeIn, AreLinkedTo, IsLetClosing}
 use Rattle.rule_model.specs.Proofs.{ProofItems}
-use Rattle.rule_model.specs.Reading.{rule_at, premises_at, scope_at, bindings_at}
-use Rattle.rule_model.specs.RuleNames.{is_assume}
+use Rattle.rule_model.specs.Reading.{rule_at, premises_at, scope_at, bindings_at, is_assume}
 use Rattle.term_pool.specs.Bindings.{IsBindingOf}
 use Rattle.term_model.proofs.Zips.{zip_length}
 use Rattle.rules_subproof.specs.Lets.{EquatesLet, BindsAs, clauses_at}

@@ -5,8 +5,7 @@ use Rattle.std.specs.List.{AllZip}
 use Rattle.term_model.specs.Terms.{Var, Term}
 use Rattle.rule_model.specs.Subproof.{IsAssumeIn, AllDischarged, negations, IsEnding, IsSubproof}
 use Rattle.rule_model.specs.Proofs.{ProofItems}
-use Rattle.rule_model.specs.Reading.{rule_at, clause_at, premises_at, discharged_at, scope_at, bindings_at, last_inside_at}
-use Rattle.rule_model.specs.RuleNames.{is_assume}
+use Rattle.rule_model.specs.Reading.{rule_at, clause_at, premises_at, discharged_at, scope_at, bindings_at, last_inside_at, is_assume}
 use Rattle.rules_subproof.specs.Fronts.{HasFront}
 
 -- lists in step are empty together

@@ -2,8 +2,7 @@
 
 ghost use Rattle.std.specs.Prelude.{◌≡◌, ◌≢◌, ◌↔◌, ◌<◌, ◌≤◌, ℕ, IfNone, IfSome, IsTrue, Contains, None, Some, true};
 ghost use Rattle.rule_model.specs.Subproof.{IsAssumeIn, AllDischarged};
-ghost use Rattle.rule_model.specs.Reading.{closes_at, rule_at, scope_at};
-ghost use Rattle.rule_model.specs.RuleNames.{is_assume};
+ghost use Rattle.rule_model.specs.Reading.{closes_at, rule_at, scope_at, is_assume};
 ghost use Rattle.rule_model.specs.Scopes.{commands_in};
 
 use proof_store::Proof;

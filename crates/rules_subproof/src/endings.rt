@@ -26,7 +26,7 @@ pub(crate) fn ends_with(
         IsTrue result ↔ IsEnding us (drop place ts) }
     ensures same { terms.new ≡ terms.old }
 {
-    let _leaves = symbols.count();
+    symbols.leaves_differ();
     terms.equal_exactly_where_terms_are();
     if !inner.is_empty() {
         return &literals[place..] == inner;

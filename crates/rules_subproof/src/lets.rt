@@ -47,7 +47,7 @@ fn let_sides(
 {
     terms_correspond();
     let _commands = proof.count();
-    let _leaves = symbols.count();
+    symbols.leaves_differ();
     terms.equal_exactly_where_terms_are();
     let Some(last) = proof.last_inside(scope) else {
         return None;
@@ -128,7 +128,7 @@ fn let_values(
         ¬ BindsAs bound bs u)) }
     ensures same { terms.new ≡ terms.old }
 {
-    let _leaves = symbols.count();
+    symbols.leaves_differ();
     let mut vars = Vec::new(alloc);
     let mut values = Vec::new(alloc);
     terms.bindings(term, &mut vars, &mut values)?;
@@ -160,7 +160,7 @@ pub(crate) fn is_let(
     commands_correspond();
     terms_correspond();
     let _commands = proof.count();
-    let _leaves = symbols.count();
+    symbols.leaves_differ();
     terms.equal_exactly_where_terms_are();
     let Some(scope) = proof.closes(i) else {
         return Ok(false);

@@ -54,7 +54,7 @@ pub(crate) fn are_differences(
         IsTrue result ↔ AreLinkedTo Mode.Strict (clauses_at of premises.now) ts (map (λ (b : Var × Term). b.1) bound) }
     ensures same { terms.new ≡ terms.old }
 {
-    let _leaves = symbols.count();
+    symbols.leaves_differ();
     terms.equal_exactly_where_terms_are();
     let mut used = 0;
     'values: for (place, value) in values.iter().enumerate() {

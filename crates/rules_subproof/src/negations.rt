@@ -24,7 +24,7 @@ fn is_negation(symbols: &Symbols, terms: &mut Terms<'_>, literal: Ref, term: Ref
     ensures negation { (t u : Term) → RefersTo symbols.now terms.old literal t → RefersTo symbols.now terms.old term u → IsTrue result ↔ (t ≡ not_of u) }
     ensures same { terms.new ≡ terms.old }
 {
-    let _leaves = symbols.count();
+    symbols.leaves_differ();
     terms.equal_exactly_where_terms_are();
     let Some(inner) = under_not(symbols, terms, literal) else {
         return false;

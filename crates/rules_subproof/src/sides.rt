@@ -50,7 +50,7 @@ fn add_premise(
         TellsSides symbols.now terms.old table.old.keys premises → TellsSides symbols.now terms.old table.new.keys (premises ++ c ∷ [])) }
     ensures same { terms.new ≡ terms.old }
 {
-    let _leaves = symbols.count();
+    symbols.leaves_differ();
     terms.equal_exactly_where_terms_are();
     let Some(sides) = unit_sides(symbols, terms, clause) else {
         return Ok(());

@@ -58,7 +58,7 @@ pub(crate) fn equates(
     ensures same { terms.new ≡ terms.old }
 {
     terms_correspond();
-    let _leaves = symbols.count();
+    symbols.leaves_differ();
     terms.equal_exactly_where_terms_are();
     let Some(sides) = unit_sides(symbols, terms, proof.clause(j)) else {
         return false;

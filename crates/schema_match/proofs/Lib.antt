@@ -12,3 +12,4 @@ pub mod InstanceLemmas
 pub mod StepLemmas
 pub mod OneInstance
 pub mod EquationLemmas
+pub mod StepTerms

@@ -17,7 +17,7 @@ pub fn over(symbols: &Symbols, terms: &mut Terms<'_>, op: Op, r: Ref) -> Option<
     ensures other { IfNone result ((t : Term) → RefersTo symbols.now terms.old r t → (n : ℕ) → ¬ IsOver op n t) }
     ensures same { terms.new ≡ terms.old }
 {
-    let _leaves = symbols.count();
+    symbols.leaves_differ();
     let Some(head) = terms.head(r) else {
         return None;
     };

@@ -39,7 +39,7 @@ fn step(
         (f : Letter → Term) → ¬ Reads f whole ts)) }
     ensures same { terms.new ≡ terms.old }
 {
-    let _leaves = symbols.count();
+    symbols.leaves_differ();
     terms.equal_exactly_where_terms_are();
     match part {
         Part::Any(letter) => Ok(letters.settle(letter, r)),

@@ -37,7 +37,7 @@ pub fn sort_of(symbols: &Symbols, terms: &mut Terms<'_>, r: Ref) -> Sort
     ensures keeps { KeepsTerms terms.old terms.new }
     ensures unchanged { IsUnchanged terms.old.pass terms.new.pass }
 {
-    let _leaves = symbols.count();
+    symbols.leaves_differ();
     terms.equal_exactly_where_terms_are();
     let mut at = r;
     let mut passed = 0u32;

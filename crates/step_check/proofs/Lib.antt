@@ -4,5 +4,4 @@ pub mod AssumeLemmas
 pub mod ListLemmas
 pub mod Growing
 pub mod AheadLemmas
-pub mod PremiseLemmas
 pub mod RatioLemmas

@@ -6,13 +6,15 @@ use Rattle.rule_model.specs.declared.kinds.Kind.{Kind}
 use Rattle.rule_model.specs.declared.rules.Rule.{Rule}
 use Rattle.rule_model.specs.declared.rules.StepCause.{StepCause}
 use Rattle.rule_model.specs.declared.statuses.Status.{Status}
+use Rattle.rule_model.specs.Conditions.{IsMetAt, IsTooWideAt}
 use Rattle.rule_model.specs.Proofs.{ProofItems}
 use Rattle.rule_model.specs.Reading.{rule_at, clause_at, scope_at}
 use Rattle.rule_model.specs.RuleNames.{kind_of}
 use Rattle.rule_model.specs.Statuses.{kind_under, kind_of_rule, IsAsserted, MayAssume, IsStatusBy, IsStatusAt}
+use Rattle.term_parts.specs.Judging.{Tells}
 use Rattle.term_parts.specs.declared.answers.Answer.{Answer}
 use Rattle.term_reader.specs.declared.flags.Flags.{Flags}
-use Rattle.step_check.specs.Statuses.{checking, mode_of, IsAnswerAt}
+use Rattle.step_check.specs.Statuses.{checking, mode_of}
 use Rattle.step_check.specs.Steps.{IsStatusOfAnswer}
 
 -- the kinds that flags leave as they are
@@ -55,7 +57,9 @@ module _ (flags : Flags) (ts : List Term) (proof : ProofItems Var Term) (i : ℕ
   conditional : (family : Family) → kind_of (rule_at proof i) ≡ Kind.Judged family → kind_of_rule (checking flags ts) (rule_at proof i) ≡ Kind.Judged family
   conditional family is = ap (kind_under flags.ignore_unknown) is
 
-  pub judged_status : (family : Family) (answer : Answer) (status : Status) → kind_of (rule_at proof i) ≡ Kind.Judged family → IsStatusOfAnswer answer status → IsAnswerAt (mode_of flags) proof i answer → IsStatusAt (checking flags ts) proof i status
+  pub judged_status : (family : Family) (answer : Answer) (status : Status) → kind_of (rule_at proof i) ≡ Kind.Judged family →
+      IsStatusOfAnswer answer status → Tells answer (IsTooWideAt (mode_of flags) proof i) (IsMetAt (mode_of flags) proof i) →
+      IsStatusAt (checking flags ts) proof i status
   judged_status family Answer.Met status judged is h =
       subst (IsStatusAt (checking flags ts) proof i) (sym is) (by_kind (Kind.Judged family) Status.Ok (conditional family judged) h)
   judged_status family Answer.NotMet status judged is h =

@@ -11,6 +11,7 @@ use Rattle.rule_model.specs.Proofs.{ProofItems}
 use Rattle.rule_model.specs.Statuses.{Checking, AreStatuses}
 use Rattle.rule_model.specs.declared.rules.Rule.{Rule}
 use Rattle.rule_model.specs.Reading.{rule_at}
+use Rattle.term_parts.specs.Judging.{Tells}
 use Rattle.term_parts.specs.declared.answers.Answer.{Answer}
 use Rattle.proof_store.specs.Meaning.{StandForItems}
 use Rattle.proof_contexts.specs.OpenAnchors.{IsAnchorImage}
@@ -30,16 +31,11 @@ checking flags assertions = record {
   assertions = assertions;
 }
 
--- the answer to the step at an index: its numbers are too wide, or else its condition is met or not
-abbrev pub IsAnswerAt : Mode → ProofItems Var Term → ℕ → Answer → Type 0
-IsAnswerAt mode proof i Answer.Met = (¬ IsTooWideAt mode proof i) × IsMetAt mode proof i
-IsAnswerAt mode proof i Answer.NotMet = (¬ IsTooWideAt mode proof i) × (¬ IsMetAt mode proof i)
-IsAnswerAt mode proof i Answer.TooWide = IsTooWideAt mode proof i
-
--- the same of the proof for which the references stand
+-- the answer to the step at an index of the proof for which the references stand: its numbers are too wide, or else its
+-- condition is met or not
 abbrev pub TellsMet : Mode → Table → TermsView → ProofItems ℕ ℕ → ℕ → Answer → Type 0
 TellsMet mode s v refs i answer =
-    (proof : ProofItems Var Term) → StandForItems s v refs proof → IsAnswerAt mode proof i answer
+    (proof : ProofItems Var Term) → StandForItems s v refs proof → Tells answer (IsTooWideAt mode proof i) (IsMetAt mode proof i)
 
 -- the references stand for assertions
 pub record AreAsserted (s : Table) (v : TermsView) (refs : List ℕ) : Type 0 where

@@ -1,43 +1,40 @@
 -- Private. What is said of one command: how its rule is judged, and its status, whatever it stands for.
-use Rattle.std.specs.Prelude.{◌≡◌, ◌↔◌, ◌<◌, ℕ, slice_index_or, List, All, Bool, true, false, IsTrue, ⊤}
+use Rattle.std.specs.Prelude.{◌≡◌, ◌↔◌, ◌<◌, ℕ, slice_index_or, List, All, Bool, IsTrue}
 use Rattle.std.specs.List.{AllZip}
 use Rattle.sym_table.specs.Table.{Table}
 use Rattle.term_model.specs.Terms.{Var, Term}
 use Rattle.term_pool.specs.Views.{TermsView, RefersTo, ReferToAll}
+use Rattle.term_parts.specs.Judging.{StandsForStep}
 use Rattle.term_parts.specs.declared.answers.Answer.{Answer}
-use Rattle.rule_model.specs.declared.kinds.Family.{Family}
+use Rattle.term_parts.specs.declared.steps.Step.{Step}
 use Rattle.rule_model.specs.declared.kinds.Kind.{Kind}
 use Rattle.rule_model.specs.declared.rules.Mode.{Mode}
 use Rattle.rule_model.specs.declared.rules.Rule.{Rule}
 use Rattle.rule_model.specs.declared.rules.StepCause.{StepCause}
 use Rattle.rule_model.specs.declared.statuses.Status.{Status}
-use Rattle.rule_model.specs.Conditions.{Met, IsTooWide}
-use Rattle.rule_model.specs.Judged.{Judged}
+use Rattle.rule_model.specs.Judged.{Judged, judged_at}
 use Rattle.rule_model.specs.Proofs.{ProofItems}
 use Rattle.rule_model.specs.Statuses.{kind_of_rule, IsAsserted, MayAssume, IsStatusAt}
-use Rattle.proof_store.specs.Meaning.{StandForItems}
+use Rattle.proof_store.specs.Meaning.{IsPivotOf, StandForItems}
+use Rattle.proof_store.specs.Ratios.{fractions}
 use Rattle.term_reader.specs.declared.flags.Flags.{Flags}
 use Rattle.step_check.specs.Statuses.{checking}
+use Rattle.step_check.specs.declared.families.Given.{Given}
+
+-- The step is what the one at an index of a proof looks at, by the proof over terms for which the references stand.
+abbrev pub IsStepAt : Mode → ProofItems ℕ ℕ → ℕ → Step → Type 0
+IsStepAt mode refs i step =
+    (s : Table) (v : TermsView) (proof : ProofItems Var Term) → StandForItems s v refs proof → StandsForStep s v step (judged_at mode proof i)
+
+-- the references stand for those of the step, and its pivots and coefficients are given
+pub record StandsForGiven (s : Table) (v : TermsView) (given : Given) (j : Judged) : Type 0 where
+  pub step : StandsForStep s v given.step j
+  pub pivots : AllZip (IsPivotOf s v) given.pivots.now j.pivots
+  pub ratios : j.ratios ≡ fractions given.ratios
 
 -- how the command of a rule is judged under flags, whatever is asserted
 abbrev pub IsKindOf : Flags → Rule → Kind → Type 0
 IsKindOf flags rule kind = (assertions : List Term) → kind ≡ kind_of_rule (checking flags assertions) rule
-
--- the families that look at a step's clauses and coefficients alone
-abbrev pub LooksAtClauses : Family → Type 0
-LooksAtClauses Family.Clausal = ⊤
-LooksAtClauses Family.Congruence = ⊤
-LooksAtClauses Family.Ite = ⊤
-LooksAtClauses Family.Simplify = ⊤
-LooksAtClauses Family.Arith = ⊤
-LooksAtClauses Family.Resolution = ⊥
-LooksAtClauses Family.Refl = ⊥
-LooksAtClauses Family.Subproof = ⊥
-
--- the answer by a test
-abbrev pub met_if : Bool → Answer
-met_if true = Answer.Met
-met_if false = Answer.NotMet
 
 -- the answer to whether all terms of a clause are assertions, in a mode
 abbrev pub TellAllAsserted : Mode → Table → TermsView → List ℕ → List ℕ → Bool → Type 0
@@ -56,12 +53,6 @@ abbrev pub TellsAssume : Flags → Table → TermsView → List ℕ → ProofIte
 TellsAssume flags s v asserted refs i told =
     (proof : ProofItems Var Term) (assertions : List Term) → StandForItems s v refs proof → ReferToAll s v asserted assertions →
     IsTrue told ↔ MayAssume (checking flags assertions) proof i
-
--- the answer to a step: its numbers are too wide, or else its condition is met or not
-abbrev pub IsAnswerTo : Judged → Answer → Type 0
-IsAnswerTo j Answer.Met = (¬ IsTooWide j) × Met j
-IsAnswerTo j Answer.NotMet = (¬ IsTooWide j) × (¬ Met j)
-IsAnswerTo j Answer.TooWide = IsTooWide j
 
 -- the status of the command at an index
 abbrev pub IsStatusOf : Flags → Table → TermsView → List ℕ → ProofItems ℕ ℕ → ℕ → Status → Type 0

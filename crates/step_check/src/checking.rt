@@ -62,7 +62,7 @@ fn add_all<'a>(
     ensures full { IfErr result (λ stop. stop ≡ RuleStop.PoolFull → LacksRoomForPlaced subject.now.symbols.now terms.old terms.new subject.now.proof.now) }
     ensures keeps { KeepsTerms terms.old terms.new }
 {
-    let _leaves = subject.symbols.count();
+    subject.symbols.leaves_differ();
     commands_correspond();
     proofs_stand_for_one();
     proofs_stay();

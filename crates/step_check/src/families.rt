@@ -1,78 +1,80 @@
-//! What a step comes to by the family of its rule, where this looks at the clauses of the step's premises and its own, and at
-//! its coefficients.
+//! What a step comes to by the family of its rule, where this looks at the step alone.
 
-ghost use Rattle.std.specs.Prelude.{◌≡◌, All, IfOk, IfSome};
+ghost use Rattle.std.specs.Prelude.{◌≡◌, ◌≢◌, All, IfOk, IfSome};
 ghost use Rattle.proof_store.specs.Ratios.{fractions};
+ghost use Rattle.rule_model.specs.declared.kinds.Family.TheVariants as Family;
 ghost use Rattle.rule_model.specs.declared.kinds.Kind.TheVariants as Kind;
-ghost use Rattle.rule_model.specs.Judged.{Judged};
 ghost use Rattle.rule_model.specs.RuleNames.{kind_of};
 ghost use Rattle.rule_model.specs.WellFormed.{IsLowest};
-ghost use Rattle.term_parts.specs.Judging.{StandForTruths, StandsForStep};
+ghost use Rattle.rules_resolution.specs.Steps.{AreShort};
+ghost use Rattle.term_parts.specs.Judging.{IsStepOf, TellsEach};
 ghost use Rattle.term_pool.specs.Views.{IsTerm};
-ghost use Rattle.step_check.specs.Steps.{IsAnswerTo, LooksAtClauses, met_if};
+ghost use Rattle.step_check.specs.Steps.{StandsForGiven};
 
 use pair_pool::{Memory, Ref};
-use proof_store::{Answer, Ratio};
-use rule_model::{Family, Mode, Rule};
+use proof_store::Ratio;
+use rule_model::Family;
 use std::alloc::Global;
 use sym_table::Symbols;
+use term_parts::{Answer, Step};
 use term_pool::Terms;
 
-/// What a step is judged by.
+/// A step with its pivots and its coefficients.
 #[derive(Clone, Copy)]
-pub(crate) struct Step<'a> {
-    pub(crate) mode: Mode,
-    pub(crate) rule: Rule,
-    pub(crate) premises: &'a [&'a [Ref]],
-    pub(crate) clause: &'a [Ref],
+pub(crate) struct Given<'a> {
+    pub(crate) step: Step<'a>,
+    pub(crate) pivots: &'a [(Ref, bool)],
     pub(crate) ratios: Option<&'a [Ratio]>,
 }
 
-/// Met or not met.
-fn answer_of(met: bool) -> Answer
-    ensures { result ≡ met_if met }
-{
-    if met { Answer::Met } else { Answer::NotMet }
+/// What families keep from step to step.
+#[derive(Drop)]
+pub(crate) struct Scratches {
+    pub(crate) alloc: Global,
+    pub(crate) resolution: rules_resolution::Scratch,
+    pub(crate) arithmetic: rules_arith::Scratch,
 }
 
 /// What a step comes to by its rule's family.
 pub(crate) fn judge(
-    arithmetic: &mut rules_arith::Scratch,
-    alloc: Global,
+    scratches: &mut Scratches,
     symbols: &Symbols,
     terms: &mut Terms<'_>,
     family: Family,
-    step: Step<'_>,
+    given: Given<'_>,
 ) -> Result<Answer, Memory>
-    requires family { kind_of step.rule ≡ Kind.Judged family }
-    requires looks { LooksAtClauses family }
-    requires premises { All (λ p. All (IsTerm symbols.now terms.old) p.now) step.premises.now }
-    requires clause { StandForTruths symbols.now terms.old step.clause.now }
-    requires lowest { IfSome (fractions step.ratios) (All IsLowest) }
-    ensures answer { IfOk result (λ answer. (j : Judged) →
-        StandsForStep symbols.now terms.old step.entry.mode step.entry.rule step.entry.premises.now step.entry.clause.now j →
-        j.ratios ≡ fractions step.entry.ratios → IsAnswerTo j answer) }
+    requires family { kind_of given.step.rule ≡ Kind.Judged family }
+    requires refl { family ≢ Family.Refl }
+    requires subproof { family ≢ Family.Subproof }
+    requires step { IsStepOf symbols.now terms.old given.step }
+    requires short { AreShort given.step.premises.now }
+    requires pivots { All (λ p. IsTerm symbols.now terms.old p.0) given.pivots.now }
+    requires lowest { IfSome (fractions given.ratios) (All IsLowest) }
+    ensures met { IfOk result (TellsEach (StandsForGiven symbols.now terms.old given.entry)) }
     ensures same { terms.new ≡ terms.old }
 {
-    let Step {
-        mode,
-        rule,
-        premises,
-        clause,
-        ratios,
-    } = step;
-    let met = match family {
-        Family::Clausal => rules_clausal::meets(alloc, symbols, terms, rule, premises, clause)?,
-        Family::Congruence => {
-            rules_congruence::meets(alloc, symbols, terms, mode, rule, premises, clause)?
-        }
-        Family::Ite => rules_ite::meets(alloc, symbols, terms, rule, premises, clause)?,
-        Family::Simplify => rules_simplify::meets(alloc, symbols, terms, rule, premises, clause)?,
+    let alloc = scratches.alloc;
+    let step = given.step;
+    match family {
+        Family::Clausal => rules_clausal::meets(alloc, symbols, terms, step),
+        Family::Congruence => rules_congruence::meets(alloc, symbols, terms, step),
+        Family::Ite => rules_ite::meets(alloc, symbols, terms, step),
+        Family::Simplify => rules_simplify::meets(alloc, symbols, terms, step),
         Family::Arith => {
-            return rules_arith::meets(arithmetic, symbols, terms, rule, ratios, premises, clause);
+            rules_arith::meets(
+                &mut scratches.arithmetic,
+                symbols,
+                terms,
+                step,
+                given.ratios,
+            )
         }
-        // these look at more than clauses
-        Family::Resolution | Family::Refl | Family::Subproof => false,
-    };
-    Ok(answer_of(met))
+        Family::Resolution => {
+            scratches
+                .resolution
+                .meets(symbols, terms, step, given.pivots)
+        }
+        // these look at a proof
+        Family::Refl | Family::Subproof => unreachable!(),
+    }
 }

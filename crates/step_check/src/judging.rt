@@ -1,6 +1,6 @@
 //! Whether the step at an index meets the condition of its rule.
 
-ghost use Rattle.std.specs.Prelude.{◌≡◌, ◌≢◌, ◌<◌, map, IfErr, IfOk, OnOk, None};
+ghost use Rattle.std.specs.Prelude.{◌≡◌, ◌≢◌, ◌<◌, map, IfErr, IfOk, None};
 ghost use Rattle.proof_store.specs.Checks.{KeepsTruthAt, StandForSome};
 ghost use Rattle.proof_store.specs.Meaning.{StandForItems};
 ghost use Rattle.rule_model.specs.declared.kinds.Family.TheVariants as Family;
@@ -12,20 +12,24 @@ ghost use Rattle.rule_model.specs.Reading.{clause_at, closes_at, premises_at, ru
 ghost use Rattle.rule_model.specs.RuleNames.{IsJudged, kind_of};
 ghost use Rattle.rule_model.specs.Scopes.{commands_in};
 ghost use Rattle.rules_resolution.specs.Steps.{IsShort};
+ghost use Rattle.sym_table.specs.Table.{Table};
 ghost use Rattle.term_model.specs.Terms.{Var, Term};
+ghost use Rattle.term_parts.specs.Judging.{ReferToClauses};
 ghost use Rattle.term_parts.specs.declared.answers.Answer.TheVariants as Answer;
 ghost use Rattle.term_parts.specs.declared.answers.RuleStop.TheVariants as RuleStop;
+ghost use Rattle.term_pool.specs.Views.{TermsView};
 ghost use Rattle.step_check.specs.Statuses.{TellsMet};
-ghost use Rattle.step_check.specs.Steps.{LooksAtClauses};
+ghost use Rattle.step_check.specs.Steps.{IsStepAt};
 
-use crate::families::{Step, judge};
+use crate::families::{Given, Scratches, judge};
 use pair_pool::{Memory, Ref};
-use proof_store::{Answer, Proof, RuleStop, commands_correspond, terms_correspond};
+use proof_store::{Proof, commands_correspond, premise_clauses, terms_correspond};
 use rule_model::laws::conditions::conditions_keep_truth;
 use rule_model::{Family, Kind, Mode};
-use rules_resolution::Scratch;
+use rules_resolution::premises_are_short;
 use std::alloc::Global;
 use sym_table::Symbols;
+use term_parts::{Answer, RuleStop, Step};
 use term_pool::Terms;
 
 /// A step of a proof, by its index, and the mode in which it is judged.
@@ -39,42 +43,52 @@ pub(crate) struct At<'a> {
 /// What the rules keep from step to step, but refl.
 #[derive(Drop)]
 pub(crate) struct Rules<'a> {
-    alloc: Global,
-    resolution: Scratch,
-    arithmetic: rules_arith::Scratch,
+    scratches: Scratches,
     /// The clauses of the premises of the step that was judged last.
-    premises: Vec<&'a [Ref]>,
+    pub(crate) premises: Vec<&'a [Ref]>,
 }
 
 impl<'a> Rules<'a> {
     /// Nothing is kept. Takes no memory.
     pub(crate) fn new(alloc: Global) -> Rules<'a> {
         Rules {
-            alloc,
-            resolution: Scratch::new(alloc),
-            arithmetic: rules_arith::Scratch::new(alloc),
+            scratches: Scratches {
+                alloc,
+                resolution: rules_resolution::Scratch::new(alloc),
+                arithmetic: rules_arith::Scratch::new(alloc),
+            },
             premises: Vec::new(alloc),
         }
     }
 }
 
-/// Takes the clauses of the premises of the step at an index, in order, in place of what is in the list.
-fn take_premises<'a>(proof: &'a Proof, i: u32, list: &mut Vec<&'a [Ref]>) -> Result<(), Memory>
-    requires { i < commands_in proof.now }
-    ensures { OnOk result (map (λ p. p.now) list.new.items ≡ map (clause_at proof.now) (premises_at proof.now i)) }
+/// What the step at an index judges, with the clauses of its premises.
+pub(crate) fn step_at<'a>(
+    proof: &'a Proof,
+    i: u32,
+    mode: Mode,
+    premises: &'a [&'a [Ref]],
+) -> Step<'a>
+    requires index { i < commands_in proof.now }
+    requires premises { (s : Table) (v : TermsView) (of : ProofItems Var Term) → StandForItems s v proof.now of →
+        ReferToClauses s v premises.now (map (clause_at of) (premises_at of i)) }
+    ensures stands { IsStepAt mode proof.now i result }
+    ensures rule { result.rule ≡ rule_at proof.now i }
+    ensures given { result.premises.now ≡ premises.now }
 {
-    let _commands = proof.count();
-    list.clear();
-    let premises = proof.premises(i);
-    'premises: for premise in premises {
-        list.push(proof.clause(*premise))?;
+    commands_correspond();
+    terms_correspond();
+    Step {
+        mode,
+        rule: proof.rule(i),
+        premises,
+        clause: proof.clause(i),
     }
-    Ok(())
 }
 
-/// The answer to the step at an index, whose rule is of a family that looks at clauses alone. One that closes a scope meets
+/// The answer to the step at an index, whose rule is of a family that looks at the step alone. One that closes a scope meets
 /// no such rule.
-fn answer_by_clauses<'a>(
+fn answer_by_step<'a>(
     at: &At<'a>,
     family: Family,
     rules: &mut Rules<'a>,
@@ -83,36 +97,30 @@ fn answer_by_clauses<'a>(
 ) -> Result<Answer, Memory>
     requires index { at.now.i < commands_in at.now.proof.now }
     requires family { kind_of (rule_at at.now.proof.now at.now.i) ≡ Kind.Judged family }
-    requires looks { LooksAtClauses family }
+    requires refl { family ≢ Family.Refl }
+    requires subproof { family ≢ Family.Subproof }
     requires stand { StandForSome symbols.now terms.old at.now.proof.now }
+    requires short { IsShort at.now.proof.now }
     requires sorted { (of : ProofItems Var Term) → StandForItems symbols.now terms.old at.now.proof.now of → IsClauseOfTruths (clause_at of at.now.i) }
     ensures met { IfOk result (TellsMet at.now.mode symbols.now terms.old at.now.proof.now at.now.i) }
     ensures same { terms.new ≡ terms.old }
 {
     commands_correspond();
     terms_correspond();
+    premises_are_short();
     let proof = at.proof;
     let i = at.i;
     let _commands = proof.count();
     if proof.closes(i).is_some() {
         return Ok(Answer::NotMet);
     }
-    take_premises(proof, i, &mut rules.premises)?;
-    let step = Step {
-        mode: at.mode,
-        rule: proof.rule(i),
-        premises: &rules.premises,
-        clause: proof.clause(i),
+    premise_clauses(proof, i, &mut rules.premises)?;
+    let given = Given {
+        step: step_at(proof, i, at.mode, &rules.premises),
+        pivots: proof.pivots(i),
         ratios: proof.ratios(i),
     };
-    judge(
-        &mut rules.arithmetic,
-        rules.alloc,
-        symbols,
-        terms,
-        family,
-        step,
-    )
+    judge(&mut rules.scratches, symbols, terms, family, given)
 }
 
 /// The answer to the step at an index, whose rule is of a family, but refl.
@@ -133,21 +141,19 @@ pub(crate) fn answer_at<'a>(
     ensures stop { IfErr result (λ stop. stop ≡ RuleStop.Memory) }
     ensures same { terms.new ≡ terms.old }
 {
-    commands_correspond();
     match family {
-        Family::Resolution => rules
-            .resolution
-            .check(at.proof, at.i, at.mode, symbols, terms),
-        Family::Subproof => rules_subproof::check(
-            rules.alloc,
-            at.proof,
-            at.i,
-            at.mode,
-            symbols,
-            terms,
-        ),
-        _ => {
-            let answer = answer_by_clauses(at, family, rules, symbols, terms)?;
+        Family::Subproof => {
+            let alloc = rules.scratches.alloc;
+            rules_subproof::check(alloc, at.proof, at.i, at.mode, symbols, terms)
+        }
+        Family::Refl => unreachable!(),
+        Family::Clausal
+        | Family::Congruence
+        | Family::Ite
+        | Family::Simplify
+        | Family::Arith
+        | Family::Resolution => {
+            let answer = answer_by_step(at, family, rules, symbols, terms)?;
             Ok(answer)
         }
     }
@@ -185,6 +191,6 @@ pub fn check(
     let mut rules = Rules::new(alloc);
     match proof.rule(i).kind() {
         Kind::Judged(family) => answer_at(&at, family, &mut rules, symbols, terms),
-        _ => Ok(Answer::NotMet),
+        Kind::Assumed | Kind::Unknown | Kind::Hole => unreachable!(),
     }
 }

@@ -2,7 +2,7 @@
 //!
 //! - `checking`: all commands in file order, and `steps`: one command.
 //! - `kinds`: what flags ask for: the mode, and how the command of a rule is judged.
-//! - `judging`: the step at an index, and `families`: by the crate that has its rule's family.
+//! - `judging`: the step at an index, and `families`: by the crate of its rule's family, where this looks at the step alone.
 //! - `looking_ahead`: cells that are looked at before they are needed.
 //! - `assumes`: the assertions of the problem, and whether a term is one of them.
 #![tactic(auto)]
@@ -17,4 +17,5 @@ mod steps;
 
 pub use checking::statuses;
 pub use judging::check;
-pub use proof_store::{Answer, RuleStop, Status};
+pub use proof_store::Status;
+pub use term_parts::{Answer, RuleStop};

@@ -21,14 +21,15 @@ ghost use Rattle.step_check.specs.Statuses.{LacksRoomForPlaced, PlacesOnly, Tell
 ghost use Rattle.step_check.specs.Steps.{IsStatusOf, IsStatusOfAnswer, TellsAssume};
 
 use crate::assumes::are_asserted;
-use crate::judging::{At, Rules, answer_at};
+use crate::judging::{At, Rules, answer_at, step_at};
 use crate::kinds::{kind_of, mode_of};
 use crate::looking_ahead::Ahead;
 use flip_keys::{Assertions, keys_stay};
-use pair_pool::Memory;
-use proof_contexts::{OpenScopes, commands_stand_in_scopes};
+use pair_pool::{Memory, Ref};
+use proof_contexts::{OpenScopes, anchors_are_those_of_scopes, commands_stand_in_scopes};
 use proof_store::{
-    Answer, Proof, RuleStop, Status, commands_correspond, proofs_stay, terms_correspond,
+    Answer, Proof, RuleStop, Status, commands_correspond, premise_clauses, proofs_stay,
+    terms_correspond,
 };
 use rule_model::{Family, Kind, StepCause};
 use rules_refl::refused;
@@ -145,16 +146,20 @@ fn status_of_step<'a>(
     Ok(status_of(answer))
 }
 
-/// The answer to the step at an index, whose rule is refl. The scope to which it belongs is entered first.
-fn answer_of_refl(
-    subject: &Subject<'_>,
+/// The answer to the step at an index, whose rule is refl. The scope to which it belongs is entered first. One that closes a
+/// scope does not meet it.
+fn answer_of_refl<'a>(
+    subject: &Subject<'a>,
     i: u32,
+    premises: &mut Vec<&'a [Ref]>,
     scopes: &mut OpenScopes,
     terms: &mut Terms<'_>,
 ) -> Result<Answer, RuleStop>
     requires index { i < commands_in subject.now.proof.now }
     requires refl { rule_at subject.now.proof.now i ≡ Rule.Refl }
     requires kept { AreKept subject.now.symbols.now terms.old subject.now.proof.now scopes.old }
+    requires sorted { (of : ProofItems Var Term) → StandForItems subject.now.symbols.now terms.old subject.now.proof.now of →
+        IsClauseOfTruths (clause_at of i) }
     ensures met { IfOk result (TellsMet (mode_of subject.now.flags) subject.now.symbols.now terms.old subject.now.proof.now i) }
     ensures placed { PlacesOnly subject.now.symbols.now terms.old terms.new subject.now.proof.now }
     ensures full { IfErr result (λ stop. stop ≡ RuleStop.PoolFull → LacksRoomForPlaced subject.now.symbols.now terms.old terms.new subject.now.proof.now) }
@@ -163,26 +168,35 @@ fn answer_of_refl(
 {
     commands_stand_in_scopes();
     commands_correspond();
+    anchors_are_those_of_scopes();
     proofs_stay();
     let proof = subject.proof;
     let symbols = subject.symbols;
+    if proof.closes(i).is_some() {
+        return Ok(Answer::NotMet);
+    }
+    premise_clauses(proof, i, premises)?;
     let scope = proof.scope_of(i);
     if let Err(stop) = scopes.enter(proof, scope, symbols, terms) {
         return Err(refused(stop));
     }
-    rules_refl::check(proof, i, mode_of(subject.flags), symbols, terms, scopes)
+    let step = step_at(proof, i, mode_of(subject.flags), premises);
+    rules_refl::meets(scopes, proof, symbols, terms, step)
 }
 
 /// The status of the step at an index, whose rule is refl.
-fn status_of_refl(
-    subject: &Subject<'_>,
+fn status_of_refl<'a>(
+    subject: &Subject<'a>,
     i: u32,
+    premises: &mut Vec<&'a [Ref]>,
     scopes: &mut OpenScopes,
     terms: &mut Terms<'_>,
 ) -> Result<Status, RuleStop>
     requires index { i < commands_in subject.now.proof.now }
     requires refl { rule_at subject.now.proof.now i ≡ Rule.Refl }
     requires kept { AreKept subject.now.symbols.now terms.old subject.now.proof.now scopes.old }
+    requires sorted { (of : ProofItems Var Term) → StandForItems subject.now.symbols.now terms.old subject.now.proof.now of →
+        IsClauseOfTruths (clause_at of i) }
     ensures status { (asserted : List ℕ) →
         IfOk result (λ status. IsStatusOf subject.now.flags subject.now.symbols.now terms.old asserted subject.now.proof.now i status) }
     ensures placed { PlacesOnly subject.now.symbols.now terms.old terms.new subject.now.proof.now }
@@ -191,7 +205,7 @@ fn status_of_refl(
     ensures kept { AreKept subject.now.symbols.now terms.new subject.now.proof.now scopes.new }
 {
     commands_correspond();
-    match answer_of_refl(subject, i, scopes, terms) {
+    match answer_of_refl(subject, i, premises, scopes, terms) {
         Ok(answer) => Ok(status_of(answer)),
         Err(stop) => Err(stop),
     }
@@ -225,7 +239,15 @@ fn status_of_command<'a>(
         Kind::Assumed => Ok(status_of_assume(&mut kept.asserted, subject, i, terms)?),
         Kind::Hole => Ok(Status::Hole),
         Kind::Unknown => Ok(Status::Faulty(StepCause::UnknownRule)),
-        Kind::Judged(Family::Refl) => status_of_refl(subject, i, &mut kept.scopes, terms),
+        Kind::Judged(Family::Refl) => {
+            status_of_refl(
+                subject,
+                i,
+                &mut kept.rules.premises,
+                &mut kept.scopes,
+                terms,
+            )
+        }
         Kind::Judged(family) => status_of_step(subject, family, i, &mut kept.rules, terms),
     }
 }

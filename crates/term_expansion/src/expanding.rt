@@ -117,7 +117,7 @@ fn let_work(
     ensures needs { OnOk result (AreNeeds (both symbols.now terms.old) needs.new.leaves) }
     ensures same { terms.new ≡ terms.old }
 {
-    let _leaves = symbols.count();
+    symbols.leaves_differ();
     let parts = term_parts::let_parts(alloc, terms, r)?;
     let inside = needs_of(symbols, terms, needs, most - 1, parts.body)?;
     terms.equal_exactly_where_terms_are();
@@ -148,7 +148,7 @@ pub(crate) fn expand(
     ensures expansion { OnOk result (IsExpansion (both symbols.now terms.new) expansion.new) }
     ensures keeps { KeepsTerms terms.old terms.new }
 {
-    let _leaves = symbols.count();
+    symbols.leaves_differ();
     if r.is_leaf() {
         terms.one_to_one();
         let _leaf = Ref::leaf(r.number());
@@ -186,7 +186,7 @@ fn expand_anew(
     ensures expansion { OnOk result (IsExpansion (both symbols.now terms.new) expansion.new) }
     ensures keeps { KeepsTerms terms.old terms.new }
 {
-    let _leaves = symbols.count();
+    symbols.leaves_differ();
     match term_parts::head_of(terms, r) {
         Some(head) => expand_application(symbols, terms, expansion, most, r, head),
         None => expand_let(symbols, terms, expansion, most, r),
@@ -215,7 +215,7 @@ fn expand_application(
     ensures expansion { OnOk result (IsExpansion (both symbols.now terms.new) expansion.new) }
     ensures keeps { KeepsTerms terms.old terms.new }
 {
-    let _leaves = symbols.count();
+    symbols.leaves_differ();
     trees_are_built_of_parts();
     trees_of_terms();
     let list = term_parts::arguments_of(expansion.alloc, terms, r)?;
@@ -244,7 +244,7 @@ fn expand_let(
     ensures expansion { OnOk result (IsExpansion (both symbols.now terms.new) expansion.new) }
     ensures keeps { KeepsTerms terms.old terms.new }
 {
-    let _leaves = symbols.count();
+    symbols.leaves_differ();
     let below = most - 1;
     let work = let_work(
         expansion.alloc,

@@ -112,7 +112,7 @@ fn needs_anew(
     ensures needs { OnOk result (AreNeeds (both symbols.now terms.old) needs.new.leaves) }
     ensures same { terms.new ≡ terms.old }
 {
-    let _leaves = symbols.count();
+    symbols.leaves_differ();
     let Some(head) = term_parts::head_of(terms, r) else {
         return needs_of_let(symbols, terms, needs, most, r, found);
     };
@@ -139,7 +139,7 @@ fn add_needs_of(
     ensures needs { OnOk result (AreNeeds (both symbols.now terms.old) needs.new.leaves) }
     ensures same { terms.new ≡ terms.old }
 {
-    let _leaves = symbols.count();
+    symbols.leaves_differ();
     terms.equal_exactly_where_terms_are();
     let leaves = needs_of(symbols, terms, needs, most, r)?;
     add_all(&leaves, found)
@@ -188,7 +188,7 @@ fn needs_of_let(
     ensures needs { OnOk result (AreNeeds (both symbols.now terms.old) needs.new.leaves) }
     ensures same { terms.new ≡ terms.old }
 {
-    let _leaves = symbols.count();
+    symbols.leaves_differ();
     let below = most - 1;
     terms.equal_exactly_where_terms_are();
     let parts = term_parts::let_parts(needs.alloc, terms, r)?;

@@ -101,7 +101,7 @@ fn put_in_expanded(
         IfErr result (λ e. e ≡ TermStop.PoolFull → LacksRoomFor symbols.now terms.new.pass (replaced q t.tree)) }
     ensures keeps { KeepsTerms terms.old terms.new }
 {
-    let _leaves = symbols.count();
+    symbols.leaves_differ();
     let mut expansion = begin(alloc, replacement)?;
     let term = expand(symbols, terms, &mut expansion, what.height, what.term)?;
     let height = height_of(alloc, terms, term)?;

@@ -74,7 +74,7 @@ pub fn put_in_plain(
         IfErr result (λ e. e ≡ TermStop.PoolFull → LacksRoomFor symbols.now terms.new.pass (replaced q t.tree)) }
     ensures keeps { KeepsTerms terms.old terms.new }
 {
-    let _leaves = symbols.count();
+    symbols.leaves_differ();
     if replacement.is_empty() {
         return Ok(what);
     }

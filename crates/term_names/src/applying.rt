@@ -79,7 +79,7 @@ fn apply_symbol(
         Makes terms.old (both symbols.now terms.new) (meaning_applied m ts) result }
     ensures keeps { KeepsTerms terms.old terms.new }
 {
-    let _leaves = symbols.count();
+    symbols.leaves_differ();
     let Some(sort) = check_app(symbols, leaf, values.sorts_from(from)) else {
         return Ok(None);
     };

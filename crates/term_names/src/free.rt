@@ -55,7 +55,7 @@ fn leaves_of_named<'b>(tables: &NameTables<'b, '_>, terms: &Terms<'_>, r: Ref) -
         symbols,
         names,
     } = *tables;
-    let _leaves = symbols.count();
+    symbols.leaves_differ();
     terms.equal_exactly_where_terms_are();
     let name = names.name_given(settings, r)?;
     let KnownEntry::Named(which) = names.entry(settings, name)? else {
@@ -234,7 +234,7 @@ pub fn free_leaves(
         symbols,
         ..
     } = *tables;
-    let _leaves = symbols.count();
+    symbols.leaves_differ();
     if !symbols.may_have_variables() {
         return Ok(Vec::new(settings.alloc));
     }

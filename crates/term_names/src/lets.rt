@@ -84,7 +84,7 @@ fn bind_one(
     ensures inner { OnOk result ((e : Scoped) × (names.new.scope ≡ e ∷ names.old.scope)) }
     ensures own { names.new.own ≡ names.old.own }
 {
-    let _leaves = symbols.count();
+    symbols.leaves_differ();
     let value = if replaces_lets {
         value
     } else {
@@ -152,7 +152,7 @@ pub fn close(
         values,
         from,
     } = *variables;
-    let _leaves = symbols.count();
+    symbols.leaves_differ();
     trees_are_built_of_parts();
     let height = 1 + values.highest_from(from).max(body.height);
     let term = terms.let_term(leaves, values.terms_from(from), body.term)?;

@@ -116,6 +116,7 @@ fn is_bound_here(symbols: &Symbols, names: &Names, leaf: u32) -> bool
     ensures { (v : TermsView) (p : Place) (x : Var) → IsScope (both symbols.now v) names.now.scope p.scope → IsLeaf symbols.now leaf (variable_leaf x) →
         result ≡ is_bound p.scope x }
 {
+    symbols.leaves_differ();
     if leaf >= symbols.count() {
         return false;
     }

@@ -81,7 +81,7 @@ fn symbol_alone(symbols: &Symbols, leaf: u32) -> Option<Value>
     requires { (m : Meaning) × IsSymbolOf symbols.now leaf m }
     ensures { (v : TermsView) (m : Meaning) → IsSymbolOf symbols.now leaf m → IsMade (both symbols.now v) (meaning_applied m []) (Ok result) }
 {
-    let _leaves = symbols.count();
+    symbols.leaves_differ();
     let sort = check_app(symbols, leaf, &[])?;
     Some(Value {
         term: Ref::leaf(leaf),

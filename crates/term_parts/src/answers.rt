@@ -1,5 +1,8 @@
 //! What is said of a step by its rule.
 
+ghost use Rattle.std.specs.Prelude.{◌≡◌};
+ghost use Rattle.term_parts.specs.Judging.{met_if};
+
 use pair_pool::{Memory, PoolFull};
 
 /// Whether a step meets its rule's condition.
@@ -9,6 +12,13 @@ pub enum Answer {
     NotMet,
     /// The weight of the step's numbers is over 2^127 - 1.
     TooWide,
+}
+
+/// Met or not met.
+pub fn answer_of(met: bool) -> Answer
+    ensures { result ≡ met_if met }
+{
+    if met { Answer::Met } else { Answer::NotMet }
 }
 
 /// Why a step was not judged.

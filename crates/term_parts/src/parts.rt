@@ -18,7 +18,7 @@ pub fn is_over(symbols: &Symbols, terms: &mut Terms<'_>, op: Op, count: u32, r: 
     ensures over { (t : Term) → RefersTo symbols.now terms.old r t → IsTrue result ↔ IsOver op count t }
     ensures same { terms.new ≡ terms.old }
 {
-    let _leaves = symbols.count();
+    symbols.leaves_differ();
     let Some(head) = terms.head(r) else {
         return false;
     };

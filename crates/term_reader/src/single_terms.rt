@@ -233,7 +233,7 @@ fn enter_variable(symbols: &Symbols, names: &mut Names, leaf: u32) -> Result<(),
     ensures own { names.new.own ≡ names.old.own }
 {
     // A table has few leaves, so the leaf is a reference too.
-    let _leaves = symbols.count();
+    symbols.leaves_differ();
     let Kind::Var(sort) = symbols.kind(leaf) else {
         unreachable!()
     };

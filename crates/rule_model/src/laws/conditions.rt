@@ -1,7 +1,7 @@
 //! What the conditions of rules mean.
 
 ghost use Rattle.std.specs.Prelude.{◌≡◌, ◌↔◌};
-ghost use Rattle.rule_model.specs.Clausal.{MeetsClausal};
+ghost use Rattle.rule_model.specs.RuleSchemas.{MeetsClausal};
 ghost use Rattle.rule_model.specs.Conditions.{AlwaysKeepsTruth, Met};
 ghost use Rattle.rule_model.specs.Judged.{Judged};
 ghost use Rattle.rule_model.specs.RuleNames.{kind_of};

@@ -4,25 +4,25 @@ use Rattle.std.proofs.lemmas.Slice.Zip.{AllZip-long}
 use Rattle.term_pool.specs.Views.{RefersTo}
 use Rattle.rule_model.specs.Proofs.{ProofItems}
 use Rattle.rule_model.specs.Reading.{clause_at}
-use Rattle.alethe_text.specs.States.{ProofSettings}
+use Rattle.alethe_text.specs.States.{ProofSettings, limited_proof}
 use Rattle.alethe_reader.specs.Reading.{IsProofOf}
 use Rattle.carcara.proofs.resolution_tests.answer_behind.Goals as goal
 
 -- the lets of the proof are kept, and the arguments of resolution are not asked for
 abbrev settings : ProofSettings
-settings = record { replaces_lets = false; is_strict = false }
+settings = limited_proof false false
 
 -- what is said of the proof of an outcome, where the outcome is this proof
 of_outcome : {E : Type 0} (P : ProofItems ℕ ℕ → Type 0) (outcome : Result (ProofItems ℕ ℕ) E) (refs : ProofItems ℕ ℕ) → outcome ≡ Ok refs → IfOk outcome P → P refs
 of_outcome P outcome refs is h = subst (λ o. IfOk o P) is h
 
-pub propagate-requires-clause-terms : goal.propagate-requires-clause-terms
-propagate-requires-clause-terms c =
+pub propagate-requires-clause-stand : goal.propagate-requires-clause-stand
+propagate-requires-clause-stand c =
     let before = c.requires.problem in
     let s = c.read_proof.new.symbols in
     let v = c.read_proof.new.terms in
     let read = of_outcome (IsProofOf c.args.text.now settings before.0 s v) _ c.in-Ok.proof c.in-Ok.is (c.read_proof.ensures.proof before.0 before.1) in
-    (read.proof, read.refer)
+    record { proof = read.proof; stand = read.refer }
 
 pub propagate-requires-clause-short : goal.propagate-requires-clause-short
 propagate-requires-clause-short c =

@@ -42,7 +42,7 @@ judge_commands-requires-clause-sorted c = λ of i stands.
     let sound = c.scripts_are_well_sorted.ensures texts.problem.now texts.options.replaces_lets script c.requires.read.problem_text in
     let scoped = c.scripts_are_closed.ensures texts.problem.now texts.options.replaces_lets script c.requires.read.problem_text in
     let sorted = c.proofs_have_scoped_terms.ensures texts.proof.now (settings_of texts.options) script read.proof read.after sound scoped read.stands in
-    let same : of ≡ read.proof = c.proofs_stand_for_one.ensures.one _ _ c.args.proof.now of read.proof c.count-leaves.ensures.table c.one_to_one.ensures stands read.refer in
+    let same : of ≡ read.proof = c.proofs_stand_for_one.ensures.one _ _ c.args.proof.now of read.proof c.leaves_differ.ensures.table c.one_to_one.ensures stands read.refer in
     subst (λ p. IsClauseOfTruths (clause_at p i)) (sym same) (clauses_of_truths read.proof i sorted)
 
 pub returns-in-Ok : goal.returns-in-Ok

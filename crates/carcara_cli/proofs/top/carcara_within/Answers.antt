@@ -11,8 +11,8 @@ returns-in-Ok-clause-printed g c = record {
   whole = λ no_fault no_want.
       let whole = c.report.ensures.whole no_fault no_want in
       record { answer = c.in-Ok.answer; may_answer = c.in-Ok.ensures; is_status = whole.0; printed = whole.1 };
-  write_fault = λ six. record { answer = c.in-Ok.answer; may_answer = c.in-Ok.ensures; printed = c.report.ensures.front (inl six) };
-  memory = λ seven. inl (record { answer = c.in-Ok.answer; may_answer = c.in-Ok.ensures; printed = c.report.ensures.front (inr seven) });
+  write_fault = λ six. record { answer = c.in-Ok.answer; may_answer = c.in-Ok.ensures; printed = c.report.ensures.prefix (inl six) };
+  memory = λ seven. inl (record { answer = c.in-Ok.answer; may_answer = c.in-Ok.ensures; printed = c.report.ensures.prefix (inr seven) });
 }
 
 pub returns-in-Ok-clause-unsatisfiable : goal.returns-in-Ok-clause-unsatisfiable

@@ -1,5 +1,6 @@
 use Rattle.std.proofs.Common.{◌↔◌, List, drop}
-use Rattle.clause_chain.specs.Chaining.{Joins, clauses_in}
+use Rattle.rule_model.specs.Resolution.{Joins}
+use Rattle.clause_chain.specs.Chaining.{clauses_in}
 use Rattle.clause_chain.specs.declared.signed_term.SignedTerm.{SignedTerm}
 use Rattle.clause_chain.proofs.following.goes_through.Given as goal
 

@@ -10,4 +10,4 @@ numeral-requires c =
 pub negated_numeral-requires : goal.negated_numeral-requires
 negated_numeral-requires c =
     let fits : FitsSigned mir.Syntax.w128 c.in-Some.n = search rules in
-    rw (to_z-of_z _ _ fits) (numeral_fits c.args.symbols.now c.count-leaves.ensures.table c.in-One.first c.in-Some.n c.in-Some.ensures.1 fits)
+    rw (to_z-of_z _ _ fits) (numeral_fits c.args.symbols.now c.leaves_differ.ensures.table c.in-One.first c.in-Some.n c.in-Some.ensures.1 fits)

@@ -7,6 +7,6 @@ returns-in-List-clause-visit c =
     rw c.in-List.is
     (IfOk-weaker c.visit_list.result _ _
     (λ visit h.
-    list_visited c.args.symbols.now c.args.terms.now c.visit_list.new.graph c.count-leaves.ensures.table c.one_to_one.ensures c.parts_of_trees.ensures
+    list_visited c.args.symbols.now c.args.terms.now c.visit_list.new.graph c.leaves_differ.ensures.table c.one_to_one.ensures c.parts_of_trees.ensures
     c.in-List.r c.requires.item.terms visit (rw c.in-List.is at c.requires.item.meant) h)
     c.visit_list.ensures.visit)

@@ -26,7 +26,7 @@ returns-then-not-is_of_numbers-clause-read c t refers =
     let p = c.operands-a.result in
     let are : AreOperands s v c.in-Some.op p t = (rw c.binary_operator.ensures.same at c.operands-a.ensures.operands) t refers in
     let back = sym (c.operands-a.ensures.same ∙ c.binary_operator.ensures.same) in
-    let sorted = same_sorted s v c.args.r t (c.equal_exactly_where_terms_are.ensures s c.count-leaves.ensures.table) c.requires refers in
+    let sorted = same_sorted s v c.args.r t (c.equal_exactly_where_terms_are.ensures s c.leaves_differ.ensures.table) c.requires refers in
     found_others s v c.in-Some.op p t are c.args.truth
     (λ first. false≢true ((c.if-not-is_of_numbers.ensures.number are.first are.second (subst (λ w. RefersTo s w p.0 are.first) back are.first_refers) (subst IsWellSorted are.is sorted)).1 first))
 
@@ -37,6 +37,6 @@ returns-clause-read c t refers =
     let p = c.operands-a.result in
     let are : AreOperands s v c.in-Some.op p t = (rw c.binary_operator.ensures.same at c.operands-a.ensures.operands) t refers in
     let back = sym (c.operands-a.ensures.same ∙ c.binary_operator.ensures.same) in
-    let sorted = same_sorted s v c.args.r t (c.equal_exactly_where_terms_are.ensures s c.count-leaves.ensures.table) c.requires refers in
+    let sorted = same_sorted s v c.args.r t (c.equal_exactly_where_terms_are.ensures s c.leaves_differ.ensures.table) c.requires refers in
     found_numbers s v c.in-Some.op p t are c.args.truth c.in-Some-said.comparison (c.in-Some-said.ensures s v are.first are.second are.first_refers are.second_refers) sorted
     ((c.is_of_numbers.ensures.number are.first are.second (subst (λ w. RefersTo s w p.0 are.first) back are.first_refers) (subst IsWellSorted are.is sorted)).0 c.if-not-is_of_numbers.false)

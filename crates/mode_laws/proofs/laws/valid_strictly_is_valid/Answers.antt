@@ -1,14 +1,13 @@
 -- Private.
 use Rattle.std.proofs.Common.{sym}
 use Rattle.rule_model.specs.declared.statuses.Verdict.{Verdict}
-use Rattle.step_check.specs.Statuses.{checking}
-use Rattle.carcara_cli.specs.Reading.{flags_of}
+use Rattle.carcara_cli.specs.Reading.{checking_of}
 use Rattle.mode_laws.specs.Modes.{strictly}
 use Rattle.mode_laws.proofs.laws.valid_strictly_is_valid.Goals as goal
 
 pub returns : goal.returns
 returns c = λ problem options proof checked commands after stands same.
-    let asked = checking (flags_of (strictly options)) checked.script.assertions in
+    let asked = checking_of (strictly options) checked.script.assertions in
     let loose = c.strictly_met_is_met.ensures.valid asked checked.commands checked.statuses checked.verdict checked.are in
     record {
       script = checked.script;

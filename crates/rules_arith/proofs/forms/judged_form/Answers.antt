@@ -2,7 +2,7 @@
 use Rattle.std.proofs.Common.{[], refl, sym, subst}
 use Rattle.std.proofs.lemmas.Bool.{false≢true}
 use Rattle.rule_model.specs.Arith.{MeetsFormSimplification, IsWideFormSimplification}
-use Rattle.rules_arith.specs.Answers.{Tells}
+use Rattle.term_parts.specs.Judging.{Tells}
 use Rattle.rules_arith.proofs.FormLemmas.{sorted_are_terms, sides_sorted, states_none, left_is_none, right_is_none, form_tells}
 use Rattle.rules_arith.proofs.forms.judged_form.Goals as goal
 use Rattle.sort_check.proofs.Leaves.{sorted_is_term}

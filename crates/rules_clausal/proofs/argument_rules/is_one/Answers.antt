@@ -16,7 +16,7 @@ returns-in-Some-clause-one c us ts arguments literals =
     let test = Decides-contains c.args.arguments.now c.in-Some.term c.contains.result
     (contains_decides nat_eq Decides-eqb c.args.arguments.now c.in-Some.term c.contains.result (rw c.slot_of.ensures at c.contains.ensures.cases)) in
     one_is s v c.args.sign c.args.arguments.now c.args.literals.now us ts arguments literals c.literal-item.result c.in-Some.term c.contains.result
-    (c.equal_exactly_where_terms_are.ensures s c.count-leaves.ensures.table) c.in-len1.len_at_least c.in-len1.len_below c.literal-item.is c.in-Some.ensures.signed test
+    (c.equal_exactly_where_terms_are.ensures s c.leaves_differ.ensures.table) c.in-len1.len_at_least c.in-len1.len_below c.literal-item.is c.in-Some.ensures.signed test
 
 pub returns-in-None-clause-one : goal.returns-in-None-clause-one
 returns-in-None-clause-one c us ts arguments literals =

@@ -9,7 +9,7 @@ pub returns-then-negates_one-clause-opposites : goal.returns-then-negates_one-cl
 returns-then-negates_one-clause-opposites c ts refer =
     let s = c.args.symbols.now in
     let v = c.args.terms.now in
-    let one = c.equal_exactly_where_terms_are.ensures s c.count-leaves.ensures.table in (
+    let one = c.equal_exactly_where_terms_are.ensures s c.leaves_differ.ensures.table in (
       λ e.
           opposite_there s v one c.args.clause.now c.args.sorted.now ts refer c.requires.order c.loop-literal.literal-index c.literal-item.result c.negates_one.result c.loop-literal-test.true c.literal-item.is
           (rw c.loop-literal.invariant.same at c.negates_one.ensures.negates) c.if-negates_one.true,
@@ -28,5 +28,5 @@ pub returns-clause-opposites : goal.returns-clause-opposites
 returns-clause-opposites c ts refer =
     let s = c.args.symbols.now in
     let v = c.args.terms.now in
-    let one = c.equal_exactly_where_terms_are.ensures s c.count-leaves.ensures.table in
+    let one = c.equal_exactly_where_terms_are.ensures s c.leaves_differ.ensures.table in
     none_at_all s v one c.args.clause.now c.args.sorted.now ts refer c.requires.order c.loop-literal.literal-index c.loop-literal-test.false (c.loop-literal.invariant.none one ts refer c.requires.order)

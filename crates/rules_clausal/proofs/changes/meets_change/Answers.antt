@@ -14,7 +14,7 @@ pub returns-in-Contraction-clause-meets : goal.returns-in-Contraction-clause-mee
 returns-in-Contraction-clause-meets c =
     let s = c.args.symbols.now in
     let v = c.args.terms.now in
-    let one = c.equal_exactly_where_terms_are.ensures s c.count-leaves.ensures.table in
+    let one = c.equal_exactly_where_terms_are.ensures s c.leaves_differ.ensures.table in
     rw c.in-Contraction.is
     (IfOk-weaker c.contracts.result _ _ (λ b test ps ts premises clause.
     one_change s v (relation_of Change.Contraction) c.premise-item.result c.args.premises.now ps ts b (one_is_it c.args.premises.now c.premise-item.result c.in-len1.len_at_least c.in-len1.len_below c.premise-item.is)
@@ -24,7 +24,7 @@ pub returns-in-Reordering-clause-meets : goal.returns-in-Reordering-clause-meets
 returns-in-Reordering-clause-meets c =
     let s = c.args.symbols.now in
     let v = c.args.terms.now in
-    let one = c.equal_exactly_where_terms_are.ensures s c.count-leaves.ensures.table in
+    let one = c.equal_exactly_where_terms_are.ensures s c.leaves_differ.ensures.table in
     rw c.in-Reordering.is
     (IfOk-weaker c.reorders.result _ _ (λ b test ps ts premises clause.
     one_change s v (relation_of Change.Reordering) c.premise-item.result c.args.premises.now ps ts b (one_is_it c.args.premises.now c.premise-item.result c.in-len1.len_at_least c.in-len1.len_below c.premise-item.is)
@@ -34,7 +34,7 @@ pub returns-in-Weakening-clause-meets : goal.returns-in-Weakening-clause-meets
 returns-in-Weakening-clause-meets c =
     let s = c.args.symbols.now in
     let v = c.args.terms.now in
-    let one = c.equal_exactly_where_terms_are.ensures s c.count-leaves.ensures.table in
+    let one = c.equal_exactly_where_terms_are.ensures s c.leaves_differ.ensures.table in
     rw c.in-Weakening.is
     (IfOk-weaker c.weakens.result _ _ (λ b test ps ts premises clause.
     one_change s v (relation_of Change.Weakening) c.premise-item.result c.args.premises.now ps ts b (one_is_it c.args.premises.now c.premise-item.result c.in-len1.len_at_least c.in-len1.len_below c.premise-item.is)

@@ -1,7 +1,6 @@
 use Rattle.std.proofs.lemmas.Result.{IfOk-weaker}
 use Rattle.rules_congruence.proofs.StepLemmas.{none_left, cong_by, eq_congruent_by, eq_congruent_pred_by}
 use Rattle.rules_congruence.proofs.checks.meets_equality.Goals as goal
-use Rattle.term_parts.proofs.PartLemmas.{false_is}
 
 pub returns-in-Symm-clause-met : goal.returns-in-Symm-clause-met
 returns-in-Symm-clause-met c = rw c.in-Symm.is c.turns_round.ensures.met
@@ -24,18 +23,26 @@ returns-in-EqTransitive-clause-met c = rw c.in-EqTransitive.is c.meets_eq_transi
 pub returns-in-Cong-clause-met : goal.returns-in-Cong-clause-met
 returns-in-Cong-clause-met c =
     rw c.in-Cong.is
-    (IfOk-weaker c.meets_cong.result _ _ (λ b test ps ts premises clause. cong_by c.args.mode b ps ts (test ps ts premises clause)) (rw c.uses_of.ensures at c.meets_cong.ensures.met))
+    (IfOk-weaker c.meets_cong.result _ _
+    (λ b test ps ts premises clause. cong_by c.args.step.mode b ps ts (test ps ts premises clause))
+    (rw c.uses_of.ensures at c.meets_cong.ensures.met))
 
 pub returns-in-EqCongruent-clause-met : goal.returns-in-EqCongruent-clause-met
 returns-in-EqCongruent-clause-met c =
     rw c.in-EqCongruent.is
-    (IfOk-weaker c.meets_eq_congruent.result _ _ (λ b test ps ts premises clause. eq_congruent_by c.args.mode b ps ts (test ps ts premises clause)) (rw c.denied_uses_of.ensures at c.meets_eq_congruent.ensures.met))
+    (IfOk-weaker c.meets_eq_congruent.result _ _
+    (λ b test ps ts premises clause. eq_congruent_by c.args.step.mode b ps ts (test ps ts premises clause))
+    (rw c.denied_uses_of.ensures at c.meets_eq_congruent.ensures.met))
 
 pub returns-in-EqCongruentPred-clause-met : goal.returns-in-EqCongruentPred-clause-met
 returns-in-EqCongruentPred-clause-met c =
     rw c.in-EqCongruentPred.is
-    (IfOk-weaker c.meets_eq_congruent_pred.result _ _ (λ b test ps ts premises clause. eq_congruent_pred_by c.args.mode b ps ts (test ps ts premises clause)) (rw c.denied_uses_of-in-EqCongruentPred.ensures at c.meets_eq_congruent_pred.ensures.met))
+    (IfOk-weaker c.meets_eq_congruent_pred.result _ _
+    (λ b test ps ts premises clause. eq_congruent_pred_by c.args.step.mode b ps ts (test ps ts premises clause))
+    (rw c.denied_uses_of-in-EqCongruentPred.ensures at c.meets_eq_congruent_pred.ensures.met))
 
-pub returns-in_default-clause-met : goal.returns-in_default-clause-met
-returns-in_default-clause-met c ps ts premises clause =
-    false_is (none_left c.args.mode c.args.rule ps ts c.in_default.not-Symm c.in_default.not-NotSymm c.in_default.not-EqReflexive c.in_default.not-EqSymmetric c.in_default.not-Trans c.in_default.not-EqTransitive c.in_default.not-Cong c.in_default.not-EqCongruent c.in_default.not-EqCongruentPred)
+pub unreachable-requires : goal.unreachable-requires
+unreachable-requires c =
+    let left = c.in_default in
+    none_left c.args.step.rule c.requires.family left.not-Symm left.not-NotSymm left.not-EqReflexive left.not-EqSymmetric left.not-Trans
+    left.not-EqTransitive left.not-Cong left.not-EqCongruent left.not-EqCongruentPred

@@ -40,7 +40,7 @@ returns-clause-equates c =
     c.are_congruent.result
     (λ yes h ps t given refers.
     let sides = c.in-Some.ensures.sides t refers in
-    let one = c.equal_exactly_where_terms_are.ensures s c.count-leaves.ensures.table in
+    let one = c.equal_exactly_where_terms_are.ensures s c.leaves_differ.ensures.table in
     let whole = equality_of s v one c.args.literal c.requires t sides.left sides.right refers sides.is in
     let left = ((rw c.sides_of.ensures.same at c.is_truth.ensures.truth) sides.left sides.left_refers).0 c.if-not-is_truth.false in
     equates_both s v (AreCongruentTruths (Together c.args.uses)) ps c.in-Some.sides t sides

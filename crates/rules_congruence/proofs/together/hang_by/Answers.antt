@@ -12,7 +12,7 @@ use Rattle.rules_congruence.proofs.together.hang_by.Goals as goal
 pub returns-then-are_in_order-clause-together : goal.returns-then-are_in_order-clause-together
 returns-then-are_in_order-clause-together c ps t u given a = (
   λ e. inl (differences_linked ps a.ts a.us
-      ((differing_by c.args.symbols.now c.args.terms.now (c.equal_exactly_where_terms_are.ensures c.args.symbols.now c.count-leaves.ensures.table)
+      ((differing_by c.args.symbols.now c.args.terms.now (c.equal_exactly_where_terms_are.ensures c.args.symbols.now c.leaves_differ.ensures.table)
       c.args.given.now.pairs.items c.args.given.now.only ps c.args.both.now.left.items c.args.both.now.right.items a.ts a.us given a.left a.right).0
       (c.are_in_order.ensures.0 c.if-are_in_order.true))),
   λ h. refl,
@@ -26,5 +26,5 @@ returns-clause-together c =
     (λ yes. (ps : List (List Term)) (t u : Term) → IsGiven s v c.args.given.now.pairs.items c.args.given.now.only ps → (a : AreApplied s v c.args.both.now.head c.args.both.now.left.items c.args.both.now.right.items t u) → IsTrue yes ↔ AreLinked a.head ps a.ts a.us)
     c.hang.result
     (λ yes h ps t u given a. h ps t u
-    (sides_told s v (c.equal_exactly_where_terms_are.ensures s c.count-leaves.ensures.table) c.args.given.now.pairs.items c.args.given.now.only ps c.in_ok-links.links.items given (rw c.deref.ensures at c.in_ok-links.ensures)) a)
+    (sides_told s v (c.equal_exactly_where_terms_are.ensures s c.leaves_differ.ensures.table) c.args.given.now.pairs.items c.args.given.now.only ps c.in_ok-links.links.items given (rw c.deref.ensures at c.in_ok-links.ensures)) a)
     (rw c.deref-2.ensures.value at c.hang.ensures.linked)

@@ -9,12 +9,12 @@ pub returns-in-Differing-clause-together : goal.returns-in-Differing-clause-toge
 returns-in-Differing-clause-together c ps t u given a =
     rw c.in-Differing.is
     (iff_trans c.are_in_order.ensures
-    (differing_by c.args.symbols.now c.args.terms.now (c.equal_exactly_where_terms_are.ensures c.args.symbols.now c.count-leaves.ensures.table)
+    (differing_by c.args.symbols.now c.args.terms.now (c.equal_exactly_where_terms_are.ensures c.args.symbols.now c.leaves_differ.ensures.table)
     c.args.given.now.pairs.items c.args.given.now.only ps c.args.both.now.left.items c.args.both.now.right.items a.ts a.us given a.left a.right))
 
 pub returns-in-Each-clause-together : goal.returns-in-Each-clause-together
 returns-in-Each-clause-together c ps t u given a =
     rw c.in-Each.is
     (iff_trans c.are_in_order-in-Each.ensures
-    (each_by c.args.symbols.now c.args.terms.now (c.equal_exactly_where_terms_are.ensures c.args.symbols.now c.count-leaves.ensures.table)
+    (each_by c.args.symbols.now c.args.terms.now (c.equal_exactly_where_terms_are.ensures c.args.symbols.now c.leaves_differ.ensures.table)
     c.args.given.now.pairs.items c.args.given.now.only ps c.args.both.now.left.items c.args.both.now.right.items a.ts a.us given a.left a.right))

@@ -23,6 +23,6 @@ returns-clause-equates c =
     (λ yes h ps t given refers.
     let sides = c.in-Some.ensures.sides t refers in
     equates_both c.args.symbols.now c.args.terms.now (IsWay c.args.mode) ps c.in-Some.sides t sides
-    (iff_trans h (way_terms c.args.symbols.now c.args.terms.now (c.equal_exactly_where_terms_are.ensures c.args.symbols.now c.count-leaves.ensures.table)
+    (iff_trans h (way_terms c.args.symbols.now c.args.terms.now (c.equal_exactly_where_terms_are.ensures c.args.symbols.now c.leaves_differ.ensures.table)
     c.args.mode c.args.given.now.pairs.items c.args.given.now.only ps c.in-Some.sides.0 c.in-Some.sides.1 sides.left sides.right given sides.left_refers sides.right_refers)))
     c.is_way.ensures

@@ -1,5 +1,5 @@
 use Rattle.std.proofs.Common.{◌↔◌, ◌∷◌, [], List, IsTrue}
-use Rattle.rule_model.specs.Congruence.{Equates, IsWay, MeetsEqTransitive}
+use Rattle.rule_model.specs.Congruence.{Denies, Equates, IsWay}
 use Rattle.term_model.specs.Terms.{Term}
 use Rattle.term_pool.specs.Views.{RefersTo, ReferToAll}
 use Rattle.rules_congruence.specs.Sides.{IsGiven}
@@ -30,7 +30,7 @@ equates-requires c =
 pub returns-clause-met : goal.returns-clause-met
 returns-clause-met c =
     if_ok (λ yes. (ps : List (List Term)) (t : Term) → IsGiven c.args.symbols.now c.args.terms.now c.in-Some-2.given.pairs.items c.in-Some-2.given.only ps → RefersTo c.args.symbols.now c.args.terms.now c.in-Some.split.1 t → IsTrue yes ↔ Equates (IsWay c.args.mode) ps (t ∷ []))
-    (λ yes. (ps : List (List Term)) (ts : List Term) → ReferToClauses c.args.symbols.now c.args.terms.now c.args.premises.now ps → ReferToAll c.args.symbols.now c.args.terms.now c.args.clause.now ts → IsTrue yes ↔ MeetsEqTransitive c.args.mode ps ts)
+    (λ yes. (ps : List (List Term)) (ts : List Term) → ReferToClauses c.args.symbols.now c.args.terms.now c.args.premises.now ps → ReferToAll c.args.symbols.now c.args.terms.now c.args.clause.now ts → IsTrue yes ↔ Denies (Equates (IsWay c.args.mode)) ps ts)
     c.equates.result
     (λ yes h ps ts premises clause.
     let more = split_refers c.args.symbols.now c.args.terms.now c.args.clause.now c.in-Some.split.0.now c.in-Some.split.1 ts c.in-Some.ensures.split.1 clause in

@@ -13,6 +13,6 @@ returns-in_default-signed_sides-clause-turned c t u old new =
 pub returns-clause-turned : goal.returns-clause-turned
 returns-clause-turned c t u old new =
     iff_trans c.crossed.ensures
-    (are_turned_by c.args.symbols.now c.args.terms.now (c.equal_exactly_where_terms_are.ensures c.args.symbols.now c.count-leaves.ensures.table)
+    (are_turned_by c.args.symbols.now c.args.terms.now (c.equal_exactly_where_terms_are.ensures c.args.symbols.now c.leaves_differ.ensures.table)
     c.args.denied c.in-Some.sides c.in-Some-signed_sides.turned t u (c.in-Some.ensures.sides t old)
     ((rw c.signed_sides.ensures.same at c.in-Some-signed_sides.ensures.sides) u new))

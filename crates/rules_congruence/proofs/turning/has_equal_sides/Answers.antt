@@ -9,5 +9,5 @@ returns-in_default-clause-equal c t refers =
 pub returns-clause-equal : goal.returns-clause-equal
 returns-clause-equal c t refers =
     iff_trans c.same.ensures
-    (equal_sides_by c.args.symbols.now c.args.terms.now (c.equal_exactly_where_terms_are.ensures c.args.symbols.now c.count-leaves.ensures.table)
+    (equal_sides_by c.args.symbols.now c.args.terms.now (c.equal_exactly_where_terms_are.ensures c.args.symbols.now c.leaves_differ.ensures.table)
     c.in-Some.sides t (c.in-Some.ensures.sides t refers))

@@ -24,7 +24,7 @@ stands_for-requires-clause-list c =
 pub returns-clause-eliminates : goal.returns-clause-eliminates
 returns-clause-eliminates c =
     IfOk-weaker c.stands_for.result _ _ (λ b test t u left right.
-    let one = c.equal_exactly_where_terms_are.ensures c.args.symbols.now c.count-leaves.ensures.table in
+    let one = c.equal_exactly_where_terms_are.ensures c.args.symbols.now c.leaves_differ.ensures.table in
     let is = c.requires.left in
     let sorted = subst IsWellSorted ((one c.args.left c.args.left is.means t is.refers left).0 refl) is.sorted in
     let loaded = OnTrue_at c.if-not-branch.false c.in_ok-load_arguments.ensures.loaded t left in

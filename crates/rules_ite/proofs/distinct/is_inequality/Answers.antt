@@ -9,7 +9,7 @@ pub returns-then-here-clause-inequality : goal.returns-then-here-clause-inequali
 returns-then-here-clause-inequality c t u l first second literal =
     let s = c.args.symbols.now in
     let v = c.args.terms.now in
-    let one = c.equal_exactly_where_terms_are.ensures s c.count-leaves.ensures.table in
+    let one = c.equal_exactly_where_terms_are.ensures s c.leaves_differ.ensures.table in
     let sides = c.in-Some.ensures.sides l literal in (
       λ e. inequality_here s v one _ l sides c.args.one c.args.other t u first second c.are_both-here.result c.are_both-here.ensures c.if-here.true,
       λ i. refl,
@@ -19,7 +19,7 @@ pub returns-clause-inequality : goal.returns-clause-inequality
 returns-clause-inequality c t u l first second literal =
     let s = c.args.symbols.now in
     let v = c.args.terms.now in
-    let one = c.equal_exactly_where_terms_are.ensures s c.count-leaves.ensures.table in
+    let one = c.equal_exactly_where_terms_are.ensures s c.leaves_differ.ensures.table in
     let sides = c.in-Some.ensures.sides l literal in
     inequality_turned s v one _ l sides c.args.one c.args.other t u first second
     c.are_both-here.result c.are_both.result c.are_both-here.ensures c.if-here.false c.are_both.ensures

@@ -1,6 +1,6 @@
 use Rattle.std.proofs.Common.{◌∙◌}
-use Rattle.rules_resolution.specs.SignedTerms.{TakeAway}
-use Rattle.rules_resolution.proofs.TermLiterals.{zip_more}
+use Rattle.rules_resolution.specs.Loading.{TakeAway}
+use Rattle.rules_resolution.proofs.Loaded.{zip_more}
 use Rattle.rules_resolution.proofs.signed.load_pivots.Goals as goal
 
 pub loop-pivot-preserved : goal.loop-pivot-preserved

@@ -1,6 +1,6 @@
 use Rattle.std.proofs.Common.{◌≡◌, take}
 use Rattle.std.specs.List.{AllZip}
-use Rattle.rules_resolution.specs.SignedTerms.{TakeAway}
+use Rattle.rules_resolution.specs.Loading.{TakeAway}
 use Rattle.rules_resolution.proofs.signed.load_pivots.Given as goal
 
 abbrev pub invariant-loop-pivot : goal.invariant-loop-pivot

@@ -1,27 +1,27 @@
-use Rattle.std.proofs.Common.{[], refl}
 use Rattle.std.proofs.lemmas.Result.{IfOk-weaker}
+use Rattle.schema_match.proofs.StepTerms.{sides_of_step}
+use Rattle.sort_check.proofs.Leaves.{sorted_is_term}
+use Rattle.term_parts.proofs.JudgingLemmas.{truths_are_terms}
 use Rattle.rules_simplify.proofs.CheckLemmas.{joining_is, no_joining}
 use Rattle.rules_simplify.proofs.checks.meets_joining.Goals as goal
-use Rattle.schema_match.proofs.InstanceLemmas.{terms_of_references}
+
+pub equation-requires : goal.equation-requires
+equation-requires c = truths_are_terms c.args.step.clause.now c.requires.clause
 
 pub returns-in_default-clause-meets : goal.returns-in_default-clause-meets
-returns-in_default-clause-meets c ts clause = no_joining c.args.junction ts (λ u w e. c.in_default.ensures.other [] ts u w tt clause refl e)
+returns-in_default-clause-meets c ps ts premises clause = no_joining ps ts c.args.junction (λ u w. c.in_default.ensures.other ps ts u w premises clause)
 
 pub joins-requires-clause-left : goal.joins-requires-clause-left
 joins-requires-clause-left c =
-    let of = terms_of_references c.args.symbols.now c.args.terms.now c.args.clause.now c.requires in
-    let is = c.in-Some.ensures.equation [] of.0 tt of.1 in
-    rw c.equation.ensures.same (record { means = is.left; refers = is.left_refers })
+    rw c.equation.ensures.same
+    (sorted_is_term c.args.symbols.now c.args.terms.now _ (sides_of_step c.args.step _ c.requires c.in-Some.ensures.equation).0)
 
 pub joins-requires-clause-right : goal.joins-requires-clause-right
-joins-requires-clause-right c =
-    let of = terms_of_references c.args.symbols.now c.args.terms.now c.args.clause.now c.requires in
-    let is = c.in-Some.ensures.equation [] of.0 tt of.1 in
-    rw c.equation.ensures.same (record { means = is.right; refers = is.right_refers })
+joins-requires-clause-right c = rw c.equation.ensures.same (sides_of_step c.args.step _ c.requires c.in-Some.ensures.equation).1
 
 pub returns-clause-meets : goal.returns-clause-meets
 returns-clause-meets c =
-    IfOk-weaker c.joins.result _ _ (λ b test ts clause.
-    let is = c.in-Some.ensures.equation [] ts tt clause in
-    joining_is c.args.symbols.now c.args.terms.now _ c.args.junction ts b is (test is.left is.right is.left_refers is.right_refers))
+    IfOk-weaker c.joins.result _ _ (λ b test ps ts premises clause.
+    let is = c.in-Some.ensures.equation ps ts premises clause in
+    joining_is c.args.symbols.now c.args.terms.now _ c.args.junction ps ts b is (test is.left is.right is.left_refers is.right_refers))
     (rw c.equation.ensures.same at c.joins.ensures.joins)

@@ -27,14 +27,14 @@ returns-then-is_same-clause-reaches c t u is refers =
     let s = c.args.symbols.now in
     let v = c.args.terms.now in
     let walk = c.premises.invariant.walk t u is refers in
-    walk_tells s v c.args.from c.premises.others.items c.premises.conclusion t u walk (c.equal_exactly_where_terms_are.ensures s c.count-leaves.ensures.table) _
+    walk_tells s v c.args.from c.premises.others.items c.premises.conclusion t u walk (c.equal_exactly_where_terms_are.ensures s c.leaves_differ.ensures.table) _
     ((rw c.premises.invariant.same at c.in-Some-operands.ensures.operands) walk.here walk.refers) _ c.in_ok-push-2.ensures _ (c.in-Some.ensures.operands u refers) c.is_conjoined.result
     (c.is_same.ensures.0 c.if-is_same.true) (rw (c.operands-in-premises.ensures.same, c.premises.invariant.same) at c.is_conjoined.ensures.conjoined)
 
 pub premises-smaller : goal.premises-smaller
 premises-smaller c =
     let term = c.premises.invariant.term in
-    conclusion_falls c.args.symbols.now c.args.terms.now c.count-leaves.ensures.table c.terms_at.ensures.terms c.premises.conclusion term.means _ term.refers
+    conclusion_falls c.args.symbols.now c.args.terms.now c.leaves_differ.ensures.table c.terms_at.ensures.terms c.premises.conclusion term.means _ term.refers
     ((rw c.premises.invariant.same at c.in-Some-operands.ensures.operands) term.means term.refers)
 
 pub premises-preserved : goal.premises-preserved
@@ -46,7 +46,7 @@ premises-preserved c =
       term = second_is_term s v Op.Implies c.premises.conclusion _ (rw c.premises.invariant.same at c.in-Some-operands.ensures.operands) c.premises.invariant.term;
       walk = λ t u is refers.
           (let walk = c.premises.invariant.walk t u is refers in
-          walk_goes s v c.args.from c.premises.others.items c.premises.conclusion t u walk (c.equal_exactly_where_terms_are.ensures s c.count-leaves.ensures.table) _
+          walk_goes s v c.args.from c.premises.others.items c.premises.conclusion t u walk (c.equal_exactly_where_terms_are.ensures s c.leaves_differ.ensures.table) _
           ((rw c.premises.invariant.same at c.in-Some-operands.ensures.operands) walk.here walk.refers) _ c.in_ok-push-2.ensures _ (c.in-Some.ensures.operands u refers)
           (λ same. told_apart c.is_same.result (c.is_same.ensures.1 same) c.if-is_same.false));
     }

@@ -9,14 +9,14 @@ pub returns-then-not-branch-clause-applied : goal.returns-then-not-branch-clause
 returns-then-not-branch-clause-applied c ts t refer right =
     let s = c.args.symbols.now in
     let v = c.args.terms.now in
-    let one = c.equal_exactly_where_terms_are.ensures s c.count-leaves.ensures.table in
+    let one = c.equal_exactly_where_terms_are.ensures s c.leaves_differ.ensures.table in
     not_applied s v one c.args.op c.args.list.now ts t refer c.requires.some (OnFalse_at c.if-not-branch.true c.in_ok-load_arguments.ensures.other t right)
 
 pub returns-clause-applied : goal.returns-clause-applied
 returns-clause-applied c ts t refer right =
     let s = c.args.symbols.now in
     let v = c.args.terms.now in
-    let one = c.equal_exactly_where_terms_are.ensures s c.count-leaves.ensures.table in
+    let one = c.equal_exactly_where_terms_are.ensures s c.leaves_differ.ensures.table in
     let loaded = OnTrue_at c.if-not-branch.false c.in_ok-load_arguments.ensures.loaded t right in
     applied_is s v one c.args.op c.args.list.now ts t refer c.load_arguments.new.arguments.items (loaded.first ∷ loaded.others) c.eq.result loaded.is loaded.refer
     (slice_eq-Decides Decides-eqb _ _ _ (rw c.as_slice.ensures at c.eq.ensures))

@@ -13,7 +13,7 @@ returns-in-empty-clause-stands c ts t list right =
 
 pub returns-then-is_same-clause-stands : goal.returns-then-is_same-clause-stands
 returns-then-is_same-clause-stands c ts t list right =
-    let one = c.equal_exactly_where_terms_are.ensures c.args.symbols.now c.count-leaves.ensures.table in
+    let one = c.equal_exactly_where_terms_are.ensures c.args.symbols.now c.leaves_differ.ensures.table in
     let r = c.only-item.result in
     one_stands c.args.symbols.now c.args.terms.now c.args.junction.op (constant c.args.junction.neutral) t c.args.list.now ts r list
     (one_item c.args.list.now r c.in-len1.len_at_least c.in-len1.len_below c.only-item.is) (λ u first. sym ((one r c.args.right u t first right).0 (sym c.get.ensures ∙ c.is_same.ensures.0 c.if-is_same.true)))
@@ -21,7 +21,7 @@ returns-then-is_same-clause-stands c ts t list right =
 pub returns-else-is_same-clause-stands : goal.returns-else-is_same-clause-stands
 returns-else-is_same-clause-stands c =
     IfOk-weaker c.is_applied.result _ _ (λ b test ts t list right.
-    let one = c.equal_exactly_where_terms_are.ensures c.args.symbols.now c.count-leaves.ensures.table in
+    let one = c.equal_exactly_where_terms_are.ensures c.args.symbols.now c.leaves_differ.ensures.table in
     let r = c.only-item.result in
     one_stands_otherwise c.args.symbols.now c.args.terms.now c.args.junction.op (constant c.args.junction.neutral) t b c.args.list.now ts r list
     (one_item c.args.list.now r c.in-len1.len_at_least c.in-len1.len_below c.only-item.is) (λ u first e. told_apart c.is_same.result (c.is_same.ensures.1 (c.get.ensures ∙ (one r c.args.right u t first right).1 (sym e))) c.if-is_same.false)

@@ -6,5 +6,5 @@ returns-in_default-clause-negation c t u negation refers = (λ e. absurd cc, λ 
 
 pub returns-clause-negation : goal.returns-clause-negation
 returns-clause-negation c t u negation refers =
-    negation_told c.args.symbols.now c.args.terms.now (c.equal_exactly_where_terms_are.ensures c.args.symbols.now c.count-leaves.ensures.table) c.in-Some.inner c.args.r t u c.is_same.result
+    negation_told c.args.symbols.now c.args.terms.now (c.equal_exactly_where_terms_are.ensures c.args.symbols.now c.leaves_differ.ensures.table) c.in-Some.inner c.args.r t u c.is_same.result
     (c.in-Some.ensures.under t negation) refers c.is_same.ensures

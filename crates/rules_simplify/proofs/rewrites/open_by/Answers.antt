@@ -10,7 +10,7 @@ returns-clause-open c =
     IfOk-weaker c.load_arguments.result _ _ (λ b h.
     OnTrue_from b _ (λ e t refers.
     let loaded = OnTrue_at e h t refers in
-    let same = (c.equal_exactly_where_terms_are.ensures c.args.symbols.now c.count-leaves.ensures.table c.args.r c.args.r c.requires.means t c.requires.refers refers).0 refl in
+    let same = (c.equal_exactly_where_terms_are.ensures c.args.symbols.now c.leaves_differ.ensures.table c.args.r c.args.r c.requires.means t c.requires.refers refers).0 refl in
     record {
       arguments = loaded.first ∷ loaded.others;
       is = loaded.is;

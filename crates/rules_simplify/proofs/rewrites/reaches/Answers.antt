@@ -99,7 +99,7 @@ chain-smaller c =
     let step = rw (c.makes.ensures.same, c.first_fit.ensures.same, c.chain.invariant.same) at c.in_ok-advance.ensures.step in
     let start = c.chain.invariant.way c.requires.at.means c.requires.right.means c.requires.at.is c.requires.right.refers in
     let begun = first start.here start.is in
-    step_falls s v c.count-leaves.ensures.table c.terms_at.ensures.terms c.args.table c.first_fit.new.fit start.here begun c.chain.at _ start.is (subst (IsStepTo s v rows _ (next_term s v rows c.first_fit.new.fit start.here begun)) c.in-Goes.is (step start.here begun))
+    step_falls s v c.leaves_differ.ensures.table c.terms_at.ensures.terms c.args.table c.first_fit.new.fit start.here begun c.chain.at _ start.is (subst (IsStepTo s v rows _ (next_term s v rows c.first_fit.new.fit start.here begun)) c.in-Goes.is (step start.here begun))
 
 pub returns-clause-reaches : goal.returns-clause-reaches
 returns-clause-reaches c t u at refers =

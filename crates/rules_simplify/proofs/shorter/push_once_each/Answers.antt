@@ -14,7 +14,7 @@ loop-item-preserved-then-not-branch c =
     record {
       same = keys_again _ _ _ _ _ c.loop-item.invariant.same met c.if-not-branch.true;
       kept = λ ts refer.
-          (let one = c.equal_exactly_where_terms_are.ensures c.args.symbols.now c.count-leaves.ensures.table in
+          (let one = c.equal_exactly_where_terms_are.ensures c.args.symbols.now c.leaves_differ.ensures.table in
           met_before c.args.symbols.now c.args.terms.now c.args.list.now ts refer c.loop-item.item-index one c.item-item.result _ c.loop-item-test.true c.item-item.is _ _ _
           c.loop-item.invariant.same met c.if-not-branch.true (c.loop-item.invariant.kept ts refer));
     }
@@ -26,7 +26,7 @@ loop-item-preserved c =
     record {
       same = keys_first _ _ _ _ _ _ c.loop-item.invariant.same met c.if-not-branch.false pushed;
       kept = λ ts refer.
-          (let one = c.equal_exactly_where_terms_are.ensures c.args.symbols.now c.count-leaves.ensures.table in
+          (let one = c.equal_exactly_where_terms_are.ensures c.args.symbols.now c.leaves_differ.ensures.table in
           met_now c.args.symbols.now c.args.terms.now c.args.list.now ts refer c.loop-item.item-index one c.item-item.result _ c.loop-item-test.true c.item-item.is _ _ _
           c.loop-item.invariant.same met c.if-not-branch.false _ pushed (c.loop-item.invariant.kept ts refer));
     }

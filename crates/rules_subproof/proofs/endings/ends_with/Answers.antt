@@ -12,7 +12,7 @@ not_true e = cc
 pub returns-then-not-is_empty-clause-ends : goal.returns-then-not-is_empty-clause-ends
 returns-then-not-is_empty-clause-ends c ts us literals inner =
     ends_whole c.args.symbols.now c.args.terms.now c.args.literals.now c.args.inner.now ts us literals inner c.args.place
-    (λ p q t u h k. c.equal_exactly_where_terms_are.ensures c.args.symbols.now c.count-leaves.ensures.table p q t u h k)
+    (λ p q t u h k. c.equal_exactly_where_terms_are.ensures c.args.symbols.now c.leaves_differ.ensures.table p q t u h k)
     (λ e. let clash = sym c.if-not-is_empty.true ∙ (c.is_empty.ensures ∙ eq-eqb _ _ e) in cc)
     c.eq.result
     (slice_eq-Decides Decides-eqb _ _ _

@@ -78,7 +78,7 @@ returns-in-Check-clause-met c of scope closes stands =
     found.bindings found.body found.result (bindings_at of k) found.let_refers found.result_refers zip in
     let none = (no_assumes_too refs of i k (λ j. laws.scope s v refs of j stands) (λ j. laws.rule s v refs of j stands)).0 (c.are_among.ensures.0 c.if-not-are_among.false) in
     let table = (rw (c.let_values.ensures.same, c.let_sides.ensures.same, c.premises-premises.ensures, laws.premises s v refs of i stands) at c.in_ok-table-in-Check.ensures.told) of stands in
-    let linked = linked_are s v (λ p q a b g h. c.equal_exactly_where_terms_are.ensures s c.count-leaves.ensures.table p q a b g h)
+    let linked = linked_are s v (λ p q a b g h. c.equal_exactly_where_terms_are.ensures s c.leaves_differ.ensures.table p q a b g h)
     c.in_ok-table-in-Check.table.keys (clauses_at of (premises_at of i)) table c.in-Some-2.values.items (bindings_at refs k) (bound_terms found.bindings) (bindings_at of k) told.1 zip in
     let yes = rw (c.deref.ensures.value, c.bindings-anchor.ensures) at c.are_linked.ensures in
     at_scope c.args.mode of i (closes_at refs i) k scope c.are_linked.result is closes

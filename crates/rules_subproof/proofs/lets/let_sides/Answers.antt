@@ -42,8 +42,8 @@ head-requires c =
 pub returns-then-is_some-clause-none : goal.returns-then-is_some-clause-none
 returns-then-is_some-clause-none c of bs t u stands h =
     let some : is_some c.head.result ≡ true = search rules in
-    no_application c.args.symbols.now c.args.terms.now c.in-Some-unit_sides-2.sides c.head.result some (rw (c.unit_sides-2.ensures.same, c.unit_sides.ensures.same) at c.head.ensures.application) c.count-leaves.ensures.table bs t
-    (let_refers of c.args.i c.args.scope c.in-Some.last (sym (c.terms_correspond.ensures.last_inside c.args.symbols.now c.args.terms.now c.args.proof.now of c.args.scope stands) ∙ (sym c.last_inside.ensures ∙ c.in-Some.is)) c.args.symbols.now c.args.terms.now (λ p q a b g k. c.equal_exactly_where_terms_are.ensures c.args.symbols.now c.count-leaves.ensures.table p q a b g k) c.in-Some-unit_sides-2.sides c.in-Some-unit_sides.inner ((rw (c.unit_sides.ensures.same, c.clause-2.ensures) at c.in-Some-unit_sides-2.ensures.sides) (clause_at of c.args.i) (c.terms_correspond.ensures.clause c.args.symbols.now c.args.terms.now c.args.proof.now of c.args.i stands)) ((rw c.clause.ensures at c.in-Some-unit_sides.ensures.sides) (clause_at of c.in-Some.last) (c.terms_correspond.ensures.clause c.args.symbols.now c.args.terms.now c.args.proof.now of c.in-Some.last stands)) bs t u h)
+    no_application c.args.symbols.now c.args.terms.now c.in-Some-unit_sides-2.sides c.head.result some (rw (c.unit_sides-2.ensures.same, c.unit_sides.ensures.same) at c.head.ensures.application) c.leaves_differ.ensures.table bs t
+    (let_refers of c.args.i c.args.scope c.in-Some.last (sym (c.terms_correspond.ensures.last_inside c.args.symbols.now c.args.terms.now c.args.proof.now of c.args.scope stands) ∙ (sym c.last_inside.ensures ∙ c.in-Some.is)) c.args.symbols.now c.args.terms.now (λ p q a b g k. c.equal_exactly_where_terms_are.ensures c.args.symbols.now c.leaves_differ.ensures.table p q a b g k) c.in-Some-unit_sides-2.sides c.in-Some-unit_sides.inner ((rw (c.unit_sides.ensures.same, c.clause-2.ensures) at c.in-Some-unit_sides-2.ensures.sides) (clause_at of c.args.i) (c.terms_correspond.ensures.clause c.args.symbols.now c.args.terms.now c.args.proof.now of c.args.i stands)) ((rw c.clause.ensures at c.in-Some-unit_sides.ensures.sides) (clause_at of c.in-Some.last) (c.terms_correspond.ensures.clause c.args.symbols.now c.args.terms.now c.args.proof.now of c.in-Some.last stands)) bs t u h)
 
 pub let_body-requires : goal.let_body-requires
 let_body-requires c =
@@ -51,26 +51,26 @@ let_body-requires c =
     let same : c.head.new.self ≡ c.args.terms.now = search rules in
     rw same
     (is_let_term c.args.symbols.now c.args.terms.now c.in-Some-unit_sides-2.sides _ ((rw (c.unit_sides.ensures.same, c.clause-2.ensures) at c.in-Some-unit_sides-2.ensures.sides) (clause_at c.requires.stand.proof c.args.i) (c.terms_correspond.ensures.clause c.args.symbols.now c.args.terms.now c.args.proof.now c.requires.stand.proof c.args.i c.requires.stand.stand))
-    (λ t refers. none_holds c.head.result none (rw (c.unit_sides-2.ensures.same, c.unit_sides.ensures.same) at c.head.ensures.let_term) c.args.symbols.now t c.count-leaves.ensures.table refers))
+    (λ t refers. none_holds c.head.result none (rw (c.unit_sides-2.ensures.same, c.unit_sides.ensures.same) at c.head.ensures.let_term) c.args.symbols.now t c.leaves_differ.ensures.table refers))
 
 pub returns-then-not-are_identical-clause-none : goal.returns-then-not-are_identical-clause-none
 returns-then-not-are_identical-clause-none c of bs t u stands h =
     let before : c.head.new.self ≡ c.args.terms.now = search rules in
     let after : c.let_body.new.self ≡ c.args.terms.now = search rules in
     not_true (subst IsTrue c.if-not-are_identical.true (c.are_identical.ensures.1
-    (body_same of c.args.i c.args.scope c.in-Some.last (sym (c.terms_correspond.ensures.last_inside c.args.symbols.now c.args.terms.now c.args.proof.now of c.args.scope stands) ∙ (sym c.last_inside.ensures ∙ c.in-Some.is)) c.args.symbols.now c.args.terms.now (λ p q a b g k. c.equal_exactly_where_terms_are.ensures c.args.symbols.now c.count-leaves.ensures.table p q a b g k) c.in-Some-unit_sides-2.sides c.in-Some-unit_sides.inner ((rw (c.unit_sides.ensures.same, c.clause-2.ensures) at c.in-Some-unit_sides-2.ensures.sides) (clause_at of c.args.i) (c.terms_correspond.ensures.clause c.args.symbols.now c.args.terms.now c.args.proof.now of c.args.i stands)) ((rw c.clause.ensures at c.in-Some-unit_sides.ensures.sides) (clause_at of c.in-Some.last) (c.terms_correspond.ensures.clause c.args.symbols.now c.args.terms.now c.args.proof.now of c.in-Some.last stands))
+    (body_same of c.args.i c.args.scope c.in-Some.last (sym (c.terms_correspond.ensures.last_inside c.args.symbols.now c.args.terms.now c.args.proof.now of c.args.scope stands) ∙ (sym c.last_inside.ensures ∙ c.in-Some.is)) c.args.symbols.now c.args.terms.now (λ p q a b g k. c.equal_exactly_where_terms_are.ensures c.args.symbols.now c.leaves_differ.ensures.table p q a b g k) c.in-Some-unit_sides-2.sides c.in-Some-unit_sides.inner ((rw (c.unit_sides.ensures.same, c.clause-2.ensures) at c.in-Some-unit_sides-2.ensures.sides) (clause_at of c.args.i) (c.terms_correspond.ensures.clause c.args.symbols.now c.args.terms.now c.args.proof.now of c.args.i stands)) ((rw c.clause.ensures at c.in-Some-unit_sides.ensures.sides) (clause_at of c.in-Some.last) (c.terms_correspond.ensures.clause c.args.symbols.now c.args.terms.now c.args.proof.now of c.in-Some.last stands))
     c.let_body.result (λ b w. (rw (after, before) at c.let_body.ensures.body) c.args.symbols.now b w) bs t u h)))
 
 pub returns-then-not-are_identical-2-clause-none : goal.returns-then-not-are_identical-2-clause-none
 returns-then-not-are_identical-2-clause-none c of bs t u stands h =
     not_true (subst IsTrue c.if-not-are_identical-2.true (c.are_identical-2.ensures.1
-    (right_same of c.args.i c.args.scope c.in-Some.last (sym (c.terms_correspond.ensures.last_inside c.args.symbols.now c.args.terms.now c.args.proof.now of c.args.scope stands) ∙ (sym c.last_inside.ensures ∙ c.in-Some.is)) c.args.symbols.now c.args.terms.now (λ p q a b g k. c.equal_exactly_where_terms_are.ensures c.args.symbols.now c.count-leaves.ensures.table p q a b g k) c.in-Some-unit_sides-2.sides c.in-Some-unit_sides.inner ((rw (c.unit_sides.ensures.same, c.clause-2.ensures) at c.in-Some-unit_sides-2.ensures.sides) (clause_at of c.args.i) (c.terms_correspond.ensures.clause c.args.symbols.now c.args.terms.now c.args.proof.now of c.args.i stands)) ((rw c.clause.ensures at c.in-Some-unit_sides.ensures.sides) (clause_at of c.in-Some.last) (c.terms_correspond.ensures.clause c.args.symbols.now c.args.terms.now c.args.proof.now of c.in-Some.last stands)) bs t u h)))
+    (right_same of c.args.i c.args.scope c.in-Some.last (sym (c.terms_correspond.ensures.last_inside c.args.symbols.now c.args.terms.now c.args.proof.now of c.args.scope stands) ∙ (sym c.last_inside.ensures ∙ c.in-Some.is)) c.args.symbols.now c.args.terms.now (λ p q a b g k. c.equal_exactly_where_terms_are.ensures c.args.symbols.now c.leaves_differ.ensures.table p q a b g k) c.in-Some-unit_sides-2.sides c.in-Some-unit_sides.inner ((rw (c.unit_sides.ensures.same, c.clause-2.ensures) at c.in-Some-unit_sides-2.ensures.sides) (clause_at of c.args.i) (c.terms_correspond.ensures.clause c.args.symbols.now c.args.terms.now c.args.proof.now of c.args.i stands)) ((rw c.clause.ensures at c.in-Some-unit_sides.ensures.sides) (clause_at of c.in-Some.last) (c.terms_correspond.ensures.clause c.args.symbols.now c.args.terms.now c.args.proof.now of c.in-Some.last stands)) bs t u h)))
 
 pub returns-clause-found : goal.returns-clause-found
 returns-clause-found c of stands =
     let none : is_some c.head.result ≡ false = search rules in
     let before : c.head.new.self ≡ c.args.terms.now = search rules in
     let after : c.let_body.new.self ≡ c.args.terms.now = search rules in
-    let_found of c.args.i c.args.scope c.in-Some.last (sym (c.terms_correspond.ensures.last_inside c.args.symbols.now c.args.terms.now c.args.proof.now of c.args.scope stands) ∙ (sym c.last_inside.ensures ∙ c.in-Some.is)) c.args.symbols.now c.args.terms.now (λ p q a b g k. c.equal_exactly_where_terms_are.ensures c.args.symbols.now c.count-leaves.ensures.table p q a b g k) c.in-Some-unit_sides-2.sides c.in-Some-unit_sides.inner ((rw (c.unit_sides.ensures.same, c.clause-2.ensures) at c.in-Some-unit_sides-2.ensures.sides) (clause_at of c.args.i) (c.terms_correspond.ensures.clause c.args.symbols.now c.args.terms.now c.args.proof.now of c.args.i stands)) ((rw c.clause.ensures at c.in-Some-unit_sides.ensures.sides) (clause_at of c.in-Some.last) (c.terms_correspond.ensures.clause c.args.symbols.now c.args.terms.now c.args.proof.now of c.in-Some.last stands))
+    let_found of c.args.i c.args.scope c.in-Some.last (sym (c.terms_correspond.ensures.last_inside c.args.symbols.now c.args.terms.now c.args.proof.now of c.args.scope stands) ∙ (sym c.last_inside.ensures ∙ c.in-Some.is)) c.args.symbols.now c.args.terms.now (λ p q a b g k. c.equal_exactly_where_terms_are.ensures c.args.symbols.now c.leaves_differ.ensures.table p q a b g k) c.in-Some-unit_sides-2.sides c.in-Some-unit_sides.inner ((rw (c.unit_sides.ensures.same, c.clause-2.ensures) at c.in-Some-unit_sides-2.ensures.sides) (clause_at of c.args.i) (c.terms_correspond.ensures.clause c.args.symbols.now c.args.terms.now c.args.proof.now of c.args.i stands)) ((rw c.clause.ensures at c.in-Some-unit_sides.ensures.sides) (clause_at of c.in-Some.last) (c.terms_correspond.ensures.clause c.args.symbols.now c.args.terms.now c.args.proof.now of c.in-Some.last stands))
     c.let_body.result (λ b w. (rw (after, before) at c.let_body.ensures.body) c.args.symbols.now b w)
-    (λ t refers. none_holds c.head.result none (rw (c.unit_sides-2.ensures.same, c.unit_sides.ensures.same) at c.head.ensures.let_term) c.args.symbols.now t c.count-leaves.ensures.table refers) (c.are_identical.ensures.0 c.if-not-are_identical.false) (c.are_identical-2.ensures.0 c.if-not-are_identical-2.false)
+    (λ t refers. none_holds c.head.result none (rw (c.unit_sides-2.ensures.same, c.unit_sides.ensures.same) at c.head.ensures.let_term) c.args.symbols.now t c.leaves_differ.ensures.table refers) (c.are_identical.ensures.0 c.if-not-are_identical.false) (c.are_identical-2.ensures.0 c.if-not-are_identical-2.false)

@@ -11,7 +11,7 @@ returns-then-not-binds_in_order-clause-none c bs t u bound refers right zip h =
     let bindings = (rw (same, c.new-vars.ensures.items, c.new-values.ensures.items) at c.in_ok-bindings.ensures.bindings) c.args.symbols.now bs t refers in
     let leaves = leaves_of c.args.symbols.now c.args.terms.now _ _ bs bindings in
     not_true (subst IsTrue c.if-not-binds_in_order.true (c.binds_in_order.ensures.1
-    ((variables_same c.args.symbols.now c.args.terms.now c.count-leaves.ensures.table c.args.anchor.now bound _ _ zip leaves).1 h.variables ∙ sym c.deref.ensures.value)))
+    ((variables_same c.args.symbols.now c.args.terms.now c.leaves_differ.ensures.table c.args.anchor.now bound _ _ zip leaves).1 h.variables ∙ sym c.deref.ensures.value)))
 
 pub returns-then-not-branch-clause-none : goal.returns-then-not-branch-clause-none
 returns-then-not-branch-clause-none c bs t u bound refers right zip h =
@@ -28,7 +28,7 @@ returns-clause-values c bs t u bound refers right zip =
     let leaves = leaves_of c.args.symbols.now c.args.terms.now _ _ bs bindings in
     let free = (rw (same, c.deref-2.ensures.value) at c.in_ok-none_free.ensures.free) _ u leaves right in (
       record {
-        variables = (variables_same c.args.symbols.now c.args.terms.now c.count-leaves.ensures.table c.args.anchor.now bound _ _ zip leaves).0
+        variables = (variables_same c.args.symbols.now c.args.terms.now c.leaves_differ.ensures.table c.args.anchor.now bound _ _ zip leaves).0
             (c.binds_in_order.ensures.0 c.if-not-binds_in_order.false ∙ c.deref.ensures.value);
         hidden = free.0 c.if-not-branch.false;
       },

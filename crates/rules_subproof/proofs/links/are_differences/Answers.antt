@@ -30,7 +30,7 @@ values-preserved-then-eq c =
       c.values.invariant.1,
       λ of ts bound stands zip others.
           same_next s v x _ a _ _ (clauses_at of (drop c.values.used c.args.premises.now))
-          (λ t u l r. (c.equal_exactly_where_terms_are.ensures s c.count-leaves.ensures.table x a.1 t u l r).0 (eqb-true _ _ (sym c.eq.ensures ∙ c.if-eq.true)))
+          (λ t u l r. (c.equal_exactly_where_terms_are.ensures s c.leaves_differ.ensures.table x a.1 t u l r).0 (eqb-true _ _ (sym c.eq.ensures ∙ c.if-eq.true)))
           (left_here s v _ c.args.values.now c.args.anchor.now c.values.place x a _
           (drop_here c.args.values.now c.values.place x below c.index-values-place.is)
           (drop_more c.args.anchor.now c.values.place c.index-anchor-place.result (omega arith))
@@ -53,7 +53,7 @@ returns-then-used-premises-clause-linked c of ts bound stands zip others =
     (c.values.invariant.2 of ts bound stands zip others) in (
       λ e. absurd (not_true e),
       λ g. absurd (none_left s v x _ a _ _
-          (λ t u l r e. not_true (sym c.if-eq.false ∙ (c.eq.ensures ∙ eq-eqb _ _ ((c.equal_exactly_where_terms_are.ensures s c.count-leaves.ensures.table x a.1 t u l r).1 e))))
+          (λ t u l r e. not_true (sym c.if-eq.false ∙ (c.eq.ensures ∙ eq-eqb _ _ ((c.equal_exactly_where_terms_are.ensures s c.leaves_differ.ensures.table x a.1 t u l r).1 e))))
           (left_by s v of (drop c.values.used c.args.premises.now) _ _ _ _ (drop_all c.values.used c.args.premises.now (omega arith)) here) g),
     )
 
@@ -75,7 +75,7 @@ returns-then-not-equates-clause-linked c of ts bound stands zip others =
     (c.values.invariant.2 of ts bound stands zip others) in (
       λ e. absurd (not_true e),
       λ g. absurd (other_used s v x _ a _ _ (clause_at of (get_or c.args.premises.now c.values.used 0)) (clauses_at of (drop (c.values.used + 1) c.args.premises.now))
-          (λ t u l r e. not_true (sym c.if-eq.false ∙ (c.eq.ensures ∙ eq-eqb _ _ ((c.equal_exactly_where_terms_are.ensures s c.count-leaves.ensures.table x a.1 t u l r).1 e))))
+          (λ t u l r e. not_true (sym c.if-eq.false ∙ (c.eq.ensures ∙ eq-eqb _ _ ((c.equal_exactly_where_terms_are.ensures s c.leaves_differ.ensures.table x a.1 t u l r).1 e))))
           (λ t u l r e. not_true (subst IsTrue c.if-not-equates.true ((is of t u stands l r).1 e)))
           (left_by s v of (drop c.values.used c.args.premises.now) _ _ _ _ (drop_more c.args.premises.now c.values.used 0 (omega arith)) here) g),
     )
@@ -95,7 +95,7 @@ values-preserved c =
       omega arith,
       λ of ts bound stands zip others.
           used_next s v x _ a _ _ (clause_at of (get_or c.args.premises.now c.values.used 0)) (clauses_at of (drop (c.values.used + 1) c.args.premises.now))
-          (λ t u l r e. not_true (sym c.if-eq.false ∙ (c.eq.ensures ∙ eq-eqb _ _ ((c.equal_exactly_where_terms_are.ensures s c.count-leaves.ensures.table x a.1 t u l r).1 e))))
+          (λ t u l r e. not_true (sym c.if-eq.false ∙ (c.eq.ensures ∙ eq-eqb _ _ ((c.equal_exactly_where_terms_are.ensures s c.leaves_differ.ensures.table x a.1 t u l r).1 e))))
           (λ t u l r. (is of t u stands l r).0 c.if-not-equates.false)
           (left_by s v of (drop c.values.used c.args.premises.now) _ _ _ _ (drop_more c.args.premises.now c.values.used 0 (omega arith))
           (left_here s v _ c.args.values.now c.args.anchor.now c.values.place x a _

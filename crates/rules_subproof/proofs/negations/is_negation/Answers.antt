@@ -13,7 +13,7 @@ returns-in_default-clause-negation c t u refers others =
 pub returns-clause-negation : goal.returns-clause-negation
 returns-clause-negation c t u refers others =
     let under = c.in-Some.ensures.under t refers in
-    let equal = c.equal_exactly_where_terms_are.ensures c.args.symbols.now c.count-leaves.ensures.table c.in-Some.inner c.args.term under.inner u under.refers others in (
+    let equal = c.equal_exactly_where_terms_are.ensures c.args.symbols.now c.leaves_differ.ensures.table c.in-Some.inner c.args.term under.inner u under.refers others in (
       λ e. under.is ∙ ap not_of (equal.0 (eqb-true c.in-Some.inner c.args.term (sym c.eq.ensures ∙ e))),
       λ e. c.eq.ensures ∙ eq-eqb c.in-Some.inner c.args.term (equal.1 (same_inner t under.inner u under.is e)),
     )

@@ -10,5 +10,5 @@ pub returns-clause-added : goal.returns-clause-added
 returns-clause-added c =
     on_ok_weaker c.add.result
     (λ adds premises clause zip told.
-    told_one c.args.symbols.now c.args.terms.now (λ p q a b g h. c.equal_exactly_where_terms_are.ensures c.args.symbols.now c.count-leaves.ensures.table p q a b g h)
+    told_one c.args.symbols.now c.args.terms.now (λ p q a b g h. c.equal_exactly_where_terms_are.ensures c.args.symbols.now c.leaves_differ.ensures.table p q a b g h)
     c.args.table.now.keys c.add.new.table.keys premises clause c.in-Some.sides adds (c.in-Some.ensures.sides clause zip) told) c.add.ensures

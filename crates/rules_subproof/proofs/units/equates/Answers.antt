@@ -26,16 +26,16 @@ returns-then-not-are_identical-clause-equates c of t u stands l r =
       λ e. absurd (not_true e),
       λ e. absurd
           (not_true (subst IsTrue c.if-not-are_identical.true (c.are_identical.ensures.1
-          (first_same c.args.symbols.now c.args.terms.now (λ p q a b g h. c.equal_exactly_where_terms_are.ensures c.args.symbols.now c.count-leaves.ensures.table p q a b g h)
+          (first_same c.args.symbols.now c.args.terms.now (λ p q a b g h. c.equal_exactly_where_terms_are.ensures c.args.symbols.now c.leaves_differ.ensures.table p q a b g h)
           c.in-Some.sides c.args.left c.args.right t u (clause_at of c.args.j) unit l r e)))),
     )
 
 pub returns-clause-equates : goal.returns-clause-equates
 returns-clause-equates c of t u stands l r =
     let unit = (rw c.clause.ensures at c.in-Some.ensures.sides) (clause_at of c.args.j) (c.terms_correspond.ensures.clause c.args.symbols.now c.args.terms.now c.args.proof.now of c.args.j stands) in (
-      λ e. both_same c.args.symbols.now c.args.terms.now (λ p q a b g h. c.equal_exactly_where_terms_are.ensures c.args.symbols.now c.count-leaves.ensures.table p q a b g h)
+      λ e. both_same c.args.symbols.now c.args.terms.now (λ p q a b g h. c.equal_exactly_where_terms_are.ensures c.args.symbols.now c.leaves_differ.ensures.table p q a b g h)
           c.in-Some.sides c.args.left c.args.right t u (clause_at of c.args.j) unit l r (c.are_identical.ensures.0 c.if-not-are_identical.false) (c.are_identical-2.ensures.0 e),
       λ e. c.are_identical-2.ensures.1
-          (second_same c.args.symbols.now c.args.terms.now (λ p q a b g h. c.equal_exactly_where_terms_are.ensures c.args.symbols.now c.count-leaves.ensures.table p q a b g h)
+          (second_same c.args.symbols.now c.args.terms.now (λ p q a b g h. c.equal_exactly_where_terms_are.ensures c.args.symbols.now c.leaves_differ.ensures.table p q a b g h)
           c.in-Some.sides c.args.left c.args.right t u (clause_at of c.args.j) unit l r e),
     )

@@ -9,7 +9,7 @@ pub returns-in-Found-clause-sort : goal.returns-in-Found-clause-sort
 returns-in-Found-clause-sort c =
     let w = c.down.invariant.1 in
     let found = rw c.down.invariant.0 at c.in-Found.ensures.step in
-    way_end c.args.symbols.now c.args.terms.now c.count-leaves.ensures.table c.equal_exactly_where_terms_are.ensures c.args.r c.down.at c.down.passed c.in-Found.sort w (found w.here w.sort w.here_refers w.here_of)
+    way_end c.args.symbols.now c.args.terms.now c.leaves_differ.ensures.table c.equal_exactly_where_terms_are.ensures c.args.r c.down.at c.down.passed c.in-Found.sort w (found w.here w.sort w.here_refers w.here_of)
 
 pub overflow_add-passed : goal.overflow_add-passed
 overflow_add-passed c =
@@ -20,5 +20,5 @@ down-preserved c =
     let w = c.down.invariant.1 in
     let found = rw c.down.invariant.0 at c.in-Below.ensures.step in (
       c.look_down.ensures.same ∙ c.down.invariant.0,
-      way_down c.args.symbols.now c.args.terms.now c.count-leaves.ensures.table c.equal_exactly_where_terms_are.ensures c.args.r c.down.at c.in-Below.lower c.down.passed c.in-Below.ensures.number w (found w.here w.sort w.here_refers w.here_of),
+      way_down c.args.symbols.now c.args.terms.now c.leaves_differ.ensures.table c.equal_exactly_where_terms_are.ensures c.args.r c.down.at c.in-Below.lower c.down.passed c.in-Below.ensures.number w (found w.here w.sort w.here_refers w.here_of),
     )

@@ -20,7 +20,7 @@ commands-init c = record {
 pub status_at-requires-clause-sorted : goal.status_at-requires-clause-sorted
 status_at-requires-clause-sorted c =
     sorted_later c.proofs_stay.ensures c.args.subject.now.symbols.now c.args.terms.now c.commands.terms c.commands.invariant.keeps c.args.subject.now.proof.now
-    c.proofs_stand_for_one.ensures.one c.count-leaves.ensures.table c.one_to_one.ensures (some_stand _ _ _ _ c.requires.kept) c.commands.i (λ of stand. c.requires.sorted of c.commands.i stand)
+    c.proofs_stand_for_one.ensures.one c.leaves_differ.ensures.table c.one_to_one.ensures (some_stand _ _ _ _ c.requires.kept) c.commands.i (λ of stand. c.requires.sorted of c.commands.i stand)
 
 pub returns-in-Err-clause-placed : goal.returns-in-Err-clause-placed
 returns-in-Err-clause-placed c =

@@ -30,7 +30,7 @@ expand-returns-in-Some-clause-value t c = λ u q refers says.
     let a = c.args.expansion.now.assignments in
     let same = c.needs_of.ensures.same in
     lemma.expands_moved s v w w a c.args.r c.in-Some.term.now same
-    (lemma.remembered s w a c.args.r c.in-Some.term.now c.deref.result.now c.in_ok-key.key c.args.expansion.now.done (c.equal_exactly_where_terms_are.ensures s c.count-leaves.ensures.table)
+    (lemma.remembered s w a c.args.r c.in-Some.term.now c.deref.result.now c.in_ok-key.key c.args.expansion.now.done (c.equal_exactly_where_terms_are.ensures s c.leaves_differ.ensures.table)
     (lemma.are_done_moved s v w c.args.expansion.now.done same c.requires.expansion.done) c.in_ok-key.ensures c.in-Some.ensures.value)
     u q refers says
 
@@ -61,7 +61,7 @@ expand-returns-clause-expansion t c =
       needs = c.in_ok-term.ensures.expansion.needs;
       done =
           lemma.noted s z c.in_ok-term.term c.in_ok-key.key c.expand_anew.new.expansion.done c.insert.new.self c.in_ok-term.ensures.expansion.done
-          (lemma.has_become s w z c.args.expansion.now.assignments c.args.r c.in_ok-term.term c.deref.result.now c.in_ok-key.key (c.equal_exactly_where_terms_are.ensures s c.count-leaves.ensures.table) c.expand_anew.ensures.keeps
+          (lemma.has_become s w z c.args.expansion.now.assignments c.args.r c.in_ok-term.term c.deref.result.now c.in_ok-key.key (c.equal_exactly_where_terms_are.ensures s c.leaves_differ.ensures.table) c.expand_anew.ensures.keeps
           (lemma.said_moved s c.args.terms.now w c.args.expansion.now.assignments c.args.r c.needs_of.ensures.same c.requires.said)
           (lemma.has_needs_moved s c.args.terms.now w c.args.r c.in_ok-leaves.leaves.items c.deref.result.now c.needs_of.ensures.same c.deref.ensures.value c.in_ok-leaves.ensures.leaves)
           c.in_ok-key.ensures c.in_ok-term.ensures.value)
@@ -122,10 +122,10 @@ expand_anew-expand_application-requires t c =
     let v = c.args.terms.now in
     let w = c.head_of.new.terms in
     let same = c.head_of.ensures.same in
-    let application = λ (u : Term) (refers : RefersTo s v c.args.r u). c.in-Some.ensures.application s u c.count-leaves.ensures.table refers in (
+    let application = λ (u : Term) (refers : RefersTo s v c.args.r u). c.in-Some.ensures.application s u c.leaves_differ.ensures.table refers in (
       omega arith,
       (
-        cell_no_variable s v w c.args.r c.in-Some.head same (omega (arith, c.count-leaves.ensures.count, c.count-leaves.ensures.few)) c.requires.cell
+        cell_no_variable s v w c.args.r c.in-Some.head same c.leaves_differ.ensures.few c.requires.cell
             (c.in-Some.ensures.variable s) application,
         (
           λ u refers. application u (refers_back s v w c.args.r u same refers),
@@ -142,7 +142,7 @@ expand_anew-expand_let-requires t c =
     let same = c.head_of.ensures.same in (
       omega arith,
       (
-        λ u refers. c.in-None.ensures.let_term s u c.count-leaves.ensures.table (refers_back s v w c.args.r u same refers),
+        λ u refers. c.in-None.ensures.let_term s u c.leaves_differ.ensures.table (refers_back s v w c.args.r u same refers),
         (heights.low_moved s v w c.args.most c.args.r same c.requires.low, (lemma.said_moved s v w c.args.expansion.now.assignments c.args.r same c.requires.said, lemma.expansion_moved s v w _ same c.requires.expansion)),
       ),
     )
@@ -210,7 +210,7 @@ expand_application-returns-in_err-arguments-clause-full t c =
 pub expand_application-app-requires-clause-head : goal.expand_application-app-requires-clause-head
 expand_application-app-requires-clause-head t c =
     let u = c.requires.said in
-    head_within c.args.symbols.now c.args.head (arguments_of u.means) u.means (c.requires.head u.means u.refers) (omega (arith, c.count-leaves.ensures.count, c.count-leaves.ensures.few))
+    head_within c.args.symbols.now c.args.head (arguments_of u.means) u.means (c.requires.head u.means u.refers) c.leaves_differ.ensures.few
 
 pub expand_application-app-requires-clause-args : goal.expand_application-app-requires-clause-args
 expand_application-app-requires-clause-args t c =
@@ -234,7 +234,7 @@ expand_application-returns-in_err-app-clause-placed t c =
     let w = c.expand_all.new.terms in
     let z = c.app.new.self in
     lemma.application_placed s v a c.args.r c.args.head list c.requires.head (arguments_refer s v c.args.r c.args.head list c.requires.head c.in_ok-list.ensures.arguments)
-    c.count-leaves.ensures.table c.trees_are_built_of_parts.ensures.application c.trees_of_terms.ensures.one_tree c.requires.no_variable w z c.deref-2.result.now (subst (λ (is : List ℕ). ExpandsAll (both c.args.symbols.now c.args.terms.now) c.expand_all.new.terms c.args.expansion.now.assignments c.in_ok-list.list.items is) (sym c.deref-2.ensures.value)
+    c.leaves_differ.ensures.table c.trees_are_built_of_parts.ensures.application c.trees_of_terms.ensures.one_tree c.requires.no_variable w z c.deref-2.result.now (subst (λ (is : List ℕ). ExpandsAll (both c.args.symbols.now c.args.terms.now) c.expand_all.new.terms c.args.expansion.now.assignments c.in_ok-list.list.items is) (sym c.deref-2.ensures.value)
     (lemma.all_expand_moved c.args.symbols.now c.args.terms.now c.arguments_of.new.terms c.expand_all.new.terms c.args.expansion.now.assignments c.in_ok-list.list.items c.deref.result.now c.in_ok-arguments.arguments.items c.arguments_of.ensures.same c.deref.ensures.value c.in_ok-arguments.ensures.value)) c.app.ensures.keeps
     (lemma.all_placed_moved s v c.arguments_of.new.terms w a list c.deref.result.now c.arguments_of.ensures.same c.deref.ensures.value c.in_ok-arguments.ensures.placed)
     (λ ts known. (c.in_err-app.ensures.full ts known).placed)
@@ -250,7 +250,7 @@ expand_application-returns-in_err-app-clause-full t c =
     let e = err_from_is_err_and c.from_residual-in_err-app.result c.from_residual-in_err-app.ensures.1 in
     rw (e.1, e.2) (λ full.
     lemma.application_full s v a c.args.r c.args.head list c.requires.head (arguments_refer s v c.args.r c.args.head list c.requires.head c.in_ok-list.ensures.arguments)
-    c.count-leaves.ensures.table c.trees_are_built_of_parts.ensures.application c.trees_of_terms.ensures.one_tree c.requires.no_variable w z c.deref-2.result.now (subst (λ (is : List ℕ). ExpandsAll (both c.args.symbols.now c.args.terms.now) c.expand_all.new.terms c.args.expansion.now.assignments c.in_ok-list.list.items is) (sym c.deref-2.ensures.value)
+    c.leaves_differ.ensures.table c.trees_are_built_of_parts.ensures.application c.trees_of_terms.ensures.one_tree c.requires.no_variable w z c.deref-2.result.now (subst (λ (is : List ℕ). ExpandsAll (both c.args.symbols.now c.args.terms.now) c.expand_all.new.terms c.args.expansion.now.assignments c.in_ok-list.list.items is) (sym c.deref-2.ensures.value)
     (lemma.all_expand_moved c.args.symbols.now c.args.terms.now c.arguments_of.new.terms c.expand_all.new.terms c.args.expansion.now.assignments c.in_ok-list.list.items c.deref.result.now c.in_ok-arguments.arguments.items c.arguments_of.ensures.same c.deref.ensures.value c.in_ok-arguments.ensures.value))
     (λ ts known. (c.in_err-app.ensures.full ts known).full))
 
@@ -263,7 +263,7 @@ expand_application-returns-clause-value t c =
     let w = c.expand_all.new.terms in
     let z = c.app.new.self in
     lemma.application_is s v a c.args.r c.args.head list c.requires.head (arguments_refer s v c.args.r c.args.head list c.requires.head c.in_ok-list.ensures.arguments)
-    c.count-leaves.ensures.table c.trees_are_built_of_parts.ensures.application c.trees_of_terms.ensures.one_tree c.requires.no_variable w z c.deref-2.result.now (subst (λ (is : List ℕ). ExpandsAll (both c.args.symbols.now c.args.terms.now) c.expand_all.new.terms c.args.expansion.now.assignments c.in_ok-list.list.items is) (sym c.deref-2.ensures.value)
+    c.leaves_differ.ensures.table c.trees_are_built_of_parts.ensures.application c.trees_of_terms.ensures.one_tree c.requires.no_variable w z c.deref-2.result.now (subst (λ (is : List ℕ). ExpandsAll (both c.args.symbols.now c.args.terms.now) c.expand_all.new.terms c.args.expansion.now.assignments c.in_ok-list.list.items is) (sym c.deref-2.ensures.value)
     (lemma.all_expand_moved c.args.symbols.now c.args.terms.now c.arguments_of.new.terms c.expand_all.new.terms c.args.expansion.now.assignments c.in_ok-list.list.items c.deref.result.now c.in_ok-arguments.arguments.items c.arguments_of.ensures.same c.deref.ensures.value c.in_ok-arguments.ensures.value)) c.in_ok-app.field-0
     (λ ts u refer is. c.in_ok-app.ensures.term s ts u refer is)
 
@@ -276,7 +276,7 @@ expand_application-returns-clause-placed t c =
     let w = c.expand_all.new.terms in
     let z = c.app.new.self in
     lemma.application_placed s v a c.args.r c.args.head list c.requires.head (arguments_refer s v c.args.r c.args.head list c.requires.head c.in_ok-list.ensures.arguments)
-    c.count-leaves.ensures.table c.trees_are_built_of_parts.ensures.application c.trees_of_terms.ensures.one_tree c.requires.no_variable w z c.deref-2.result.now (subst (λ (is : List ℕ). ExpandsAll (both c.args.symbols.now c.args.terms.now) c.expand_all.new.terms c.args.expansion.now.assignments c.in_ok-list.list.items is) (sym c.deref-2.ensures.value)
+    c.leaves_differ.ensures.table c.trees_are_built_of_parts.ensures.application c.trees_of_terms.ensures.one_tree c.requires.no_variable w z c.deref-2.result.now (subst (λ (is : List ℕ). ExpandsAll (both c.args.symbols.now c.args.terms.now) c.expand_all.new.terms c.args.expansion.now.assignments c.in_ok-list.list.items is) (sym c.deref-2.ensures.value)
     (lemma.all_expand_moved c.args.symbols.now c.args.terms.now c.arguments_of.new.terms c.expand_all.new.terms c.args.expansion.now.assignments c.in_ok-list.list.items c.deref.result.now c.in_ok-arguments.arguments.items c.arguments_of.ensures.same c.deref.ensures.value c.in_ok-arguments.ensures.value)) c.app.ensures.keeps
     (lemma.all_placed_moved s v c.arguments_of.new.terms w a list c.deref.result.now c.arguments_of.ensures.same c.deref.ensures.value c.in_ok-arguments.ensures.placed)
     (λ ts known. (c.in_ok-app.ensures.built ts known).placed)
@@ -308,7 +308,7 @@ expand_let-expand_all-requires t c =
         heights.all_low_moved s v c.let_work.new.terms (c.args.most - 1) g.values.items c.deref.result.now same c.deref.ensures.value c.in_ok-work.ensures.values_low,
         (
           lemma.all_said_moved s v c.let_work.new.terms a g.values.items c.deref.result.now same c.deref.ensures.value
-              (lemma.values_said s v a c.args.r c.in_ok-work.work.body g.variables.items g.values.items c.count-leaves.ensures.table c.in_ok-work.ensures.work c.requires.said),
+              (lemma.values_said s v a c.args.r c.in_ok-work.work.body g.variables.items g.values.items c.leaves_differ.ensures.table c.in_ok-work.ensures.work c.requires.said),
           record {
             needs = subst (λ (x : TermsView). AreNeeds (both s x) c.let_work.new.needs.leaves) (sym same) c.in_ok-work.ensures.needs;
             done = lemma.are_done_moved s v c.let_work.new.terms c.args.expansion.now.done same c.requires.expansion.done;
@@ -324,7 +324,7 @@ expand_let-returns-in_err-list-clause-placed t c =
     let a = c.args.expansion.now.assignments in
     let g = c.in_ok-work.work.given in
     let z = c.expand_all.new.terms in
-    lemma.values_placed s v a c.args.r c.in_ok-work.work.body g.variables.items g.values.items c.count-leaves.ensures.table c.in_ok-work.ensures.work z
+    lemma.values_placed s v a c.args.r c.in_ok-work.work.body g.variables.items g.values.items c.leaves_differ.ensures.table c.in_ok-work.ensures.work z
     (lemma.all_placed_moved s v c.let_work.new.terms z a g.values.items c.deref.result.now c.let_work.ensures.same c.deref.ensures.value c.in_err-list.ensures.placed)
 
 pub expand_let-returns-in_err-list-clause-full : goal.expand_let-returns-in_err-list-clause-full
@@ -336,7 +336,7 @@ expand_let-returns-in_err-list-clause-full t c =
     let z = c.expand_all.new.terms in
     let e = err_from_is_err_and c.from_residual-in_err-list.result c.from_residual-in_err-list.ensures.1 in
     rw (e.1, e.2) (λ full.
-    lemma.values_full s v a c.args.r c.in_ok-work.work.body g.variables.items g.values.items c.count-leaves.ensures.table c.in_ok-work.ensures.work z
+    lemma.values_full s v a c.args.r c.in_ok-work.work.body g.variables.items g.values.items c.leaves_differ.ensures.table c.in_ok-work.ensures.work z
     (lemma.all_fill_moved s v c.let_work.new.terms z a g.values.items c.deref.result.now c.let_work.ensures.same c.deref.ensures.value (c.in_err-list.ensures.full full)))
 
 pub expand_let-returns-in_err-assign-clause-placed : goal.expand_let-returns-in_err-assign-clause-placed
@@ -346,7 +346,7 @@ expand_let-returns-in_err-assign-clause-placed t c =
     let a = c.args.expansion.now.assignments in
     let g = c.in_ok-work.work.given in
     let z = c.expand_all.new.terms in
-    lemma.values_placed s v a c.args.r c.in_ok-work.work.body g.variables.items g.values.items c.count-leaves.ensures.table c.in_ok-work.ensures.work z
+    lemma.values_placed s v a c.args.r c.in_ok-work.work.body g.variables.items g.values.items c.leaves_differ.ensures.table c.in_ok-work.ensures.work z
     (lemma.all_placed_moved s v c.let_work.new.terms z a g.values.items c.deref.result.now c.let_work.ensures.same c.deref.ensures.value c.in_ok-list.ensures.placed)
 
 pub expand_let-expand-requires : goal.expand_let-expand-requires
@@ -363,7 +363,7 @@ expand_let-expand-requires t c =
         heights.low_grow s v z (c.args.most - 1) c.in_ok-work.work.body keeps c.in_ok-work.ensures.body_low,
         (
           subst (λ (b : List Assigned). IsSaid (both s z) b c.in_ok-work.work.body) (sym (c.in_ok-assign.ensures ∙ assigned_same c.deref-2.result.now c.in_ok-work.work.given.variables.items c.deref-3.result.now c.in_ok-list.list.items c.expand_all.new.expansion.assignments c.args.expansion.now.assignments c.deref-2.ensures.value c.deref-3.ensures.value c.in_ok-list.ensures.assignments))
-              (lemma.body_said s v a c.args.r c.in_ok-work.work.body g.variables.items g.values.items c.count-leaves.ensures.table c.in_ok-work.ensures.work z (subst (λ (x : TermsView). KeepsTerms x c.expand_all.new.terms) c.let_work.ensures.same c.expand_all.ensures.keeps) c.in_ok-list.list.items (lemma.all_expand_moved c.args.symbols.now c.args.terms.now c.let_work.new.terms c.expand_all.new.terms c.args.expansion.now.assignments c.in_ok-work.work.given.values.items c.deref.result.now c.in_ok-list.list.items c.let_work.ensures.same c.deref.ensures.value c.in_ok-list.ensures.value) c.requires.said),
+              (lemma.body_said s v a c.args.r c.in_ok-work.work.body g.variables.items g.values.items c.leaves_differ.ensures.table c.in_ok-work.ensures.work z (subst (λ (x : TermsView). KeepsTerms x c.expand_all.new.terms) c.let_work.ensures.same c.expand_all.ensures.keeps) c.in_ok-list.list.items (lemma.all_expand_moved c.args.symbols.now c.args.terms.now c.let_work.new.terms c.expand_all.new.terms c.args.expansion.now.assignments c.in_ok-work.work.given.values.items c.deref.result.now c.in_ok-list.list.items c.let_work.ensures.same c.deref.ensures.value c.in_ok-list.ensures.value) c.requires.said),
           record { needs = c.in_ok-list.ensures.expansion.needs; done = c.in_ok-list.ensures.expansion.done },
         ),
       ),
@@ -377,7 +377,7 @@ expand_let-returns-in_err-body-clause-placed t c =
     let g = c.in_ok-work.work.given in
     let z = c.expand_all.new.terms in
     let y = c.expand.new.terms in
-    lemma.let_placed s v a c.args.r c.in_ok-work.work.body g.variables.items g.values.items c.count-leaves.ensures.table c.in_ok-work.ensures.work z (subst (λ (x : TermsView). KeepsTerms x c.expand_all.new.terms) c.let_work.ensures.same c.expand_all.ensures.keeps) c.in_ok-list.list.items (lemma.all_expand_moved c.args.symbols.now c.args.terms.now c.let_work.new.terms c.expand_all.new.terms c.args.expansion.now.assignments c.in_ok-work.work.given.values.items c.deref.result.now c.in_ok-list.list.items c.let_work.ensures.same c.deref.ensures.value c.in_ok-list.ensures.value) y c.expand.ensures.keeps
+    lemma.let_placed s v a c.args.r c.in_ok-work.work.body g.variables.items g.values.items c.leaves_differ.ensures.table c.in_ok-work.ensures.work z (subst (λ (x : TermsView). KeepsTerms x c.expand_all.new.terms) c.let_work.ensures.same c.expand_all.ensures.keeps) c.in_ok-list.list.items (lemma.all_expand_moved c.args.symbols.now c.args.terms.now c.let_work.new.terms c.expand_all.new.terms c.args.expansion.now.assignments c.in_ok-work.work.given.values.items c.deref.result.now c.in_ok-list.list.items c.let_work.ensures.same c.deref.ensures.value c.in_ok-list.ensures.value) y c.expand.ensures.keeps
     (lemma.all_placed_moved s v c.let_work.new.terms z a g.values.items c.deref.result.now c.let_work.ensures.same c.deref.ensures.value c.in_ok-list.ensures.placed)
     (subst (λ (b : List Assigned). PlacesOne (both s z) y b c.in_ok-work.work.body) (c.in_ok-assign.ensures ∙ assigned_same c.deref-2.result.now c.in_ok-work.work.given.variables.items c.deref-3.result.now c.in_ok-list.list.items c.expand_all.new.expansion.assignments c.args.expansion.now.assignments c.deref-2.ensures.value c.deref-3.ensures.value c.in_ok-list.ensures.assignments) c.in_err-body.ensures.placed)
 
@@ -391,7 +391,7 @@ expand_let-returns-in_err-body-clause-full t c =
     let y = c.expand.new.terms in
     let e = err_from_is_err_and c.from_residual-in_err-body.result c.from_residual-in_err-body.ensures.1 in
     rw (e.1, e.2) (λ full.
-    lemma.let_full s v a c.args.r c.in_ok-work.work.body g.variables.items g.values.items c.count-leaves.ensures.table c.in_ok-work.ensures.work z (subst (λ (x : TermsView). KeepsTerms x c.expand_all.new.terms) c.let_work.ensures.same c.expand_all.ensures.keeps) c.in_ok-list.list.items (lemma.all_expand_moved c.args.symbols.now c.args.terms.now c.let_work.new.terms c.expand_all.new.terms c.args.expansion.now.assignments c.in_ok-work.work.given.values.items c.deref.result.now c.in_ok-list.list.items c.let_work.ensures.same c.deref.ensures.value c.in_ok-list.ensures.value) y
+    lemma.let_full s v a c.args.r c.in_ok-work.work.body g.variables.items g.values.items c.leaves_differ.ensures.table c.in_ok-work.ensures.work z (subst (λ (x : TermsView). KeepsTerms x c.expand_all.new.terms) c.let_work.ensures.same c.expand_all.ensures.keeps) c.in_ok-list.list.items (lemma.all_expand_moved c.args.symbols.now c.args.terms.now c.let_work.new.terms c.expand_all.new.terms c.args.expansion.now.assignments c.in_ok-work.work.given.values.items c.deref.result.now c.in_ok-list.list.items c.let_work.ensures.same c.deref.ensures.value c.in_ok-list.ensures.value) y
     (subst (λ (b : List Assigned). FillsOne (both s z) y b c.in_ok-work.work.body) (c.in_ok-assign.ensures ∙ assigned_same c.deref-2.result.now c.in_ok-work.work.given.variables.items c.deref-3.result.now c.in_ok-list.list.items c.expand_all.new.expansion.assignments c.args.expansion.now.assignments c.deref-2.ensures.value c.deref-3.ensures.value c.in_ok-list.ensures.assignments) (c.in_err-body.ensures.full full)))
 
 pub expand_let-take_back-requires : goal.expand_let-take_back-requires
@@ -406,7 +406,7 @@ expand_let-returns-in_err-take_back-clause-placed t c =
     let g = c.in_ok-work.work.given in
     let z = c.expand_all.new.terms in
     let y = c.expand.new.terms in
-    lemma.let_placed s v a c.args.r c.in_ok-work.work.body g.variables.items g.values.items c.count-leaves.ensures.table c.in_ok-work.ensures.work z (subst (λ (x : TermsView). KeepsTerms x c.expand_all.new.terms) c.let_work.ensures.same c.expand_all.ensures.keeps) c.in_ok-list.list.items (lemma.all_expand_moved c.args.symbols.now c.args.terms.now c.let_work.new.terms c.expand_all.new.terms c.args.expansion.now.assignments c.in_ok-work.work.given.values.items c.deref.result.now c.in_ok-list.list.items c.let_work.ensures.same c.deref.ensures.value c.in_ok-list.ensures.value) y c.expand.ensures.keeps
+    lemma.let_placed s v a c.args.r c.in_ok-work.work.body g.variables.items g.values.items c.leaves_differ.ensures.table c.in_ok-work.ensures.work z (subst (λ (x : TermsView). KeepsTerms x c.expand_all.new.terms) c.let_work.ensures.same c.expand_all.ensures.keeps) c.in_ok-list.list.items (lemma.all_expand_moved c.args.symbols.now c.args.terms.now c.let_work.new.terms c.expand_all.new.terms c.args.expansion.now.assignments c.in_ok-work.work.given.values.items c.deref.result.now c.in_ok-list.list.items c.let_work.ensures.same c.deref.ensures.value c.in_ok-list.ensures.value) y c.expand.ensures.keeps
     (lemma.all_placed_moved s v c.let_work.new.terms z a g.values.items c.deref.result.now c.let_work.ensures.same c.deref.ensures.value c.in_ok-list.ensures.placed)
     (subst (λ (b : List Assigned). PlacesOne (both s z) y b c.in_ok-work.work.body) (c.in_ok-assign.ensures ∙ assigned_same c.deref-2.result.now c.in_ok-work.work.given.variables.items c.deref-3.result.now c.in_ok-list.list.items c.expand_all.new.expansion.assignments c.args.expansion.now.assignments c.deref-2.ensures.value c.deref-3.ensures.value c.in_ok-list.ensures.assignments) c.in_ok-body.ensures.placed)
 
@@ -418,7 +418,7 @@ expand_let-returns-clause-value t c =
     let g = c.in_ok-work.work.given in
     let z = c.expand_all.new.terms in
     let y = c.expand.new.terms in
-    lemma.let_expanded s v a c.args.r c.in_ok-work.work.body g.variables.items g.values.items c.count-leaves.ensures.table c.in_ok-work.ensures.work z (subst (λ (x : TermsView). KeepsTerms x c.expand_all.new.terms) c.let_work.ensures.same c.expand_all.ensures.keeps) c.in_ok-list.list.items (lemma.all_expand_moved c.args.symbols.now c.args.terms.now c.let_work.new.terms c.expand_all.new.terms c.args.expansion.now.assignments c.in_ok-work.work.given.values.items c.deref.result.now c.in_ok-list.list.items c.let_work.ensures.same c.deref.ensures.value c.in_ok-list.ensures.value) y c.in_ok-body.body
+    lemma.let_expanded s v a c.args.r c.in_ok-work.work.body g.variables.items g.values.items c.leaves_differ.ensures.table c.in_ok-work.ensures.work z (subst (λ (x : TermsView). KeepsTerms x c.expand_all.new.terms) c.let_work.ensures.same c.expand_all.ensures.keeps) c.in_ok-list.list.items (lemma.all_expand_moved c.args.symbols.now c.args.terms.now c.let_work.new.terms c.expand_all.new.terms c.args.expansion.now.assignments c.in_ok-work.work.given.values.items c.deref.result.now c.in_ok-list.list.items c.let_work.ensures.same c.deref.ensures.value c.in_ok-list.ensures.value) y c.in_ok-body.body
     (subst (λ (b : List Assigned). ExpandsOne (both s z) y b c.in_ok-work.work.body c.in_ok-body.body) (c.in_ok-assign.ensures ∙ assigned_same c.deref-2.result.now c.in_ok-work.work.given.variables.items c.deref-3.result.now c.in_ok-list.list.items c.expand_all.new.expansion.assignments c.args.expansion.now.assignments c.deref-2.ensures.value c.deref-3.ensures.value c.in_ok-list.ensures.assignments) c.in_ok-body.ensures.value)
 
 pub expand_let-returns-clause-placed : goal.expand_let-returns-clause-placed
@@ -429,7 +429,7 @@ expand_let-returns-clause-placed t c =
     let g = c.in_ok-work.work.given in
     let z = c.expand_all.new.terms in
     let y = c.expand.new.terms in
-    lemma.let_placed s v a c.args.r c.in_ok-work.work.body g.variables.items g.values.items c.count-leaves.ensures.table c.in_ok-work.ensures.work z (subst (λ (x : TermsView). KeepsTerms x c.expand_all.new.terms) c.let_work.ensures.same c.expand_all.ensures.keeps) c.in_ok-list.list.items (lemma.all_expand_moved c.args.symbols.now c.args.terms.now c.let_work.new.terms c.expand_all.new.terms c.args.expansion.now.assignments c.in_ok-work.work.given.values.items c.deref.result.now c.in_ok-list.list.items c.let_work.ensures.same c.deref.ensures.value c.in_ok-list.ensures.value) y c.expand.ensures.keeps
+    lemma.let_placed s v a c.args.r c.in_ok-work.work.body g.variables.items g.values.items c.leaves_differ.ensures.table c.in_ok-work.ensures.work z (subst (λ (x : TermsView). KeepsTerms x c.expand_all.new.terms) c.let_work.ensures.same c.expand_all.ensures.keeps) c.in_ok-list.list.items (lemma.all_expand_moved c.args.symbols.now c.args.terms.now c.let_work.new.terms c.expand_all.new.terms c.args.expansion.now.assignments c.in_ok-work.work.given.values.items c.deref.result.now c.in_ok-list.list.items c.let_work.ensures.same c.deref.ensures.value c.in_ok-list.ensures.value) y c.expand.ensures.keeps
     (lemma.all_placed_moved s v c.let_work.new.terms z a g.values.items c.deref.result.now c.let_work.ensures.same c.deref.ensures.value c.in_ok-list.ensures.placed)
     (subst (λ (b : List Assigned). PlacesOne (both s z) y b c.in_ok-work.work.body) (c.in_ok-assign.ensures ∙ assigned_same c.deref-2.result.now c.in_ok-work.work.given.variables.items c.deref-3.result.now c.in_ok-list.list.items c.expand_all.new.expansion.assignments c.args.expansion.now.assignments c.deref-2.ensures.value c.deref-3.ensures.value c.in_ok-list.ensures.assignments) c.in_ok-body.ensures.placed)
 

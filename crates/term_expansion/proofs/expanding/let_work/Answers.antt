@@ -23,7 +23,7 @@ returns-clause-work c =
     let p = c.in_ok-parts.parts in
     let g = c.in_ok-given.given in
     lemma.let_work_from c.args.symbols.now c.args.terms.now c.let_parts.new.terms c.needs_of.new.terms c.args.r p.body p.variables.items p.values.items c.deref.result.now c.deref-2.result.now c.in_ok-inside.inside.items c.deref-3.result.now g.variables.items g.values.items c.in_ok-values.values
-    c.count-leaves.ensures.table c.let_parts.ensures.same c.needs_of.ensures.same (c.equal_exactly_where_terms_are.ensures c.args.symbols.now c.count-leaves.ensures.table) c.requires.is_let c.in_ok-parts.ensures.bindings c.in_ok-parts.ensures.body c.in_ok-inside.ensures.leaves
+    c.leaves_differ.ensures.table c.let_parts.ensures.same c.needs_of.ensures.same (c.equal_exactly_where_terms_are.ensures c.args.symbols.now c.leaves_differ.ensures.table) c.requires.is_let c.in_ok-parts.ensures.bindings c.in_ok-parts.ensures.body c.in_ok-inside.ensures.leaves
     c.deref.ensures.value c.deref-2.ensures.value c.deref-3.ensures.value c.in_ok-values.ensures c.in_ok-given.ensures.given
 
 pub returns-clause-body_low : goal.returns-clause-body_low

@@ -19,7 +19,7 @@ add_needs_of-returns-clause-adds t c =
     on_ok_weaker c.add_all.result
     (λ adds u refers.
     lemma.needs-added c.args.symbols.now c.args.terms.now c.args.r c.in_ok-leaves.leaves.items c.args.found.now.keys c.add_all.new.found.keys u
-    (c.equal_exactly_where_terms_are.ensures c.args.symbols.now c.count-leaves.ensures.table) c.in_ok-leaves.ensures.leaves
+    (c.equal_exactly_where_terms_are.ensures c.args.symbols.now c.leaves_differ.ensures.table) c.in_ok-leaves.ensures.leaves
     (subst (λ ks. AddsUnbound ks [] c.args.found.now.keys c.add_all.new.found.keys) c.deref.ensures.value adds) refers)
     c.add_all.ensures
 
@@ -43,7 +43,7 @@ needs_anew-needs_of_let-requires t c = (
   (
     heights.low_moved _ _ _ _ _ c.head_of.ensures.same c.requires.low,
     (
-      λ u refers. c.in_default.ensures.let_term c.args.symbols.now u c.count-leaves.ensures.table (parts.refers_back _ _ _ c.args.r u c.head_of.ensures.same refers),
+      λ u refers. c.in_default.ensures.let_term c.args.symbols.now u c.leaves_differ.ensures.table (parts.refers_back _ _ _ c.args.r u c.head_of.ensures.same refers),
       lemma.needs_moved _ _ _ _ c.head_of.ensures.same c.requires.needs,
     ),
   ),
@@ -52,7 +52,7 @@ needs_anew-needs_of_let-requires t c = (
 pub needs_anew-is_variable-requires : goal.needs_anew-is_variable-requires
 needs_anew-is_variable-requires t c =
     let u = c.requires.low in
-    head_within c.args.symbols.now c.in-Some.head (arguments_of u.means) u.means (c.in-Some.ensures.application c.args.symbols.now u.means c.count-leaves.ensures.table u.refers)
+    head_within c.args.symbols.now c.in-Some.head (arguments_of u.means) u.means (c.in-Some.ensures.application c.args.symbols.now u.means c.leaves_differ.ensures.table u.refers)
 
 pub needs_anew-returns-then-is_variable-clause-adds : goal.needs_anew-returns-then-is_variable-clause-adds
 needs_anew-returns-then-is_variable-clause-adds t c =
@@ -60,7 +60,7 @@ needs_anew-returns-then-is_variable-clause-adds t c =
     on_ok_weaker c.add.result
     (λ one u refers.
     lemma.variable-needs c.args.symbols.now c.in-Some.head is.0 (arguments_of u) u c.args.found.now.keys c.add.new.set.keys is.1 one
-    (c.in-Some.ensures.application c.args.symbols.now u c.count-leaves.ensures.table refers))
+    (c.in-Some.ensures.application c.args.symbols.now u c.leaves_differ.ensures.table refers))
     c.add.ensures
 
 pub needs_anew-overflow_sub-most : goal.needs_anew-overflow_sub-most
@@ -75,7 +75,7 @@ needs_anew-needs_of_all-requires t c =
         heights.all_low_moved _ _ _ _ c.in_ok-list.list.items _ c.arguments_of.ensures.same c.deref.ensures.value
             (heights.arguments_low c.args.symbols.now c.head_of.new.terms c.args.most c.args.r c.in_ok-list.list.items (heights.low_moved _ _ _ _ _ c.head_of.ensures.same c.requires.low)
             (parts.arguments_refer c.args.symbols.now c.head_of.new.terms c.args.r c.in-Some.head c.in_ok-list.list.items
-            (λ u refers. c.in-Some.ensures.application c.args.symbols.now u c.count-leaves.ensures.table (parts.refers_back _ _ _ c.args.r u c.head_of.ensures.same refers)) c.in_ok-list.ensures.arguments)),
+            (λ u refers. c.in-Some.ensures.application c.args.symbols.now u c.leaves_differ.ensures.table (parts.refers_back _ _ _ c.args.r u c.head_of.ensures.same refers)) c.in_ok-list.ensures.arguments)),
         lemma.needs_moved _ _ _ _ same c.requires.needs,
       ),
     )
@@ -88,7 +88,7 @@ needs_anew-returns-clause-adds t c =
     let first : w ≡ v = c.head_of.ensures.same in
     on_ok_weaker c.needs_of_all.result
     (λ adds u refers.
-    let app = c.in-Some.ensures.application s u c.count-leaves.ensures.table refers in
+    let app = c.in-Some.ensures.application s u c.leaves_differ.ensures.table refers in
     lemma.application-needs s c.in-Some.head u c.args.found.now.keys c.needs_of_all.new.found.keys (c.is_variable.ensures.no c.if-is_variable.false) app
     (adds (arguments_of u)
     (refer_at s w c.arguments_of.new.terms c.in_ok-list.list.items c.deref.result.now (arguments_of u) c.arguments_of.ensures.same c.deref.ensures.value
@@ -165,7 +165,7 @@ needs_of_let-leaves-preserved-in-Some t c =
     (lemma.needed-variable s c.let_parts.new.terms p.body c.in_ok-inside.inside.items c.deref-k-items.result.now c.leaves.k-index c.in_ok-inside.ensures.leaves c.deref-k-items.ensures.value c.leaves-test.true)
     c.add_needs_of.ensures.same
     (λ bs y are leaf.
-    lemma.given-adds s c.leaves.terms c.count-leaves.ensures.table k c.in-Some.value.now p.variables.items p.values.items old new bs y are leaf (sym (by_leaves k) ∙ sym c.in-Some.ensures.value) c.in_ok-add_needs_of.ensures.adds)
+    lemma.given-adds s c.leaves.terms c.leaves_differ.ensures.table k c.in-Some.value.now p.variables.items p.values.items old new bs y are leaf (sym (by_leaves k) ∙ sym c.in-Some.ensures.value) c.in_ok-add_needs_of.ensures.adds)
     c.in_ok-add_needs_of.ensures.needs
 
 pub needs_of_let-leaves-preserved : goal.needs_of_let-leaves-preserved
@@ -181,7 +181,7 @@ needs_of_let-leaves-preserved t c =
     (lemma.needed-variable s c.let_parts.new.terms p.body c.in_ok-inside.inside.items c.deref-k-items.result.now c.leaves.k-index c.in_ok-inside.ensures.leaves c.deref-k-items.ensures.value c.leaves-test.true)
     refl
     (λ bs y are leaf.
-    lemma.unbound-adds s c.leaves.terms c.count-leaves.ensures.table k p.variables.items p.values.items old new bs y are leaf (sym (by_leaves k) ∙ sym c.in_default.ensures.value) c.in_ok-add.ensures)
+    lemma.unbound-adds s c.leaves.terms c.leaves_differ.ensures.table k p.variables.items p.values.items old new bs y are leaf (sym (by_leaves k) ∙ sym c.in_default.ensures.value) c.in_ok-add.ensures)
     (lemma.needs_moved _ _ _ _ c.leaves.invariant.same c.leaves.invariant.needs)
 
 pub needs_of_let-returns-clause-adds : goal.needs_of_let-returns-clause-adds
@@ -198,7 +198,7 @@ needs_of_let-returns-clause-adds t c = λ u refers.
     let (bs, body, e, let_refers) = parts.let_refers s v c.args.r u refers (c.requires.is_let u refers) in
     subst (λ (w : Term). AddsLeaves s old found (λ x. IsNeeded x w)) (sym e)
     (lemma.through-all s (take c.leaves.k-index list) old found bs body
-    (lemma.needs-at s v p.body (take c.leaves.k-index list) body (c.equal_exactly_where_terms_are.ensures s c.count-leaves.ensures.table) inside (c.in_ok-parts.ensures.body s bs body let_refers))
+    (lemma.needs-at s v p.body (take c.leaves.k-index list) body (c.equal_exactly_where_terms_are.ensures s c.leaves_differ.ensures.table) inside (c.in_ok-parts.ensures.body s bs body let_refers))
     (c.leaves.invariant.adds bs (c.in_ok-parts.ensures.bindings s bs body let_refers)))
 
 pub needs_of_let-returns-clause-needs : goal.needs_of_let-returns-clause-needs

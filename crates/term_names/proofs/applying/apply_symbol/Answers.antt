@@ -14,8 +14,7 @@ overflow_add-height c =
 pub app-requires-clause-head : goal.app-requires-clause-head
 app-requires-clause-head c =
     let (m, ts, symbol, values) = c.requires.symbol in
-    let count = c.count-leaves.ensures.count in
-    let few = c.count-leaves.ensures.few in
+    let few = c.leaves_differ.ensures.few in
     let below = symbol-below c.args.symbols.now c.args.leaf m symbol in
     omega arith
 

@@ -18,4 +18,4 @@ returns-then-eq c = λ t refers.
     (sym c.in_ok-which.ensures.entry ∙ ap Some c.in-Named.is) (script.names c.in_ok-name.name.now) in
     rw c.deref.ensures.value
     (named-adds s v (known_in c.args.tables.now.settings.now c.args.tables.now.names.now) sc c.in_ok-name.name.now c.in-Named.which c.named_at-named.result.now c.args.r t c.named_at-named.ensures meant
-    (c.equal_exactly_where_terms_are.ensures s c.count-leaves.ensures.table) (eqb-true c.named_at-named.result.now.value.term c.args.r (sym c.eq.ensures ∙ c.if-eq.true)) refers)
+    (c.equal_exactly_where_terms_are.ensures s c.leaves_differ.ensures.table) (eqb-true c.named_at-named.result.now.value.term c.args.r (sym c.eq.ensures ∙ c.if-eq.true)) refers)

@@ -19,8 +19,7 @@ overflow_add-height c =
 pub let_term-requires-clause-vars : goal.let_term-requires-clause-vars
 let_term-requires-clause-vars c =
     let (bs, t, bound, is) = c.requires.bound in
-    let count = c.count-leaves.ensures.count in
-    let few = c.count-leaves.ensures.few in
+    let few = c.leaves_differ.ensures.few in
     leaves-few _ _ c.args.variables.now.leaves.now _ bs (omega arith) bound
 
 pub let_term-requires-clause-values : goal.let_term-requires-clause-values

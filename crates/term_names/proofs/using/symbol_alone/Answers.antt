@@ -9,7 +9,7 @@ returns-in_err-sort c =
 pub leaf-requires : goal.leaf-requires
 leaf-requires c =
     let below : c.args.leaf < length c.args.symbols.now.leaves = symbol_within c.args.symbols.now c.args.leaf c.requires.0 c.requires.1 in
-    omega (arith, c.count-leaves.ensures.count, c.count-leaves.ensures.few)
+    omega (arith, c.leaves_differ.ensures.few)
 
 pub returns : goal.returns
 returns c =

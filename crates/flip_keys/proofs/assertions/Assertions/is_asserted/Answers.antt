@@ -9,7 +9,7 @@ pub returns-then-is_placed-clause-asserted : goal.returns-then-is_placed-clause-
 returns-then-is_placed-clause-asserted c ts t refer right =
     let before = c.args.self.now in
     let there = c.is_placed.ensures.0 c.if-is_placed.true in (
-      λ e. stands_there c.args.symbols.now c.args.terms.now c.count-leaves.ensures.table c.one_to_one.ensures (references_of before) before.placed.keys c.requires.ready.placed c.args.r there ts t refer right,
+      λ e. stands_there c.args.symbols.now c.args.terms.now c.leaves_differ.ensures.table c.one_to_one.ensures (references_of before) before.placed.keys c.requires.ready.placed c.args.r there ts t refer right,
       λ h. refl,
     )
 
@@ -24,7 +24,7 @@ returns-clause-asserted c ts t refer right =
     let found = found_later pass pass numbered.keys c.number.new.self (same_grows pass) c.in_ok-number.ensures.more references numbered.numbers.keys earlier in
     let keys = rw now at c.in_ok-number.ensures.keys in
     let number = rw now at c.in_ok-number.ensures.number in
-    asserted_is c.args.symbols.now c.args.terms.now c.count-leaves.ensures.table c.one_to_one.ensures c.number.new.self keys references numbered.numbers.keys found c.args.r c.in_ok-number.number number c.contains.result
+    asserted_is c.args.symbols.now c.args.terms.now c.leaves_differ.ensures.table c.one_to_one.ensures c.number.new.self keys references numbered.numbers.keys found c.args.r c.in_ok-number.number number c.contains.result
     (rw c.contains.ensures (has_number numbered.numbers.keys c.in_ok-number.number)) ts t refer right
 
 pub returns-clause-ready : goal.returns-clause-ready

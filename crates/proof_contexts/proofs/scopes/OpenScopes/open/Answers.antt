@@ -33,7 +33,7 @@ returns-in_err-images-clause-placed c =
     let level = level_here s v refs c.args.self.now c.requires.kept in
     let zip = c.terms_correspond.ensures.bindings s v refs c.requires.kept.proof c.args.k c.requires.kept.stand in
     places_images s v refs c.args.self.now c.requires.kept c.args.k c.requires.here (c.terms_correspond.ensures.parent s v refs c.requires.kept.proof c.args.k c.requires.kept.stand)
-    c.proofs_stand_for_one.ensures.one c.count-leaves.ensures.table c.one_to_one.ensures c.images_of.new.terms.pass
+    c.proofs_stand_for_one.ensures.one c.leaves_differ.ensures.table c.one_to_one.ensures c.images_of.new.terms.pass
     (c.images_of.ensures.placed (images level.anchors) (bindings_at c.requires.kept.proof c.args.k) level.stand (rw c.bindings.ensures zip))
 
 pub returns-in_err-images-clause-full : goal.returns-in_err-images-clause-full
@@ -46,7 +46,7 @@ returns-in_err-images-clause-full c =
     handed_on c.from_residual.result _ _ c.from_residual.ensures.1
     (λ is.
     lacks_images s v refs c.args.self.now c.requires.kept c.args.k c.requires.here (c.terms_correspond.ensures.parent s v refs c.requires.kept.proof c.args.k c.requires.kept.stand)
-    c.proofs_stand_for_one.ensures.one c.count-leaves.ensures.table c.one_to_one.ensures c.images_of.new.terms.pass
+    c.proofs_stand_for_one.ensures.one c.leaves_differ.ensures.table c.one_to_one.ensures c.images_of.new.terms.pass
     (c.in_err-images.ensures.full is (images level.anchors) (bindings_at c.requires.kept.proof c.args.k) level.stand (rw c.bindings.ensures zip)))
 
 pub enter-requires-clause-bindings : goal.enter-requires-clause-bindings
@@ -75,7 +75,7 @@ returns-in_err-enter-clause-placed c =
     let level = level_here s v refs c.args.self.now c.requires.kept in
     let zip = c.terms_correspond.ensures.bindings s v refs c.requires.kept.proof c.args.k c.requires.kept.stand in
     places_images s v refs c.args.self.now c.requires.kept c.args.k c.requires.here (c.terms_correspond.ensures.parent s v refs c.requires.kept.proof c.args.k c.requires.kept.stand)
-    c.proofs_stand_for_one.ensures.one c.count-leaves.ensures.table c.one_to_one.ensures c.images_of.new.terms.pass
+    c.proofs_stand_for_one.ensures.one c.leaves_differ.ensures.table c.one_to_one.ensures c.images_of.new.terms.pass
     (c.images_of.ensures.placed (images level.anchors) (bindings_at c.requires.kept.proof c.args.k) level.stand (rw c.bindings.ensures zip))
 
 pub returns-then-is_err-clause-kept : goal.returns-then-is_err-clause-kept
@@ -95,7 +95,7 @@ returns-then-is_err-clause-placed c =
     let level = level_here s v refs c.args.self.now c.requires.kept in
     let zip = c.terms_correspond.ensures.bindings s v refs c.requires.kept.proof c.args.k c.requires.kept.stand in
     places_images s v refs c.args.self.now c.requires.kept c.args.k c.requires.here (c.terms_correspond.ensures.parent s v refs c.requires.kept.proof c.args.k c.requires.kept.stand)
-    c.proofs_stand_for_one.ensures.one c.count-leaves.ensures.table c.one_to_one.ensures c.images_of.new.terms.pass
+    c.proofs_stand_for_one.ensures.one c.leaves_differ.ensures.table c.one_to_one.ensures c.images_of.new.terms.pass
     (c.images_of.ensures.placed (images level.anchors) (bindings_at c.requires.kept.proof c.args.k) level.stand (rw c.bindings.ensures zip))
 
 pub returns-clause-kept : goal.returns-clause-kept
@@ -122,5 +122,5 @@ returns-clause-placed c =
     let level = level_here s v refs c.args.self.now c.requires.kept in
     let zip = c.terms_correspond.ensures.bindings s v refs c.requires.kept.proof c.args.k c.requires.kept.stand in
     places_images s v refs c.args.self.now c.requires.kept c.args.k c.requires.here (c.terms_correspond.ensures.parent s v refs c.requires.kept.proof c.args.k c.requires.kept.stand)
-    c.proofs_stand_for_one.ensures.one c.count-leaves.ensures.table c.one_to_one.ensures c.images_of.new.terms.pass
+    c.proofs_stand_for_one.ensures.one c.leaves_differ.ensures.table c.one_to_one.ensures c.images_of.new.terms.pass
     (c.images_of.ensures.placed (images level.anchors) (bindings_at c.requires.kept.proof c.args.k) level.stand (rw c.bindings.ensures zip))

@@ -9,18 +9,18 @@ pub returns-clause-term : goal.returns-clause-term
 returns-clause-term c =
     IfOk-weaker c.put_in.result _ _
     (λ i term of anchors t stand here refers.
-    term t (images anchors) refers (stand_for_images c.args.symbols.now c.args.terms.now c.args.proof.now c.args.self.now c.requires.kept c.count-leaves.ensures.table c.one_to_one.ensures (c.proofs_stand_for_one.ensures.one c.args.symbols.now c.args.terms.now c.args.proof.now) of anchors stand here))
+    term t (images anchors) refers (stand_for_images c.args.symbols.now c.args.terms.now c.args.proof.now c.args.self.now c.requires.kept c.leaves_differ.ensures.table c.one_to_one.ensures (c.proofs_stand_for_one.ensures.one c.args.symbols.now c.args.terms.now c.args.proof.now) of anchors stand here))
     c.put_in.ensures.term
 
 pub returns-clause-placed : goal.returns-clause-placed
 returns-clause-placed c of anchors t stand here refers =
-    c.put_in.ensures.placed t (images anchors) refers (stand_for_images c.args.symbols.now c.args.terms.now c.args.proof.now c.args.self.now c.requires.kept c.count-leaves.ensures.table c.one_to_one.ensures (c.proofs_stand_for_one.ensures.one c.args.symbols.now c.args.terms.now c.args.proof.now) of anchors stand here)
+    c.put_in.ensures.placed t (images anchors) refers (stand_for_images c.args.symbols.now c.args.terms.now c.args.proof.now c.args.self.now c.requires.kept c.leaves_differ.ensures.table c.one_to_one.ensures (c.proofs_stand_for_one.ensures.one c.args.symbols.now c.args.terms.now c.args.proof.now) of anchors stand here)
 
 pub returns-clause-full : goal.returns-clause-full
 returns-clause-full c =
     IfErr-weaker c.put_in.result _ _
     (λ e full is of anchors t stand here refers.
-    full is t (images anchors) refers (stand_for_images c.args.symbols.now c.args.terms.now c.args.proof.now c.args.self.now c.requires.kept c.count-leaves.ensures.table c.one_to_one.ensures (c.proofs_stand_for_one.ensures.one c.args.symbols.now c.args.terms.now c.args.proof.now) of anchors stand here))
+    full is t (images anchors) refers (stand_for_images c.args.symbols.now c.args.terms.now c.args.proof.now c.args.self.now c.requires.kept c.leaves_differ.ensures.table c.one_to_one.ensures (c.proofs_stand_for_one.ensures.one c.args.symbols.now c.args.terms.now c.args.proof.now) of anchors stand here))
     c.put_in.ensures.full
 
 pub returns-clause-kept : goal.returns-clause-kept

@@ -1,0 +1,24 @@
+use Rattle.std.proofs.lemmas.Result.{IfOk-weaker}
+use Rattle.schema_match.proofs.StepTerms.{sides_of_step}
+use Rattle.term_parts.proofs.JudgingLemmas.{truths_are_terms}
+use Rattle.rules_ite.proofs.EquationLemmas.{elimination_is, no_elimination}
+use Rattle.rules_ite.proofs.checks.meets_distinct_elim.Goals as goal
+
+pub equation-requires : goal.equation-requires
+equation-requires c = truths_are_terms c.args.step.clause.now c.requires.clause
+
+pub returns-in_default-clause-meets : goal.returns-in_default-clause-meets
+returns-in_default-clause-meets c ps ts premises clause = no_elimination ps ts (λ u w. c.in_default.ensures.other ps ts u w premises clause)
+
+pub eliminates_distinct-requires-clause-left : goal.eliminates_distinct-requires-clause-left
+eliminates_distinct-requires-clause-left c = rw c.equation.ensures.same (sides_of_step c.args.step _ c.requires c.in-Some.ensures.equation).0
+
+pub eliminates_distinct-requires-clause-right : goal.eliminates_distinct-requires-clause-right
+eliminates_distinct-requires-clause-right c = rw c.equation.ensures.same (sides_of_step c.args.step _ c.requires c.in-Some.ensures.equation).1
+
+pub returns-clause-meets : goal.returns-clause-meets
+returns-clause-meets c =
+    IfOk-weaker c.eliminates_distinct.result _ _ (λ b test ps ts premises clause.
+    let is = c.in-Some.ensures.equation ps ts premises clause in
+    elimination_is c.args.symbols.now c.args.terms.now _ ps ts is b (test is.left is.right is.left_refers is.right_refers))
+    (rw c.equation.ensures.same at c.eliminates_distinct.ensures.eliminates)

@@ -1,0 +1,27 @@
+use Rattle.std.proofs.lemmas.Result.{IfOk-weaker}
+use Rattle.schema_match.proofs.StepTerms.{sides_of_step}
+use Rattle.sort_check.proofs.Leaves.{sorted_is_term}
+use Rattle.term_parts.proofs.JudgingLemmas.{truths_are_terms}
+use Rattle.rules_ite.proofs.EquationLemmas.{introduction_is, no_introduction}
+use Rattle.rules_ite.proofs.checks.meets_ite_intro.Goals as goal
+
+pub equation-requires : goal.equation-requires
+equation-requires c = truths_are_terms c.args.step.clause.now c.requires.clause
+
+pub returns-in_default-clause-meets : goal.returns-in_default-clause-meets
+returns-in_default-clause-meets c ps ts premises clause = no_introduction ps ts (λ u w. c.in_default.ensures.other ps ts u w premises clause)
+
+pub introduces_choices-requires-clause-left : goal.introduces_choices-requires-clause-left
+introduces_choices-requires-clause-left c =
+    rw c.equation.ensures.same
+    (sorted_is_term c.args.symbols.now c.args.terms.now _ (sides_of_step c.args.step _ c.requires c.in-Some.ensures.equation).0)
+
+pub introduces_choices-requires-clause-right : goal.introduces_choices-requires-clause-right
+introduces_choices-requires-clause-right c = rw c.equation.ensures.same (sides_of_step c.args.step _ c.requires c.in-Some.ensures.equation).1
+
+pub returns-clause-meets : goal.returns-clause-meets
+returns-clause-meets c =
+    IfOk-weaker c.introduces_choices.result _ _ (λ b test ps ts premises clause.
+    let is = c.in-Some.ensures.equation ps ts premises clause in
+    introduction_is c.args.symbols.now c.args.terms.now _ ps ts is b (test is.left is.right is.left_refers is.right_refers))
+    (rw c.equation.ensures.same at c.introduces_choices.ensures.introduces)

@@ -1,4 +1,0 @@
-use Rattle.rules_resolution.proofs.signed.signed.Goals as goal
-
-pub returns-in-None-clause-signed : goal.returns-in-None-clause-signed
-returns-in-None-clause-signed c t refers = (rw c.number-in-None.ensures.number refers, λ u e. c.in-None.ensures.other t u refers e)

@@ -1,6 +1,0 @@
-use Rattle.std.proofs.Common.{◌≡◌, map, take}
-use Rattle.rule_model.specs.Reading.{clause_at}
-use Rattle.step_check.proofs.judging.take_premises.Given as goal
-
-abbrev pub invariant-premises : goal.invariant-premises
-invariant-premises l = map (λ p. p.now) l.list.items ≡ map (clause_at l.proof) (take l.premise-index l.premises)
