@@ -2,3 +2,4 @@ mod PrintedIds
 mod NumberedScopes
 mod NumberedCommands
 mod PrintedArguments
+mod PrintedCoefficients

@@ -31,7 +31,7 @@ id_other a b few many differs = go (bytes_eq (printed_id a) (printed_id b)) refl
     go true e = absurd (differs (one_index a b few many ((bytes_eq-Decides (printed_id a) (printed_id b)).0 e)))
     go false e = refl
 
-no_digit : (b c : ℕ) → is_ascii_digit c ≡ false → is_ascii_digit b ≡ true → (b == c) ≡ false
+pub no_digit : (b c : ℕ) → is_ascii_digit c ≡ false → is_ascii_digit b ≡ true → (b == c) ≡ false
 no_digit b c none is = go (b == c) refl
   where
     go : (test : Bool) → (b == c) ≡ test → test ≡ false

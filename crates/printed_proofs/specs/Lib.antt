@@ -1,3 +1,4 @@
 pub mod Numbered
 pub mod Printing
 pub mod Arguments
+pub mod Coefficients

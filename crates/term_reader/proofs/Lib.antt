@@ -28,3 +28,4 @@ pub mod Unnamed
 pub mod LatelyLemmas
 pub mod ReadLately
 pub mod EntriesKept
+pub mod ReadParts

@@ -97,32 +97,52 @@ list_found s v r sc p items k bytes c l idle there right rows =
       placed = places_none s v.pass v.pass _ refl;
     })
 
--- a term was read that gives no name
-pub read_kept : (s z : Table) (v w : TermsView) (r q : ReadingView) (sc : Script) (p : Place) (items : ItemsView) (k : ℕ) (o : Option (Bor (List ℕ))) (c : Value) (l m : LatelyView)
-    → IsReaderIdle (both s v) r sc p → IfSome o (λ b. IsListThere items k b.now) → q.names.known ≡ r.names.known → GrowByTerms (both s v) (both z w) → AreRight (both s v) p sc l
-    → ((u : Script) → AreRight (both z w) p u l → IfSome o (λ b. IsRight (both z w) p u b.now c) → AreRight (both z w) p u m)
-    → ComesTo terms_read v (both z w) (IsTermRead (both z w) q p) (read_term (item_at items k) p sc) (Ok c)
-    → ComesTo terms_read v (both z w) (IsReadOnce (both z w) q p m) (read_term (item_at items k) p sc) (Ok c)
-read_kept s z v w r q sc p items k o c l m idle there own grow rows keeps h =
-    let a = h.answer in
-    let last : (read_term (item_at items k) p sc).state ≡ a.state = ap (λ (x : Outcome Script Typed). x.state) a.is in
-    let script : IsScript (both z w) r.names.known (read_term (item_at items k) p sc).state =
-    subst (λ n. IsScript (both z w) n (read_term (item_at items k) p sc).state) own (subst (λ u. IsScript (both z w) q.names.known u) (sym last) a.after.idle.script) in
-    let same : SayTheSame sc a.state = subst (SayTheSame sc) last (unnamed (both s v) (both z w) r.names.known (form_of (item_at items k)) p sc idle.script script) in
-    record {
-      answer = record {
-        value = a.value;
-        state = a.state;
-        is = a.is;
-        after = record { read = a.after; rows = keeps a.state (rows_stay s z v w p sc a.state l grow same rows) (new_row o there) };
-      };
-      placed = h.placed;
-    }
-  where
-    new_row : (o : Option (Bor (List ℕ))) → IfSome o (λ b. IsListThere items k b.now) → IfSome o (λ b. IsRight (both z w) p h.answer.state b.now c)
-    new_row None there = tt
-    new_row (Some b) there =
-        let a = h.answer in
-        subst (λ bytes. IsRight (both z w) p a.state bytes c) there.same
-        (read_now s z v w r q sc p items.source there.at there.end there.inside c idle there.there own
-        (record { value = a.value; state = a.state; is = ap (λ (i : Item). read_term i p sc) (sym there.is) ∙ a.is; after = a.after }))
+-- A term was read that gives no name, and what was right is so.
+module _ (s z : Table) (v w : TermsView) (r q : ReadingView) (sc : Script) (p : Place) (items : ItemsView) (k : ℕ) (c : Value)
+    (idle : IsReaderIdle (both s v) r sc p) (own : q.names.known ≡ r.names.known) where
+  abbrev Read : (Value → Typed → Script → Type 0) → Type 0
+  Read After = ComesTo terms_read v (both z w) After (read_term (item_at items k) p sc) (Ok c)
+
+  pub rows_kept : (l : LatelyView) → GrowByTerms (both s v) (both z w) → AreRight (both s v) p sc l
+      → Read (IsTermRead (both z w) q p) → Read (IsReadOnce (both z w) q p l)
+  rows_kept l grow rows h =
+      let a = h.answer in
+      let last : (read_term (item_at items k) p sc).state ≡ a.state = ap (λ (x : Outcome Script Typed). x.state) a.is in
+      let script : IsScript (both z w) r.names.known (read_term (item_at items k) p sc).state =
+      subst (λ n. IsScript (both z w) n (read_term (item_at items k) p sc).state) own
+      (subst (λ u. IsScript (both z w) q.names.known u) (sym last) a.after.idle.script) in
+      let same : SayTheSame sc a.state = subst (SayTheSame sc) last
+      (unnamed (both s v) (both z w) r.names.known (form_of (item_at items k)) p sc idle.script script) in
+      record {
+        answer = record {
+          value = a.value;
+          state = a.state;
+          is = a.is;
+          after = record { read = a.after; rows = rows_stay s z v w p sc a.state l grow same rows };
+        };
+        placed = h.placed;
+      }
+
+  -- and the list is kept
+  pub list_kept : (o : Option (Bor (List ℕ))) (l m : LatelyView) → IfSome o (λ b. IsListThere items k b.now)
+      → ((u : Script) → AreRight (both z w) p u l → IfSome o (λ b. IsRight (both z w) p u b.now c) → AreRight (both z w) p u m)
+      → Read (IsReadOnce (both z w) q p l) → Read (IsReadOnce (both z w) q p m)
+  list_kept o l m there keeps h =
+      let a = h.answer in
+      record {
+        answer = record {
+          value = a.value;
+          state = a.state;
+          is = a.is;
+          after = record { read = a.after.read; rows = keeps a.state a.after.rows (new_row o there) };
+        };
+        placed = h.placed;
+      }
+    where
+      new_row : (o : Option (Bor (List ℕ))) → IfSome o (λ b. IsListThere items k b.now) → IfSome o (λ b. IsRight (both z w) p h.answer.state b.now c)
+      new_row None there = tt
+      new_row (Some b) there =
+          let a = h.answer in
+          subst (λ bytes. IsRight (both z w) p a.state bytes c) there.same
+          (read_now s z v w r q sc p items.source there.at there.end there.inside c idle there.there own
+          (record { value = a.value; state = a.state; is = ap (λ (i : Item). read_term i p sc) (sym there.is) ∙ a.is; after = a.after.read }))

@@ -45,10 +45,10 @@ next_argument ws place m read f fs p s =
     ∙ same_next (term_from f p s) (λ t last. and_then (and_then (terms_from fs p last) (λ ts end. done (t ∷ ts) end)) (applies p.settings.limit place m read)) (after (arguments place m read fs p))
     (λ t last. joined (terms_from fs p last) (λ ts end. done (t ∷ ts) end) (applies p.settings.limit place m read)))
 
-abbrev headed : ℕ → Name → Forms → Place → Script → Option Meaning → Outcome Script Typed
+abbrev pub headed : ℕ → Name → Forms → Place → Script → Option Meaning → Outcome Script Typed
 headed place head fs p s o = with_meaning head.place o s (λ m. and_then (terms_from fs p s) (λ ts last. settled p.settings.limit place (meaning_applied m ts) last))
 
-application_begins : (place : ℕ) (head : Name) (fs : Forms) (p : Place) (s : Script) → term_from (application place head fs) p s ≡ headed place head fs p s (meaning_of p s head.name)
+pub application_begins : (place : ℕ) (head : Name) (fs : Forms) (p : Place) (s : Script) → term_from (application place head fs) p s ≡ headed place head fs p s (meaning_of p s head.name)
 unfolding term_from
 application_begins place head fs p s = refl
 

@@ -15,7 +15,7 @@ use Rattle.term_reader.proofs.Staying.{grow_by_terms_none, leaves_stay, scope_st
 use Rattle.term_expansion.specs.SymbolsAndTerms.{both}
 
 module _ (s z : Table) (v w : TermsView) (adds : AddsNoSymbols s z) (terms : KeepsTerms v w) where
-  idle_stays : (r : ReadingView) (sc : Script) (p : Place) → IsReaderIdle (both s v) r sc p → IsReaderIdle (both z w) r sc p
+  pub idle_stays : (r : ReadingView) (sc : Script) (p : Place) → IsReaderIdle (both s v) r sc p → IsReaderIdle (both z w) r sc p
   idle_stays r sc p h = record {
     script = script_stays s z v w adds terms r.names.known sc h.script;
     scope = scope_stays s z v w adds.keeps terms r.names.scope p.scope h.scope;

@@ -15,3 +15,4 @@ pub mod Leaving
 pub mod OpenApplications
 pub mod Lately
 pub mod KeptEntries
+pub mod Parts

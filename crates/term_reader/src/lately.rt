@@ -1,5 +1,5 @@
 //! Lists that were read lately: a hint by which a list is not read again.
-ghost use Rattle.std.specs.Prelude.{◌≡◌, ◌<◌, length, slice_get, Some, IfSome, OnOk};
+ghost use Rattle.std.specs.Prelude.{◌≡◌, ◌<◌, ◌≤◌, ◌+◌, length, slice_get, Some, IfSome, OnOk};
 ghost use Rattle.problem_text.specs.Names.{Place};
 ghost use Rattle.problem_text.specs.Scripts.{Script};
 ghost use Rattle.term_expansion.specs.SymbolsAndTerms.{SymbolsAndTerms};
@@ -15,11 +15,14 @@ const ROWS: usize = 1024;
 /// A list with fewer bytes is read in about the time of a look-up.
 const LEAST_BYTES: usize = 16;
 
-/// From how many bytes of a list its row is found, at most.
-const SAMPLES: usize = 32;
+/// How many bytes of a list are hashed at once.
+const WORD: usize = 8;
 
-/// By which FNV-1a multiplies.
-const MULTIPLIER: u64 = 0x0000_0100_0000_01b3;
+/// From about how many words of a long list its row is found.
+const SAMPLES: usize = 8;
+
+/// By which a hash is multiplied: 2^64 over the golden ratio, so that each bit of a word takes part in many of the product.
+const MULTIPLIER: u64 = 0x9e37_79b9_7f4a_7c15;
 
 /// A list that was read: where it stands, what it was read to, and the time.
 #[derive(Clone, Copy)]
@@ -67,8 +70,11 @@ impl<'t> Lately<'t> {
     pub fn find(&self, list: &[u8]) -> Option<Value>
         ensures { (w : SymbolsAndTerms) (p : Place) (sc : Script) → AreRight w p sc self.now → IfSome result (λ c. IsRight w p sc list.now c) }
     {
+        if list.len() < LEAST_BYTES {
+            return None;
+        }
         let slot = slot_of(list);
-        if list.len() < LEAST_BYTES || slot >= self.rows.len() {
+        if slot >= self.rows.len() {
             return None;
         }
         let row = row_at(&self.rows, slot);
@@ -144,16 +150,38 @@ fn put(rows: &mut Vec<Row>, slot: usize, row: &Row) -> Result<(), AllocError>
     Ok(())
 }
 
-/// The row of a list, by its length and by bytes all over it.
+/// The row of a list, by its length, its last eight bytes, and words of eight bytes all over it: each of its words where there are
+/// few.
 fn slot_of(list: &[u8]) -> usize
+    requires { 8 ≤ length list.now }
     ensures { result < 1024 }
 {
-    let stride = list.len() / SAMPLES + 1;
-    let mut hash = list.len() as u64;
+    let last = list.len() - WORD;
+    let stride = (list.len() / SAMPLES).max(WORD);
+    let mut hash = hashed(list.len() as u64, list, last);
     let mut at = 0;
-    'samples: while stride < list.len() - at {
-        hash = (hash ^ u64::from(list[at])).wrapping_mul(MULTIPLIER);
+    'samples: while at < last {
+        hash = hashed(hash, list, at);
         at += stride;
     }
-    (hash >> 32) as usize % ROWS
+    hash as usize % ROWS
+}
+
+/// A hash that goes on with the eight bytes from a place on. No clause speaks of it, since any number leads to some row.
+#[inline(always)]
+fn hashed(hash: u64, list: &[u8], at: usize) -> u64
+    requires { at + 8 ≤ length list.now }
+{
+    let word = u64::from_le_bytes([
+        list[at],
+        list[at + 1],
+        list[at + 2],
+        list[at + 3],
+        list[at + 4],
+        list[at + 5],
+        list[at + 6],
+        list[at + 7],
+    ]);
+    let product = (hash ^ word).wrapping_mul(MULTIPLIER);
+    product ^ (product >> 32)
 }

@@ -4,6 +4,7 @@
 //!   let that may not be bound; `taken`: names that are in use.
 //! - `entering`, `leaving`, `leaving_lets`, `reading`: a term, turn by turn, with `atoms`, `settling` and `naming`;
 //!   `frames` and `frame_stacks` have what is open, and `reader` the state.
+//! - `lately`: lists that were read lately, which `reading_once` does not read again, nor `reading_parts` the arguments of a list.
 //! - `problem`: a problem that was read; `single_terms`: [`TermReader`], which reads single terms behind one.
 //!   `view_laws`: what these stand for stays.
 //!
@@ -27,6 +28,7 @@ pub mod problem;
 pub mod reader;
 pub mod reading;
 pub mod reading_once;
+mod reading_parts;
 pub mod repeats;
 mod settling;
 mod single_terms;

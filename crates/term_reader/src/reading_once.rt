@@ -2,6 +2,7 @@
 ghost use Rattle.std.specs.Prelude.{◌≡◌, ◌≤◌, ◌<◌, ◌^◌, ◌+◌, ◌-◌, length, OnOk, IfSome};
 ghost use Rattle.problem_text.specs.Names.{Place};
 ghost use Rattle.text_items.specs.ItemsAt.{end_at, item_at};
+ghost use Rattle.term_reader.specs.KeptEntries.{KeepsEntries};
 ghost use Rattle.term_reader.specs.Lately.{AreRight, IsRight, IsReadOnce};
 ghost use Rattle.term_reader.specs.Reading.{IsReaderIdle, terms_read, ComesTo};
 ghost use Rattle.term_reader.specs.ReadingViews.{reader_in};
@@ -42,6 +43,7 @@ pub fn read_once(
     ensures few { length symbols.new.leaves ≤ length symbols.old.leaves + (length items.now.nodes - k) }
     ensures spent { OnOk result (length symbols.new.leaves ≤ length symbols.old.leaves + (end_at items.now k - k)) }
     ensures grow { GrowByTerms (both symbols.old terms.old) (both symbols.new terms.new) }
+    ensures own { OnOk result (KeepsEntries reader.old.names reader.new.names) }
 {
     let list = items.list_bytes(k);
     if let Some(bytes) = list {
@@ -60,7 +62,7 @@ pub fn read_once(
 }
 
 /// Keeps what a term was read to, where it is a list.
-fn remember(
+pub(crate) fn remember(
     lately: &mut Lately<'_>,
     list: Option<&[u8]>,
     start: usize,

@@ -25,7 +25,7 @@ use crate::lately::Lately;
 use crate::problem::Problem;
 use crate::reader::Reader;
 use crate::reading::read;
-use crate::reading_once::read_once;
+use crate::reading_parts::read_lately;
 use pair_pool::Ref;
 use sexpr::{Lexer, Token};
 use std::alloc::Global;
@@ -36,6 +36,7 @@ use term_names::faults::ReadFault;
 use term_names::lets::as_itself;
 use term_names::names::Names;
 use term_names::settings::ReadSettings;
+use term_names::stacks::Values;
 use term_pool::Terms;
 use text_items::item_laws::items_begin_at_tokens;
 use text_items::nodes::{ItemText, Node, read_item};
@@ -50,6 +51,8 @@ pub struct TermReader<'a> {
     pushed: Vec<u32>,
     /// Lists that were read before these variables were pushed.
     lately: Lately<'a>,
+    /// Room for the arguments of a list that is read.
+    arguments: Values,
     nodes: Vec<Node>,
 }
 
@@ -78,6 +81,7 @@ impl<'a> TermReader<'a> {
             reader: Reader::new(alloc),
             pushed: Vec::new(alloc),
             lately: Lately::new(alloc, &[]),
+            arguments: Values::new(alloc),
             nodes: Vec::new(alloc),
         }
     }
@@ -130,9 +134,8 @@ impl<'a> TermReader<'a> {
         Ok(())
     }
 
-    /// Reads the term that begins with `first`, the token that the lexer gave last (SMT-LIB 2.6, "Terms and Formulas"),
-    /// and leaves
-    /// the lexer behind it.
+    /// Reads the term that begins with `first`, the token that the lexer gave last (SMT-LIB 2.6, "Terms and Formulas"), and
+    /// leaves the lexer behind it.
     ///
     /// The text has to be one of nested items, and `first` no closing bracket. Refused at the first fault of the term; and
     /// besides when out of memory, and where the pool had no room for a cell of a term that was read. After a refusal the
@@ -213,13 +216,14 @@ impl<'a> TermReader<'a> {
         ensures grow { GrowByTerms (both symbols.old terms.old) (both symbols.new terms.new) }
     {
         self.enter_pushed(symbols)?;
-        read_once(
+        read_lately(
             &self.settings,
             items,
             symbols,
             terms,
             &mut self.reader,
             &mut self.lately,
+            &mut self.arguments,
             k,
         )
     }

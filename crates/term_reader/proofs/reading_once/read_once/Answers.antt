@@ -6,12 +6,13 @@ use Rattle.term_names.specs.Entries.{EntriesView}
 use Rattle.term_names.specs.Known.{KnownView, base_of}
 use Rattle.term_reader.specs.ReadingViews.{reader_in}
 use Rattle.term_reader.proofs.Coming.{faulted}
-use Rattle.term_reader.proofs.ReadLately.{list_found, read_kept}
+use Rattle.term_reader.proofs.ReadLately.{list_found, rows_kept, list_kept}
 use Rattle.term_reader.proofs.reading_once.read_once.Goals as goal
 
 pub returns-in-Some-find-clause-reads : goal.returns-in-Some-find-clause-reads
 returns-in-Some-find-clause-reads c sc p idle right =
-    list_found _ _ (reader_in c.args.settings.now c.args.reader.now) sc p c.args.items.now c.args.k _ c.in-Some-find.value c.args.lately.now idle c.in-Some.ensures (c.in-Some-find.ensures _ p sc right) right
+    list_found _ _ (reader_in c.args.settings.now c.args.reader.now) sc p c.args.items.now c.args.k _ c.in-Some-find.value c.args.lately.now idle
+    c.in-Some.ensures (c.in-Some-find.ensures _ p sc right) right
 
 pub returns-in_err-value-clause-reads : goal.returns-in_err-value-clause-reads
 returns-in_err-value-clause-reads c sc p idle right =
@@ -20,9 +21,13 @@ returns-in_err-value-clause-reads c sc p idle right =
 
 pub returns-clause-reads : goal.returns-clause-reads
 returns-clause-reads c sc p idle right =
-    let count : length c.read.new.reader.names.own.named ≡ length c.args.reader.now.names.own.named = grind (arith, nat_tests, c.named_count.ensures, c.named_count-named.ensures, c.if-named_count-named.false) in
+    let count : length c.read.new.reader.names.own.named ≡ length c.args.reader.now.names.own.named =
+    grind (arith, nat_tests, c.named_count.ensures, c.named_count-named.ensures, c.if-named_count-named.false) in
     let own = c.in_ok-value.ensures.own.same count in
-    read_kept _ _ _ _ (reader_in c.args.settings.now c.args.reader.now) (reader_in c.args.settings.now c.read.new.reader) sc p c.args.items.now c.args.k c.list_bytes-list.result c.in_ok-value.value
-    c.args.lately.now c.remember.new.lately idle c.list_bytes-list.ensures
-    (ap (λ (o : EntriesView). record { base = base_of c.args.settings.now.base; own = o }) own)
-    c.read.ensures.grow right (λ u h is. c.in_ok-remember.ensures _ p u h is) (c.in_ok-value.ensures.reads sc p idle)
+    let r = reader_in c.args.settings.now c.args.reader.now in
+    let q = reader_in c.args.settings.now c.read.new.reader in
+    let known = ap (λ (o : EntriesView). record { base = base_of c.args.settings.now.base; own = o }) own in
+    list_kept _ _ _ _ r q sc p c.args.items.now c.args.k c.in_ok-value.value idle known c.list_bytes-list.result c.args.lately.now c.remember.new.lately
+    c.list_bytes-list.ensures (λ u h is. c.in_ok-remember.ensures _ p u h is)
+    (rows_kept _ _ _ _ r q sc p c.args.items.now c.args.k c.in_ok-value.value idle known c.args.lately.now c.read.ensures.grow right
+    (c.in_ok-value.ensures.reads sc p idle))

@@ -1,0 +1,5 @@
+pub mod Joining
+pub mod Towers
+pub mod Going
+pub mod Bridging
+pub mod Resolving

@@ -1,0 +1,15 @@
+use Rattle.std.proofs.Common.{◌≡◌, ◌∷◌, ◌++◌, [], length, rules}
+use Rattle.chain_plan.proofs.Bridging.{tautology_sound, bridged}
+use Rattle.chain_plan.proofs.bridges.bridge.Goals as goal
+
+pub returns-clause-sound : goal.returns-clause-sound
+returns-clause-sound c t given sound items holds =
+    rw c.in_ok-add_tautology.ensures (tautology_sound t given c.args.steps.now.items c.args.rule c.args.tautology.now sound items holds)
+
+pub returns-clause-going : goal.returns-clause-going
+returns-clause-going c t given going negation literals =
+    let place : c.len-place.result ≡ length c.args.steps.now.items = search (rules, c.len-place.ensures) in
+    rw c.in_ok-add_tautology.ensures
+    (bridged c.repeats_play_no_part.ensures t given c.args.steps.now.items c.args.carry.now c.resolve.new.self c.args.rule c.args.tautology.now
+      c.args.pivot.0 c.args.pivot.1 c.len-place.result going negation literals c.in_ok-resolve.ensures.joined c.in_ok-resolve.ensures.sources
+      c.in_ok-resolve.ensures.pivots place)

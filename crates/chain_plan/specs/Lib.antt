@@ -1,0 +1,4 @@
+pub mod Towers
+pub mod Plans
+pub mod Carried
+pub mod Lowering

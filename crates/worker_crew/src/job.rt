@@ -1,0 +1,53 @@
+//! What workers do, by the chunk.
+
+ghost use Rattle.std.specs.Prelude.{◌≡◌, ◌<◌, ◌≤◌, ◌^◌, ℕ, IfOk, IfErr};
+ghost use Rattle.pair_pool.specs.Views.{Grows};
+ghost use Rattle.sym_table.specs.Table.{Table};
+ghost use Rattle.term_model.specs.Terms.{Term};
+ghost use Rattle.term_parts.specs.declared.answers.RuleStop.TheVariants as RuleStop;
+ghost use Rattle.term_pool.specs.Placing.{PlacesCellsOf, LacksCellOf};
+ghost use Rattle.term_pool.specs.Views.{TermsView, KeepsTerms};
+
+use term_parts::RuleStop;
+use term_pool::Terms;
+
+/// A job of so many chunks, each of which can be done without the others, by any worker and in any order.
+pub trait Job: Sync {
+    /// What is made of a chunk.
+    type Piece: Send + Drop;
+
+    /// The symbols of its terms.
+    ghost symbols: { Self → Table };
+
+    /// How many chunks it has.
+    ghost count: { Self → ℕ };
+
+    /// It can be done over terms of which so much is known.
+    ghost fits: { Self → TermsView → Type 0 };
+
+    /// What a piece says of a chunk, by what is known of the terms.
+    ghost says: { Self → TermsView → ℕ → Self.Piece → Type 0 };
+
+    /// The terms of which it may place cells.
+    ghost places: { Self → Term → Type 0 };
+
+    /// How many chunks it has, at most 2^32.
+    fn chunks(&self) -> u64
+        ensures count { result ≡ count self.now }
+        ensures most { result ≤ 2 ^ 32 };
+
+    /// What is made of chunk `k`. Refuses where the pool had no room for a cell that the job may place, or out of memory.
+    fn chunk(&self, k: u64, terms: &mut Terms<'_>) -> Result<Self::Piece, RuleStop>
+        requires inside { k < count self.now }
+        requires fits { fits self.now terms.old }
+        ensures says { IfOk result (says self.now terms.new k) }
+        ensures terms { KeepsTerms terms.old terms.new }
+        ensures placed { PlacesCellsOf (symbols self.now) terms.old.pass terms.new.pass (places self.now) }
+        ensures full { IfErr result (λ stop. stop ≡ RuleStop.PoolFull → LacksCellOf (symbols self.now) terms.new.pass (places self.now)) };
+
+    /// A law: what fits and what is said where so much is known, fits and is said where more is known. The call does nothing.
+    fn more_may_be_known(&self)
+        ensures fits { (old new : TermsView) → new.pool ≡ old.pool → Grows old.pass new.pass → fits self.now old → fits self.now new }
+        ensures says { (old new : TermsView) (k : ℕ) (piece : Self.Piece) → new.pool ≡ old.pool → Grows old.pass new.pass →
+            says self.now old k piece → says self.now new k piece };
+}
