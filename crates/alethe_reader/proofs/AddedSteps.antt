@@ -8,14 +8,14 @@ use Rattle.sym_table.specs.Table.{Table}
 use Rattle.term_model.specs.Terms.{Var, Term}
 use Rattle.term_pool.specs.Views.{TermsView, RefersTo, ReferToAll}
 use Rattle.rule_model.specs.declared.rules.Rule.{Rule}
-use Rattle.rule_model.specs.Proofs.{Step, ProofItems, no_items, with_assume, with_step, with_subproof}
+use Rattle.rule_model.specs.Proofs.{Step, ProofItems, with_assume, with_step, with_subproof}
 use Rattle.rule_model.specs.RuleNames.{rule_named, left_out_rules, IsSymbolName}
 use Rattle.rule_model.specs.Scopes.{Anchor, Nesting, outermost, inside, Scope, at, own_bindings, first_index, commands_in, next_index, next_scope}
-use Rattle.rule_model.specs.Visibility.{Sight, sight, seen, visible, assumes_in}
+use Rattle.rule_model.specs.Visibility.{Sight, direct_assumes, seen, visible, assumes_in}
 use Rattle.rule_model.specs.WellFormed.{IsLowest, HasRule, MayStand}
 use Rattle.rule_model.specs.Writing.{is_open_id, add_step, close_scope, take_step, MayCloseHere, MayTake}
-use Rattle.proof_store.specs.Meaning.{IsPivotOf, IsStepOf, StandForItems, no_items_stand, assume_stands, step_stands, subproof_stands}
-use Rattle.alethe_text.specs.Ids.{assumes_seen, Standing, closes_scope}
+use Rattle.proof_store.specs.Meaning.{IsPivotOf, IsProofStepOf, StandForItems, no_items_stand, assume_stands, step_stands, subproof_stands}
+use Rattle.alethe_text.specs.Ids.{Standing, closes_scope}
 use Rattle.alethe_text.specs.ProofTerms.{place_in}
 use Rattle.alethe_text.specs.States.{ProofSettings, ProofState}
 use Rattle.alethe_text.specs.Steps as steps
@@ -26,7 +26,7 @@ use Rattle.alethe_reader.specs.declared.session.OpenAnchor.{OpenAnchor}
 use Rattle.alethe_reader.specs.declared.session.Session.{Session}
 use Rattle.alethe_reader.specs.declared.stepping.NewStep.{NewStep}
 use Rattle.alethe_reader.specs.AddedSteps.{step_added, AreSeen, IsToAdd}
-use Rattle.alethe_reader.specs.Bound.{AreBound}
+use Rattle.alethe_reader.specs.Bound.{AreAnchorsBound}
 use Rattle.alethe_reader.specs.Ids.{Used, IsUnused}
 use Rattle.alethe_reader.specs.IdsInUse.{in_use, ids_in}
 use Rattle.alethe_reader.specs.IdSights.{sights_of}
@@ -37,15 +37,6 @@ use Rattle.alethe_reader.proofs.StandingSteps.{ends_with}
 use Rattle.proof_store.proofs.MeaningLemmas.{commands_same}
 use Rattle.alethe_reader.proofs.WrittenStays.{first_same, ids_same}
 use Rattle.term_expansion.specs.SymbolsAndTerms.{both}
-
--- the indices of the assumes of a scope
-assumes_indices : {V T : Type 0} (nesting : Nesting V T) (items : ProofItems V T) → map (λ (c : Sight). c.index) (assumes_seen nesting items) ≡ assumes_in nesting items
-assumes_indices nesting no_items = refl
-assumes_indices nesting (with_assume items id t) =
-    map-append (λ (c : Sight). c.index) (assumes_seen nesting items) (sight (first_index nesting + commands_in items) id ∷ [])
-    ∙ ap (λ l. l ++ (first_index nesting + commands_in items) ∷ []) (assumes_indices nesting items)
-assumes_indices nesting (with_step items s) = assumes_indices nesting items
-assumes_indices nesting (with_subproof items bindings proof s) = assumes_indices nesting items
 
 no_pair : {A B : Type 0} (R : A → B → Type 0) (xs : List A) (ys : List B) → ys ≡ [] → AllZip R xs ys → xs ≡ []
 no_pair R [] ys e h = refl
@@ -69,16 +60,17 @@ module _ (s : Table) (v : TermsView) where
   seen_same : (n : Nesting ℕ ℕ) (m : Nesting Var Term) (is : ProofItems ℕ ℕ) (ps : ProofItems Var Term) → StandForNesting (both s v) n m → StandForItems s v is ps → seen n is ≡ seen m ps
   seen_same n m is ps h k = sym (sights_seen (at n is)) ∙ (ap sights_of (ids_same s v (at n is) (at m ps) h k) ∙ sights_seen (at m ps))
 
-  assumes_same : (n : Nesting ℕ ℕ) (m : Nesting Var Term) → first_index n ≡ first_index m → (is : ProofItems ℕ ℕ) (ps : ProofItems Var Term) → StandForItems s v is ps → assumes_in n is ≡ assumes_in m ps
+  assumes_same : (n : Nesting ℕ ℕ) (m : Nesting Var Term) → first_index n ≡ first_index m → (is : ProofItems ℕ ℕ) (ps : ProofItems Var Term) → StandForItems s v is ps → direct_assumes n is ≡ direct_assumes m ps
   assumes_same n m e _ _ no_items_stand = refl
   assumes_same n m e _ _ (assume_stands is ps id r t h refers) = joined (assumes_same n m e is ps h) e (commands_same s v is ps h)
     where
-      joined : assumes_in n is ≡ assumes_in m ps → first_index n ≡ first_index m → commands_in is ≡ commands_in ps → assumes_in n (with_assume is id r) ≡ assumes_in m (with_assume ps id t)
+      joined : direct_assumes n is ≡ direct_assumes m ps → first_index n ≡ first_index m → commands_in is ≡ commands_in ps →
+          direct_assumes n (with_assume is id r) ≡ direct_assumes m (with_assume ps id t)
       joined a b c = cc
   assumes_same n m e _ _ (step_stands is ps step of h stands) = assumes_same n m e is ps h
   assumes_same n m e _ _ (subproof_stands is ps bs cs within proof step of h b g stands) = assumes_same n m e is ps h
 
-  module _ (step : Step ℕ) (of : Step Term) (is : IsStepOf s v step of) where
+  module _ (step : Step ℕ) (of : Step Term) (is : IsProofStepOf s v step of) where
     -- the rule of the step over references
     rule_same : HasRule of → HasRule step
     rule_same h = record {
@@ -98,7 +90,7 @@ module _ (s : Table) (v : TermsView) (settings : ProofSettings) (d : Session) (n
   abbrev step : Step ℕ
   step = step_added d.parts n
 
-  is : IsStepOf s v step of
+  is : IsProofStepOf s v step of
   is = record {
     id = sym h.id;
     rule = sym h.rule;
@@ -155,9 +147,8 @@ module _ (s : Table) (v : TermsView) (settings : ProofSettings) (d : Session) (n
         premises = subst (All (Contains (visible around before))) (sym is.premises)
             (subst (λ (cs : List Sight). AreSeen cs of.premises) (sym (seen_same s v around outer before behind k.0 k.1)) f);
         discharged = subst (All (Contains (assumes_in (inside around before anchor) d.builder.items))) (sym is.discharged)
-            (subst (λ indices. All (Contains indices) of.discharged)
-            (assumes_indices (inside outer behind other) p.scope.items
-            ∙ sym (assumes_same s v (inside around before anchor) (inside outer behind other) (first_same s v (inside around before anchor) (inside outer behind other) k) d.builder.items p.scope.items h.written.items)) g);
+            (subst (λ (cs : List Sight). AreSeen cs of.discharged)
+            (sym (assumes_same s v (inside around before anchor) (inside outer behind other) (first_same s v (inside around before anchor) (inside outer behind other) k) d.builder.items p.scope.items h.written.items)) g);
       }
 
   pub may_take : MayTake d.builder step
@@ -193,7 +184,7 @@ module _ (s : Table) (v : TermsView) (settings : ProofSettings) (d : Session) (n
   written_around : (e : Session) (a : OpenAnchor) → is_open_id p.scope.nesting of.id ≡ true → IsAnchorOf p.scope.nesting a → e.builder ≡ take_step d.builder step
       → e.ids.used ≡ take a.ids d.ids.used ++ in_use step.id role.Step (next_index d.builder) ∷ []
       → ((front : List OpenAnchor) (last : OpenAnchor) → d.anchors.items ≡ front ++ last ∷ [] → e.anchors.items ≡ front)
-      → ((around : Nesting Var Term) (before : ProofItems Var Term) (other : Anchor Var Term) → a.variables ≡ length other.bindings → AreBound (both s v) d.bound (inside around before other) → AreBound (both s v) e.bound around)
+      → ((around : Nesting Var Term) (before : ProofItems Var Term) (other : Anchor Var Term) → a.variables ≡ length other.bindings → AreAnchorsBound (both s v) d.bound (inside around before other) → AreAnchorsBound (both s v) e.bound around)
       → IsWritten (both s v) e (steps.step_taken of p)
   written_around e a opened anchor_of built used popped left =
       subst (IsWritten (both s v) e) (sym scoped) (go d.builder.nesting p.scope.nesting h.written.nesting refl refl anchor_of opened)
@@ -233,7 +224,7 @@ module _ (s : Table) (v : TermsView) (settings : ProofSettings) (d : Session) (n
             places = ap (map (λ (a : OpenAnchor). a.place)) (popped start.front start.last start.split) ∙ last_left start.front start.last start.split;
             starts_kept = ap (map (λ (a : OpenAnchor). a.ids)) (popped start.front start.last start.split) ∙ (start.others ∙ ap (λ (b : Scope ℕ ℕ). starts b.nesting) (sym now));
             counts_kept = ap (map (λ (a : OpenAnchor). a.variables)) (popped count.front count.last count.split) ∙ (count.others ∙ ap (λ (b : Scope ℕ ℕ). counts b.nesting) (sym now));
-            bound = subst (λ (q : Scope Var Term). AreBound (both s v) e.bound q.nesting) (sym state) (left outer behind other anchored.1 (subst (AreBound (both s v) d.bound) em h.written.bound));
+            bound = subst (λ (q : Scope Var Term). AreAnchorsBound (both s v) e.bound q.nesting) (sym state) (left outer behind other anchored.1 (subst (AreAnchorsBound (both s v) d.bound) em h.written.bound));
           }
         where
           joined : {m n : ℕ} {us ws : List Used} {id id2 : List ℕ} {k l : ℕ} → m ≡ n → us ≡ ws → id ≡ id2 → k ≡ l → take m us ++ in_use id role.Step k ∷ [] ≡ take n ws ++ in_use id2 role.Step l ∷ []
@@ -264,7 +255,7 @@ module _ (s : Table) (v : TermsView) (settings : ProofSettings) (d : Session) (n
   pub added_around : (e : Session) (a : OpenAnchor) → n.closes ≡ Some a → e.reader ≡ d.reader → e.builder ≡ take_step d.builder step
       → e.ids.used ≡ take a.ids d.ids.used ++ in_use step.id role.Step (next_index d.builder) ∷ []
       → ((front : List OpenAnchor) (last : OpenAnchor) → d.anchors.items ≡ front ++ last ∷ [] → e.anchors.items ≡ front)
-      → ((around : Nesting Var Term) (before : ProofItems Var Term) (other : Anchor Var Term) → a.variables ≡ length other.bindings → AreBound (both s v) d.bound (inside around before other) → AreBound (both s v) e.bound around)
+      → ((around : Nesting Var Term) (before : ProofItems Var Term) (other : Anchor Var Term) → a.variables ≡ length other.bindings → AreAnchorsBound (both s v) d.bound (inside around before other) → AreAnchorsBound (both s v) e.bound around)
       → IsProofSession (both s v) settings e (steps.step_taken of p)
   added_around e a some same built used popped left =
       let closes = subst (IsClosing d.ids.used p of.id h.here) some h.closes in

@@ -44,7 +44,7 @@ use Rattle.alethe_reader.specs.declared.session.OpenAnchor.{OpenAnchor}
 use Rattle.alethe_reader.specs.declared.session.Session.{Session}
 use Rattle.alethe_reader.specs.Answers.{AnswersAs}
 use Rattle.alethe_reader.specs.KeptReads.{KeepsRead}
-use Rattle.alethe_reader.specs.Bound.{AreBound}
+use Rattle.alethe_reader.specs.Bound.{AreAnchorsBound}
 use Rattle.alethe_reader.specs.Ids.{IsUnused, IsIdFound}
 use Rattle.alethe_reader.specs.IdsInUse.{in_use, ids_in}
 use Rattle.alethe_reader.specs.Judging.{is_named}
@@ -99,7 +99,7 @@ abbrev pub JudgesId : Named → Option Found → Result ⊤ Refusal → Type 0
 JudgesId named found result = (p : ProofState) → IsIdFound (ids_in p.scope) named.name.now found → id_judged Repeated (is_named named) p ≡ given result p
 
 abbrev pub ReadsArguments : Table → TermsView → Session → List Argument → Table → TermsView → ReaderView → BoundVariables → Result ⊤ ReadFault → Type 0
-ReadsArguments s v e others z w r b result = (settings : ProofSettings) (p : ProofState) → IsReaderOf s v e.reader p.script (place_in settings p.scope.nesting) → AreBound (both s v) e.bound p.scope.nesting
+ReadsArguments s v e others z w r b result = (settings : ProofSettings) (p : ProofState) → IsReaderOf s v e.reader p.script (place_in settings p.scope.nesting) → AreAnchorsBound (both s v) e.bound p.scope.nesting
     → AnswersAs v (both z w) (AreArgumentsRead (both z w) settings r b p) (arguments_read settings [] others p) result
 
 module _ {s : Table} {v : TermsView} {settings : ProofSettings} {e : Session} {p : ProofState} (session : IsProofSession (both s v) settings e p) (place : ℕ) (named : Named) {n : Name} (same : is_named named ≡ n) (found : Option Found) (look : IsIdFound e.ids.used named.name.now found) (others : List Argument) where

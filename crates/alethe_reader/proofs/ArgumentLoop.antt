@@ -26,7 +26,7 @@ use Rattle.alethe_text.specs.States.{ProofSettings, ProofState, Reading, ◌>>=�
 use Rattle.alethe_reader.specs.Answers.{terms_in, WasRead, AnswersAs}
 use Rattle.alethe_reader.specs.Ids.{IdsView}
 use Rattle.alethe_reader.specs.KeptReads.{KeepsRead}
-use Rattle.alethe_reader.specs.Bound.{AreBound, images_in}
+use Rattle.alethe_reader.specs.Bound.{AreAnchorsBound, images_in}
 use Rattle.alethe_reader.specs.Opening.{IsOpening, IsSameScope, IsArgumentRead, AreArgumentsRead}
 use Rattle.alethe_reader.specs.declared.bound.BoundVariables.{BoundVariables}
 use Rattle.alethe_reader.proofs.Answering.{part_of_whole, placed_with, fails_with}
@@ -78,7 +78,7 @@ pub record AreLeft (settings : ProofSettings) (z : Table) (v w : TermsView) (t :
   pub placed : PlacesCellsOf z v.pass w.pass (WasRead whole)
 
 pub begins : (s : Table) (v : TermsView) (r : ReaderView) (d e : BoundVariables) → e.names ≡ d.names → e.images ≡ d.images → e.opened.items ≡ [] → (settings : ProofSettings) (p : ProofState) (left : List Argument)
-    → IsReaderOf s v r p.script (place_in settings p.scope.nesting) → AreBound (both s v) d p.scope.nesting → AreLeft settings s v v r e p left (arguments_read settings [] left p)
+    → IsReaderOf s v r p.script (place_in settings p.scope.nesting) → AreAnchorsBound (both s v) d p.scope.nesting → AreLeft settings s v v r e p left (arguments_read settings [] left p)
 begins s v r d e names images opened settings p left reader bound = record {
   earlier = [];
   read = [];

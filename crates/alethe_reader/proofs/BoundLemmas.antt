@@ -17,7 +17,7 @@ use Rattle.rule_model.specs.Visibility.{open_bindings}
 use Rattle.term_pool.specs.Bindings.{IsBindingOf}
 use Rattle.problem_text.specs.Words.{is_among}
 use Rattle.alethe_text.specs.Anchors.{bound_names}
-use Rattle.alethe_reader.specs.Bound.{images_in, AreBound}
+use Rattle.alethe_reader.specs.Bound.{images_in, AreAnchorsBound}
 use Rattle.alethe_reader.specs.Ids.{Used, IsUnused, IsIdFound}
 use Rattle.alethe_reader.specs.declared.bound.BoundVariables.{BoundVariables}
 use Rattle.alethe_reader.specs.declared.ids.Found.{Found}
@@ -84,20 +84,20 @@ images_many n = sym (length-map (images_in n) (λ b. b.0.name)) ∙ ap (λ ns. l
 
 -- the scope of the innermost anchor is left
 module _ (s : Table) (v : TermsView) (d : BoundVariables) where
-  pub bound_many : (around : Nesting Var Term) (before : ProofItems Var Term) (anchor : Anchor Var Term) → AreBound (both s v) d (inside around before anchor)
+  pub bound_many : (around : Nesting Var Term) (before : ProofItems Var Term) (anchor : Anchor Var Term) → AreAnchorsBound (both s v) d (inside around before anchor)
       → length d.images.items ≡ length (images_in around) + length anchor.bindings
   bound_many around before anchor h =
       sym (AllZip-long (IsBindingOf s v) d.images.items (images_in (inside around before anchor)) h.images)
       ∙ (length-append (images_in around) (put_in_each (images (open_anchors around)) anchor.bindings)
       ∙ ap (λ n. length (images_in around) + n) (length-map anchor.bindings _))
 
-  pub enough_bound : (n : Nesting Var Term) → AreBound (both s v) d n → length (own_bindings n) ≤ length d.images.items
+  pub enough_bound : (n : Nesting Var Term) → AreAnchorsBound (both s v) d n → length (own_bindings n) ≤ length d.images.items
   enough_bound outermost h = omega arith
   enough_bound (inside around before anchor) h = omega (arith, bound_many around before anchor h)
 
   pub bound_left : (e : BoundVariables) (left : ℕ) (around : Nesting Var Term) (before : ProofItems Var Term) (anchor : Anchor Var Term)
-      → left ≡ length d.images.items - length anchor.bindings → AreBound (both s v) d (inside around before anchor)
-      → e.names.used ≡ take left d.names.used → e.images.items ≡ take left d.images.items → AreBound (both s v) e around
+      → left ≡ length d.images.items - length anchor.bindings → AreAnchorsBound (both s v) d (inside around before anchor)
+      → e.names.used ≡ take left d.names.used → e.images.items ≡ take left d.images.items → AreAnchorsBound (both s v) e around
   bound_left e left around before anchor is h names same = record {
     names = ap (map (λ u. u.id)) names ∙ (sym (take-map (λ u. u.id) left d.names.used)
         ∙ (ap (take left) (h.names ∙ map-append (λ b. b.0.name) (open_bindings around) anchor.bindings)

@@ -8,7 +8,7 @@ use Rattle.std.proofs.lemmas.Slice.Eq.{bytes_eq-Decides}
 use Rattle.sym_table.proofs.Lists.{slice_get-right}
 use Rattle.rule_model.specs.Proofs.{Step as ProofStep, ProofItems, no_items, with_assume, with_step, with_subproof}
 use Rattle.rule_model.specs.Scopes.{Anchor as ProofAnchor, Nesting, outermost, inside, Scope, at, first_index, scope_number, commands_in, next_index, next_scope}
-use Rattle.rule_model.specs.Visibility.{Sight, sight, direct, seen_around, seen, open_ids}
+use Rattle.rule_model.specs.Visibility.{Sight, sight, direct, seen_around, seen, open_ids, direct_assumes}
 use Rattle.rule_model.specs.RuleNames.{IsSymbolName}
 use Rattle.rule_model.specs.WellFormed.{IsNewId}
 use Rattle.rule_model.specs.Writing.{add_assume, add_step, open_anchor, close_scope}
@@ -18,7 +18,6 @@ use Rattle.alethe_reader.specs.declared.ids.Role.{Role}
 use Rattle.alethe_reader.specs.declared.ids.Role.TheVariants.{Assume, Step, Anchor}
 use Rattle.alethe_reader.specs.declared.ids.Found.{Found}
 use Rattle.alethe_reader.specs.Ids.{Used, IsUnused, IsUsedAt}
-use Rattle.alethe_text.specs.Ids.{assumes_seen}
 use Rattle.alethe_reader.specs.IdsInUse.{in_use, own_ids, ids_around, ids_in, sight_at, hidden}
 use Rattle.alethe_reader.specs.IdSights.{sight_of, sights_of, anchor_id_of, anchor_ids_of, hide}
 
@@ -191,7 +190,7 @@ at_hidden us id role number place h = record {
 }
 
 module _ {V T : Type 0} where
-  own_assumes : (nesting : Nesting V T) (items : ProofItems V T) → sights_of (map hide (own_ids nesting items)) ≡ assumes_seen nesting items
+  own_assumes : (nesting : Nesting V T) (items : ProofItems V T) → sights_of (map hide (own_ids nesting items)) ≡ direct_assumes nesting items
   own_assumes nesting no_items = refl
   own_assumes nesting (with_assume items id t) =
       ap sights_of (map-append hide (own_ids nesting items) (in_use id Assume (first_index nesting + commands_in items) ∷ []))
@@ -206,24 +205,24 @@ module _ {V T : Type 0} where
       ∙ (sights_append (map hide (own_ids nesting items)) (in_use s.id Anchor (first_index nesting + (commands_in items + commands_in proof)) ∷ [])
       ∙ (append-nil (sights_of (map hide (own_ids nesting items))) ∙ own_assumes nesting items))
 
-  own_unused : (scope : Scope V T) (id : List ℕ) → IsUnused (own_ids scope.nesting scope.items) id → find (λ c. bytes_eq c.id id) (assumes_seen scope.nesting scope.items) ≡ None
+  own_unused : (scope : Scope V T) (id : List ℕ) → IsUnused (own_ids scope.nesting scope.items) id → find (λ c. bytes_eq c.id id) (direct_assumes scope.nesting scope.items) ≡ None
   own_unused scope id h =
       subst (λ cs. find (λ c. bytes_eq c.id id) cs ≡ None) (own_assumes scope.nesting scope.items)
       (unseen (map hide (own_ids scope.nesting scope.items)) id (unused_hidden (own_ids scope.nesting scope.items) id h))
 
   -- an id that is not in use is that of no assume in the scope, and so is one that was in use where the scope was opened
-  pub none_discharged : (scope : Scope V T) (id : List ℕ) → IsUnused (ids_in scope) id → find (λ c. bytes_eq c.id id) (assumes_seen scope.nesting scope.items) ≡ None
+  pub none_discharged : (scope : Scope V T) (id : List ℕ) → IsUnused (ids_in scope) id → find (λ c. bytes_eq c.id id) (direct_assumes scope.nesting scope.items) ≡ None
   none_discharged scope id h =
       own_unused scope id (λ k u e. h (length (ids_around scope.nesting) + k) u (slice_get-right (ids_around scope.nesting) (own_ids scope.nesting scope.items) k ∙ e))
 
-  pub outer_discharged : (scope : Scope V T) (id : List ℕ) (f : Found) → IsUsedAt (ids_in scope) id f → f.place < length (ids_around scope.nesting) → find (λ c. bytes_eq c.id id) (assumes_seen scope.nesting scope.items) ≡ None
+  pub outer_discharged : (scope : Scope V T) (id : List ℕ) (f : Found) → IsUsedAt (ids_in scope) id f → f.place < length (ids_around scope.nesting) → find (λ c. bytes_eq c.id id) (direct_assumes scope.nesting scope.items) ≡ None
   outer_discharged scope id f h before =
       own_unused scope id (λ k u e same.
       let place = h.alone (length (ids_around scope.nesting) + k) u (slice_get-right (ids_around scope.nesting) (own_ids scope.nesting scope.items) k ∙ e) same in
       absurd (omega (arith, before, place)))
 
   -- one that was put in use in the scope is that of the assume with its number, where it is that of an assume
-  pub own_discharged : (scope : Scope V T) (id : List ℕ) (f : Found) → IsUsedAt (ids_in scope) id f → length (ids_around scope.nesting) ≤ f.place → find (λ c. bytes_eq c.id id) (assumes_seen scope.nesting scope.items) ≡ sight_at (hidden f.role) f.number id
+  pub own_discharged : (scope : Scope V T) (id : List ℕ) (f : Found) → IsUsedAt (ids_in scope) id f → length (ids_around scope.nesting) ≤ f.place → find (λ c. bytes_eq c.id id) (direct_assumes scope.nesting scope.items) ≡ sight_at (hidden f.role) f.number id
   own_discharged scope id f h inside_it =
       let n = length (ids_around scope.nesting) in
       let own = own_ids scope.nesting scope.items in

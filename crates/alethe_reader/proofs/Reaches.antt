@@ -8,8 +8,7 @@ use Rattle.sym_table.proofs.Lists.{slice_get-kept}
 use Rattle.term_model.specs.Terms.{Var, Term}
 use Rattle.rule_model.specs.Proofs.{ProofItems}
 use Rattle.rule_model.specs.Scopes.{Anchor, Nesting, inside, Scope, at, scope_number}
-use Rattle.rule_model.specs.Visibility.{Sight, sight, seen}
-use Rattle.alethe_text.specs.Ids.{assumes_seen}
+use Rattle.rule_model.specs.Visibility.{Sight, sight, seen, direct_assumes}
 use Rattle.alethe_reader.specs.declared.ids.Found.{Found}
 use Rattle.alethe_reader.specs.declared.ids.Role.{Role}
 use Rattle.alethe_reader.specs.declared.ids.Role.TheVariants as role
@@ -112,14 +111,14 @@ module _ (around : Nesting Var Term) (before : ProofItems Var Term) (anchor : An
 
   -- the assumes of the scope that is closed
   pub reaches_assumes : (first len : ℕ) → first ≡ length outer + 1 → len ≡ length (ids_in (at (inside around before anchor) items))
-      → IsReach (ids_in (at (inside around before anchor) items)) (record { first = first; end = len; takes_steps = false }) (assumes_seen (inside around before anchor) items)
+      → IsReach (ids_in (at (inside around before anchor) items)) (record { first = first; end = len; takes_steps = false }) (direct_assumes (inside around before anchor) items)
   reaches_assumes first len e l = record {
     seen = λ id f h. go id f h (nat_le first f.place) refl;
     unseen = λ id h. none_discharged (at (inside around before anchor) items) id h;
   }
     where
       go : (id : List ℕ) (f : Found) → IsUsedAt (ids_in (at (inside around before anchor) items)) id f → (b : Bool) → nat_le first f.place ≡ b
-          → find (λ c. bytes_eq c.id id) (assumes_seen (inside around before anchor) items) ≡ picked b (nat_lt f.place len) (takes false f.role) (sight f.number id)
+          → find (λ c. bytes_eq c.id id) (direct_assumes (inside around before anchor) items) ≡ picked b (nat_lt f.place len) (takes false f.role) (sight f.number id)
       go id f h true t =
           own_discharged (at (inside around before anchor) items) id f h (let w = leb-true first f.place t in omega (arith, w, e, opened))
           ∙ picks_assumes f.number id true (nat_lt f.place len) f.role refl (lt-ltb f.place len (let w = slice_get_within _ f.place _ h.here in omega (arith, w, l)))

@@ -27,7 +27,7 @@ use Rattle.alethe_text.specs.ProofTexts.{commands, behind_answer, is_list_of_com
 use Rattle.alethe_text.specs.States.{ProofSettings, ProofState, unread, ◌>>=◌}
 use Rattle.alethe_commands.specs.TextItems.{HasCommandItems, behind_list}
 use Rattle.alethe_reader.specs.Answers.{WasRead}
-use Rattle.alethe_reader.specs.Bound.{AreBound}
+use Rattle.alethe_reader.specs.Bound.{AreAnchorsBound}
 use Rattle.alethe_reader.specs.IdsInUse.{ids_in}
 use Rattle.alethe_reader.specs.Reading.{IsCountedOfProof, IsProofOf}
 use Rattle.alethe_reader.specs.Sessions.{StandForNesting, starts, IsProofSession}
@@ -43,7 +43,7 @@ use Rattle.term_expansion.specs.SymbolsAndTerms.{both}
 -- nothing was read of a proof
 pub is_new : (s : Table) (v : TermsView) (settings : ProofSettings) (d : Session) (before : Script) → d.builder ≡ unwritten → d.ids.used ≡ []
     → d.anchors.items ≡ []
-    → AreBound (both s v) d.bound outermost → IsReaderOf s v d.reader before (place_in settings outermost) → IsProofSession (both s v) settings d (unread before)
+    → AreAnchorsBound (both s v) d.bound outermost → IsReaderOf s v d.reader before (place_in settings outermost) → IsProofSession (both s v) settings d (unread before)
 is_new s v settings d before built none no_anchors bound reader = record {
   reader = reader;
   written = record {

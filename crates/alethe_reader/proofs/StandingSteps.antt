@@ -11,12 +11,12 @@ use Rattle.term_pool.specs.Views.{TermsView}
 use Rattle.rule_model.specs.Proofs.{ProofItems}
 use Rattle.rule_model.specs.RuleNames.{IsSymbolName}
 use Rattle.rule_model.specs.Scopes.{Anchor, Nesting, outermost, inside, at, scope_number}
-use Rattle.rule_model.specs.Visibility.{seen}
+use Rattle.rule_model.specs.Visibility.{seen, direct_assumes}
 use Rattle.rule_model.specs.Writing.{is_open_id}
 use Rattle.term_pool.specs.Bindings.{IsBindingOf}
 use Rattle.text_items.specs.ItemShapes.{Name}
 use Rattle.problem_text.specs.Outcomes.{Outcome, done, and_then}
-use Rattle.alethe_text.specs.Ids.{assumes_seen, Standing as TextStanding, id_judged, stands_in, closes_scope, standing_of}
+use Rattle.alethe_text.specs.Ids.{Standing as TextStanding, id_judged, stands_in, closes_scope, standing_of}
 use Rattle.alethe_text.specs.States.{ProofState, ◌>>=◌, give}
 use Rattle.alethe_reader.specs.declared.ids.Found.{Found}
 use Rattle.alethe_reader.specs.declared.ids.Role.TheVariants as role
@@ -202,6 +202,6 @@ module _ (s : Table) (v : TermsView) (d : Session) (p : ProofState) (n : Name) (
               premises = subst (λ m. IsReach d.ids.used (record { first = 0; end = a.ids; takes_steps = true }) (closes_scope m p.scope.items).sees) same
                   (subst (λ us. IsReach us (record { first = 0; end = a.ids; takes_steps = true }) (seen outer behind)) (sym ids) (reaches_outer outer behind other p.scope.items a.ids start));
               discharges = subst (λ m. IsReach d.ids.used (record { first = first; end = len; takes_steps = false }) (closes_scope m p.scope.items).discharges) same
-                  (subst (λ us. IsReach us (record { first = first; end = len; takes_steps = false }) (assumes_seen (inside outer behind other) p.scope.items)) (sym ids)
+                  (subst (λ us. IsReach us (record { first = first; end = len; takes_steps = false }) (direct_assumes (inside outer behind other) p.scope.items)) (sym ids)
                   (reaches_assumes outer behind other p.scope.items first len (e ∙ ap (λ n. n + 1) start) (l ∙ ap length ids)));
             }

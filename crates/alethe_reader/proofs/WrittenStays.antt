@@ -13,7 +13,7 @@ use Rattle.term_model.proofs.Zips.{zip_weaken}
 use Rattle.term_reader.proofs.Staying.{refers_stays}
 use Rattle.alethe_text.specs.States.{ProofState}
 use Rattle.alethe_reader.specs.declared.session.Session.{Session}
-use Rattle.alethe_reader.specs.Bound.{AreBound, images_in}
+use Rattle.alethe_reader.specs.Bound.{AreAnchorsBound, images_in}
 use Rattle.alethe_reader.specs.declared.bound.BoundVariables.{BoundVariables}
 use Rattle.alethe_reader.specs.declared.ids.Found.{Found}
 use Rattle.alethe_reader.specs.Ids.{Used, IsUnused, IsUsedAt, IsIdFound}
@@ -41,7 +41,7 @@ module _ (s z : Table) (v w : TermsView) (table : Keeps s z) (terms : KeepsTerms
     bindings_stay anchor.bindings other.bindings h.3,
   )
 
-  bound_stays : (b : BoundVariables) (n : Nesting Var Term) → AreBound (both s v) b n → AreBound (both z w) b n
+  bound_stays : (b : BoundVariables) (n : Nesting Var Term) → AreAnchorsBound (both s v) b n → AreAnchorsBound (both z w) b n
   bound_stays b n h = record { names = h.names; images = bindings_stay b.images.items (images_in n) h.images; apart = h.apart }
 
   pub written_stays : (d : Session) (p : ProofState) → IsWritten (both s v) d p → IsWritten (both z w) d p

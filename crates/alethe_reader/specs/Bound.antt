@@ -23,7 +23,7 @@ BindApart outermost = ⊤
 BindApart (inside around before anchor) = BindApart around × AllByRecursion (λ b. is_among (bound_names around) b.0.name ≡ false) anchor.bindings
 
 -- the names and the images are those of the open anchors
-pub record AreBound (w : SymbolsAndTerms) (b : BoundVariables) (nesting : Nesting Var Term) : Type 0 where
+pub record AreAnchorsBound (w : SymbolsAndTerms) (b : BoundVariables) (nesting : Nesting Var Term) : Type 0 where
   pub names : map (λ u. u.id) b.names.used ≡ bound_names nesting
   pub images : AllZip (IsBindingOf w.symbols w.terms) b.images.items (images_in nesting)
   pub apart : BindApart nesting

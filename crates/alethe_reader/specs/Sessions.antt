@@ -8,7 +8,7 @@ use Rattle.proof_store.specs.Meaning.{StandForItems}
 use Rattle.term_reader.specs.ProblemViews.{IsReaderOf}
 use Rattle.alethe_text.specs.ProofTerms.{place_in}
 use Rattle.alethe_text.specs.States.{ProofSettings, ProofState}
-use Rattle.alethe_reader.specs.Bound.{AreBound}
+use Rattle.alethe_reader.specs.Bound.{AreAnchorsBound}
 use Rattle.alethe_reader.specs.IdsInUse.{ids_in}
 use Rattle.alethe_reader.specs.declared.session.Session.{Session}
 use Rattle.term_expansion.specs.SymbolsAndTerms.{SymbolsAndTerms}
@@ -39,7 +39,7 @@ pub record IsWritten (w : SymbolsAndTerms) (d : Session) (p : ProofState) : Type
   pub places : map (λ a. a.place) d.anchors.items ≡ p.anchors
   pub starts_kept : map (λ a. a.ids) d.anchors.items ≡ starts d.builder.nesting
   pub counts_kept : map (λ a. a.variables) d.anchors.items ≡ counts d.builder.nesting
-  pub bound : AreBound w d.bound p.scope.nesting
+  pub bound : AreAnchorsBound w d.bound p.scope.nesting
 
 -- what was read of a proof stands for the state
 pub record IsProofSession (w : SymbolsAndTerms) (settings : ProofSettings) (d : Session) (p : ProofState) : Type 0 where

@@ -19,7 +19,7 @@ ghost use Rattle.alethe_text.specs.Commands as shape;
 ghost use Rattle.alethe_text.specs.ProofTerms.{place_in};
 ghost use Rattle.alethe_text.specs.States.{ProofSettings, ProofState};
 ghost use Rattle.alethe_reader.specs.Answers.{AnswersAs};
-ghost use Rattle.alethe_reader.specs.Bound.{AreBound, BindApart, images_in};
+ghost use Rattle.alethe_reader.specs.Bound.{AreAnchorsBound, BindApart, images_in};
 ghost use Rattle.alethe_reader.specs.Opening.{IsOpening, IsArgumentRead, AreArgumentsRead, IsNameJudged, is_wanted, image_read, IsImageRead};
 ghost use Rattle.term_expansion.specs.SymbolsAndTerms.{both};
 
@@ -75,10 +75,10 @@ pub(crate) fn read_arguments(
     requires arguments { AreArgumentsAt items.now first (length items.now.nodes) }
     requires scope { (settings : ProofSettings) × (p : ProofState) ×
         IsReaderOf symbols.old terms.old reader.old p.script (place_in settings p.scope.nesting) ×
-        AreBound (both symbols.old terms.old) bound.old p.scope.nesting }
+        AreAnchorsBound (both symbols.old terms.old) bound.old p.scope.nesting }
     requires room { length symbols.old.leaves + (length items.now.nodes - first) ≤ 2 ^ 30 }
     ensures read { (settings : ProofSettings) (p : ProofState) → IsReaderOf symbols.old terms.old reader.old p.script (place_in settings p.scope.nesting) →
-        AreBound (both symbols.old terms.old) bound.old p.scope.nesting →
+        AreAnchorsBound (both symbols.old terms.old) bound.old p.scope.nesting →
         AnswersAs terms.old (both symbols.new terms.new) (AreArgumentsRead (both symbols.new terms.new) settings reader.new bound.new p)
         (arguments_read settings [] (shape.arguments_in (items_at items.now first (length items.now.nodes))) p) result }
     ensures few { length symbols.new.leaves ≤ length symbols.old.leaves + (length items.now.nodes - first) }

@@ -6,7 +6,7 @@ ghost use Rattle.term_pool.specs.Views.{TermsView};
 ghost use Rattle.rule_model.specs.Proofs.{ProofItems};
 ghost use Rattle.rule_model.specs.Scopes.{Anchor, Nesting, outermost, inside, own_bindings};
 ghost use Rattle.problem_text.specs.Words.{is_among};
-ghost use Rattle.alethe_reader.specs.Bound.{AreBound};
+ghost use Rattle.alethe_reader.specs.Bound.{AreAnchorsBound};
 ghost use Rattle.alethe_reader.specs.Ids.{IsUnused};
 ghost use Rattle.term_expansion.specs.SymbolsAndTerms.{both};
 
@@ -38,7 +38,7 @@ pub(crate) struct OpenedVariable {
 impl BoundVariables {
     /// Nothing is bound.
     pub fn new(alloc: Global) -> BoundVariables
-        ensures { (s : Table) (v : TermsView) → AreBound (both s v) result outermost }
+        ensures { (s : Table) (v : TermsView) → AreAnchorsBound (both s v) result outermost }
     {
         BoundVariables {
             alloc,
@@ -71,10 +71,10 @@ impl BoundVariables {
 
     /// Leaves the scope of the innermost anchor, which binds so many variables.
     pub(crate) fn leave(&mut self, count: usize)
-        requires { (s : Table) × (v : TermsView) × (nesting : Nesting Var Term) × AreBound (both s v) self.old nesting ×
+        requires { (s : Table) × (v : TermsView) × (nesting : Nesting Var Term) × AreAnchorsBound (both s v) self.old nesting ×
             (count ≡ length (own_bindings nesting)) }
         ensures { (s : Table) (v : TermsView) (around : Nesting Var Term) (before : ProofItems Var Term) (anchor : Anchor Var Term) →
-            count ≡ length anchor.bindings → AreBound (both s v) self.old (inside around before anchor) → AreBound (both s v) self.new around }
+            count ≡ length anchor.bindings → AreAnchorsBound (both s v) self.old (inside around before anchor) → AreAnchorsBound (both s v) self.new around }
     {
         let left = self.images.len() - count;
         self.images.truncate(left);

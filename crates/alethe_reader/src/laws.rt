@@ -5,10 +5,9 @@ ghost use Rattle.problem_text.specs.Words.{is_among};
 ghost use Rattle.rule_model.specs.Proofs.{ProofItems, Step};
 ghost use Rattle.rule_model.specs.RuleNames.{IsSymbolName};
 ghost use Rattle.rule_model.specs.Scopes.{Anchor, Nesting, inside, Scope, at, next_index, next_scope};
-ghost use Rattle.rule_model.specs.Visibility.{seen, open_ids};
+ghost use Rattle.rule_model.specs.Visibility.{seen, open_ids, direct_assumes};
 ghost use Rattle.rule_model.specs.WellFormed.{IsNewId};
 ghost use Rattle.rule_model.specs.Writing.{add_assume, add_step, open_anchor, close_scope};
-ghost use Rattle.alethe_text.specs.Ids.{assumes_seen};
 ghost use Rattle.alethe_reader.specs.declared.ids.Found.{Found};
 ghost use Rattle.alethe_reader.specs.declared.ids.Role.TheVariants as role;
 ghost use Rattle.alethe_reader.specs.Ids.{IsUnused, IsUsedAt};
@@ -40,9 +39,9 @@ pub fn ids_in_use_are_seen()
 /// What a step may discharge that closes the scope that is written: an id that was put in use in it, and is that of an assume.
 pub fn assumes_are_discharged()
     ensures own { (scope : Scope ℕ ℕ) (id : List ℕ) (f : Found) → IsUsedAt (ids_in scope) id f → length (ids_around scope.nesting) ≤ f.place →
-        find (λ c. bytes_eq c.id id) (assumes_seen scope.nesting scope.items) ≡ sight_at (hidden f.role) f.number id }
+        find (λ c. bytes_eq c.id id) (direct_assumes scope.nesting scope.items) ≡ sight_at (hidden f.role) f.number id }
     ensures outer { (scope : Scope ℕ ℕ) (id : List ℕ) (f : Found) → IsUsedAt (ids_in scope) id f → f.place < length (ids_around scope.nesting) →
-        find (λ c. bytes_eq c.id id) (assumes_seen scope.nesting scope.items) ≡ None }
+        find (λ c. bytes_eq c.id id) (direct_assumes scope.nesting scope.items) ≡ None }
     ensures unused { (scope : Scope ℕ ℕ) (id : List ℕ) → IsUnused (ids_in scope) id →
-        find (λ c. bytes_eq c.id id) (assumes_seen scope.nesting scope.items) ≡ None }
+        find (λ c. bytes_eq c.id id) (direct_assumes scope.nesting scope.items) ≡ None }
 {}

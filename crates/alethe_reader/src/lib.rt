@@ -8,8 +8,9 @@
 //!   proof). `anchors`: anchors, with `anchor_arguments`, `needed_images` (the images that an argument needs), `scopes` and
 //!   `bound` (the variables that open anchors bind). `formulas`: formulas in a scope. `judging`: the id of a command.
 //!   `ranges`: items that stand one behind another.
-//! - `session`: what was read of a proof. `settings`: what never changes meanwhile. [`Ids`] has the ids of the visible commands and of the open anchors, by name, with no
-//!   copy of a scope; `laws` ties them to the proof that is written, as `rule_model` has it.
+//! - `session`: what was read of a proof. `settings`: what never changes meanwhile. [`Ids`] has the ids of the visible commands
+//!   and of the open anchors, by name, with no copy of a scope; `laws` ties them to the proof that is written, as `rule_model`
+//!   has it.
 //!
 //! What a contract sees: `specs/Reading` (the proof that is returned, and which terms count as read), `specs/Sessions` (which
 //! state a session stands for) and `specs/Answers` (what a part of the reader returns, and the outcome of its definition).

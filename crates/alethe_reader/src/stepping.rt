@@ -23,7 +23,7 @@ ghost use Rattle.alethe_text.specs.Steps as steps;
 ghost use Rattle.alethe_reader.specs.AddedSteps as spec;
 ghost use Rattle.alethe_reader.specs.AddedSteps.{IsToAdd};
 ghost use Rattle.alethe_reader.specs.Answers.{AnswersAs};
-ghost use Rattle.alethe_reader.specs.Bound.{AreBound};
+ghost use Rattle.alethe_reader.specs.Bound.{AreAnchorsBound};
 ghost use Rattle.alethe_reader.specs.Ids.{Used};
 ghost use Rattle.alethe_reader.specs.Sessions.{IsProofSession, StandsAfter};
 ghost use Rattle.alethe_reader.specs.Settings.{proof_settings};
@@ -201,13 +201,13 @@ fn ratios_of(parts: &StepParts) -> Option<&[Ratio]>
 
 /// Leaves the scope of the innermost anchor: its ids, its variables, and itself.
 fn leave_scope(session: &mut Session<'_>, anchor: OpenAnchor)
-    requires { (s : Table) × (v : TermsView) × (nesting : Nesting Var Term) × AreBound (both s v) session.old.bound nesting ×
+    requires { (s : Table) × (v : TermsView) × (nesting : Nesting Var Term) × AreAnchorsBound (both s v) session.old.bound nesting ×
         (anchor.variables ≡ length (own_bindings nesting)) }
     ensures ids { session.new.ids ≡ record { names = session.old.ids.names; used = take anchor.ids session.old.ids.used } }
     ensures anchors { (front : List OpenAnchor) (last : OpenAnchor) → session.old.anchors.items ≡ front ++ last ∷ [] → session.new.anchors.items ≡ front }
     ensures bound { (s : Table) (v : TermsView) (around : Nesting Var Term) (before : Proof Var Term) (other : Anchor Var Term) →
-        anchor.variables ≡ length other.bindings → AreBound (both s v) session.old.bound (inside around before other) →
-        AreBound (both s v) session.new.bound around }
+        anchor.variables ≡ length other.bindings → AreAnchorsBound (both s v) session.old.bound (inside around before other) →
+        AreAnchorsBound (both s v) session.new.bound around }
     ensures builder { session.new.builder ≡ session.old.builder }
     ensures reader { session.new.reader ≡ session.old.reader }
 {

@@ -1,16 +1,14 @@
 -- What is written may stand where it does.
-use Rattle.std.proofs.Common.{◌≡◌, ◌+◌, ◌⊎◌, inl, inr, ℕ, List, [], ◌∷◌, ◌++◌, map, true, false, None, IfSome, All, Contains, refl, sym, ◌∙◌, ap, subst, arith}
-use Rattle.std.proofs.lemmas.List.{map-append}
+use Rattle.std.proofs.Common.{◌≡◌, ◌⊎◌, inl, inr, ℕ, List, [], ◌∷◌, map, true, false, None, IfSome, All, Contains, refl, sym, ◌∙◌, subst, arith}
 use Rattle.std.proofs.lemmas.Slice.Eq.{bytes_eq-Decides}
 use Rattle.term_model.specs.Terms.{Var, Term}
 use Rattle.rule_model.specs.declared.rules.Rule.{Rule}
-use Rattle.rule_model.specs.Proofs.{Step, ProofItems, no_items, with_assume, with_step, with_subproof}
+use Rattle.rule_model.specs.Proofs.{Step, ProofItems}
 use Rattle.rule_model.specs.RuleNames.{rule_named, left_out_rules, IsSymbolName}
-use Rattle.rule_model.specs.Scopes.{Anchor, Nesting, outermost, inside, Scope, at, first_index, commands_in}
-use Rattle.rule_model.specs.Visibility.{sight, assumes_in}
+use Rattle.rule_model.specs.Scopes.{Anchor, Nesting, outermost, inside, Scope, at}
 use Rattle.rule_model.specs.WellFormed.{IsNewId, IsLowest, HasRule, MayOpen, MayClose, AreWellFormed, IsWellPlaced}
 use Rattle.rule_model.specs.Writing.{is_open_id, add_assume, add_step, open_anchor, close_scope, take_step}
-use Rattle.alethe_text.specs.Ids.{assumes_seen, Standing, stands_in, closes_scope}
+use Rattle.alethe_text.specs.Ids.{Standing, stands_in, closes_scope}
 
 -- Each item in a scope and around it may stand where it does.
 pub record IsPlaced (scope : Scope Var Term) : Type 0 where
@@ -51,14 +49,6 @@ has_rule p id word step h k = record {
   ratios = h.ratios;
   lowest = h.lowest;
 }
-
-assumes_indices : (nesting : Nesting Var Term) (items : ProofItems Var Term) → map (λ c. c.index) (assumes_seen nesting items) ≡ assumes_in nesting items
-assumes_indices nesting no_items = refl
-assumes_indices nesting (with_assume items id t) =
-    map-append (λ c. c.index) (assumes_seen nesting items) (sight (first_index nesting + commands_in items) id ∷ [])
-    ∙ ap (λ l. l ++ (first_index nesting + commands_in items) ∷ []) (assumes_indices nesting items)
-assumes_indices nesting (with_step items s) = assumes_indices nesting items
-assumes_indices nesting (with_subproof items bindings proof s) = assumes_indices nesting items
 
 pub assume_placed : (scope : Scope Var Term) (id : List ℕ) (t : Term) → IsPlaced scope → IsNew scope id → IsPlaced (add_assume scope id t)
 assume_placed scope id t h new = record { around = h.around; here = (h.here, new) }
@@ -105,7 +95,7 @@ closing_placed (inside around before anchor) items id word step h e read kept =
     let may : MayClose around before closed items step = record {
       rule = has_rule (closes_scope closed items) id word step read kept;
       premises = read.premises;
-      discharged = subst (λ indices. All (Contains indices) step.discharged) (assumes_indices closed items) read.discharged;
+      discharged = read.discharged;
     } in
     let three = subst (IsSubproof around before anchor items step) same (h.around.2, h.here, may) in
     record { around = h.around.0; here = (h.around.1, three.0, three.1, three.2) }

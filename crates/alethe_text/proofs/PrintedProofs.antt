@@ -31,9 +31,9 @@ use Rattle.alethe_text.specs.ProofTerms.{place_in, term_in, formula_in, formulas
 use Rattle.alethe_text.specs.Steps.{assume_read, step_read, attributes_read, attribute_read, bare_step, rule_word, without_closed, step_taken}
 use Rattle.alethe_text.specs.ProofTexts.{performed, commands, behind_answer, unwrapped_commands, excess_behind, is_list_of_commands, closed_proof}
 use Rattle.alethe_text.specs.ProofTexts.{proof_from, StandsForProof}
-use Rattle.alethe_text.specs.PrintedCommands.{symbol_items, StepItems, assume_item, step_item, anchor_item, ArgumentItems, argument_item, argument_items}
-use Rattle.alethe_text.specs.PrintedCommands.{Written, state_of, command_read, Leads, LeadAll, IsListOfWord, BeginsAsProof, IsFormulaItem}
-use Rattle.alethe_text.specs.PrintedCommands.{AreFormulaItems, IsIdFree, StandsAs, IsSeenAs, ArgumentsLead, IsStepRead, AreArgumentItems}
+use Rattle.alethe_text.specs.PrintedCommands.{symbol_items, StepItems, assume_item, step_item, anchor_item, ArgumentItems, argument_item, printed_arguments}
+use Rattle.alethe_text.specs.PrintedCommands.{Written, state_of, command_read, ItemLeads, LeadAll, IsListOfWord, BeginsAsProof, IsFormulaItem}
+use Rattle.alethe_text.specs.PrintedCommands.{AreFormulaItems, IsIdFree, StepStands, IsSeenAs, ArgumentsLead, IsStepRead, AreArgumentItems}
 use Rattle.alethe_text.proofs.PrintedCommands.{at_item, AreSymbolItems, some_items, listed_attribute, assume_shaped, step_shaped, anchor_shaped}
 
 -- one command, and then others
@@ -148,7 +148,7 @@ assumed settings n i s u t free read = rw (free, read) refl
 
 pub assume_leads : (settings : ProofSettings) (id : List ℕ) (i : Item) (a : Written) (t : Term) (u : Script) → IsSymbolItem id → IsIdFree id a.scope
     → IsFormulaItem settings a.scope.nesting i a.script t u
-    → Leads settings (assume_item id i) a (record { script = u; scope = add_assume a.scope id t })
+    → ItemLeads settings (assume_item id i) a (record { script = u; scope = add_assume a.scope id t })
 unfolding performed
 assume_leads settings id i a t u is free read at places =
     let h = assume_shaped at id i is in
@@ -162,7 +162,7 @@ assume_leads settings id i a t u is free read at places =
     )
 
 -- where a step stands
-standing_is : (n : Name) (p : ProofState) (at : Standing) → StandsAs n.name p.scope at → standing_of n p ≡ done at p
+standing_is : (n : Name) (p : ProofState) (at : Standing) → StepStands n.name p.scope at → standing_of n p ≡ done at p
 unfolding standing_of ◌>>=◌
 standing_is n p at (inl h) = let e = h.0 in rw e (ap (λ (x : Standing). done x p) (sym h.1))
 standing_is n p at (inr h) =
@@ -300,7 +300,7 @@ module _ (settings : ProofSettings) (x : StepItems) (a : Written) (made : Step T
       let attributes : List Attribute = attributes_of_it g.rule_name g.premise_names g.arguments_place g.discharged_names in
       let literals : Items = placed_all g.place (32 ∷ []) x.literals in
       let stands : standing_of g.name s ≡ done h.at s =
-      standing_is g.name s h.at (subst (λ name. StandsAs name a.scope h.at) (sym g.named) h.stands) in
+      standing_is g.name s h.at (subst (λ name. StepStands name a.scope h.at) (sym g.named) h.stands) in
       let read = all_read g.rule_name g.premise_names g.arguments_place g.discharged_names g.rule_named g.premises_are g.discharged_are in
       let begun : attributes_read settings h.at attributes (bare_step g.name.name g.rule_name.name h.clause) u ≡ done made w =
       ap (λ name. attributes_read settings h.at attributes (bare_step name g.rule_name.name h.clause) u) g.named
@@ -311,7 +311,7 @@ module _ (settings : ProofSettings) (x : StepItems) (a : Written) (made : Step T
 
 pub step_leads : (settings : ProofSettings) (x : StepItems) (a : Written) (made : Step Term) (last : Script) → IsStepRead settings x a made last
     → IsSymbolItem x.id → IsSymbolItem x.word_of_rule → AreSymbolItems x.premises → AreSymbolItems x.discharged
-    → Leads settings (step_item x) a (record { script = last; scope = take_step a.scope made })
+    → ItemLeads settings (step_item x) a (record { script = last; scope = take_step a.scope made })
 step_leads settings x a made last h id_is rule_is ps_are ds_are at places =
     (without_closed (record (state_of a places) { script = last }) made, step_reads settings x a made last h places id_is rule_is ps_are ds_are at)
 
@@ -339,19 +339,19 @@ abbrev term_place : ℕ → ArgumentItems → ℕ
 term_place at x = at + 1 + 0 + 2 + 1 + length (printed (list 0 (item (symbol_item x.name) (item x.sort no_items)))) + 1
 
 all_well : (xs : List ArgumentItems) → AreNamed xs → (at : ℕ) (before : List ℕ)
-    → each_argument_fault (placed_all at before (argument_items xs)) ≡ None
+    → each_argument_fault (placed_all at before (printed_arguments xs)) ≡ None
 all_well [] h at before = refl
 all_well (x ∷ xs) h at before =
     let start : ℕ = at + length before in
     let first = argument_well start (start + 1 + 0) (start + 1 + 0 + 2 + 1) (placed (name_place start) (symbol_item x.name))
     (placed (sort_place start x) x.sort) (placed (term_place start x) x.term) x.name (h.0.named (name_place start)) in
     let others = all_well xs h.1 (start + length (printed (argument_item x))) (32 ∷ []) in
-    ap (λ o. option_or o (each_argument_fault (placed_all (start + length (printed (argument_item x))) (32 ∷ []) (argument_items xs)))) first
+    ap (λ o. option_or o (each_argument_fault (placed_all (start + length (printed (argument_item x))) (32 ∷ []) (printed_arguments xs)))) first
     ∙ others
 
 arguments_led : (settings : ProofSettings) (scope : Scope Var Term) (earlier : List (List ℕ)) (xs : List ArgumentItems) (s : Script)
     (bs : List (Var × Term)) (u : Script) (places : List ℕ) → AreNamed xs → AreArgumentItems settings scope earlier xs s bs u → (at : ℕ) (before : List ℕ)
-    → arguments_read settings earlier (arguments_in (placed_all at before (argument_items xs))) (record { script = s; scope = scope; anchors = places })
+    → arguments_read settings earlier (arguments_in (placed_all at before (printed_arguments xs))) (record { script = s; scope = scope; anchors = places })
     ≡ done bs (record { script = u; scope = scope; anchors = places })
 unfolding arguments_read ◌>>=◌
 arguments_led settings scope earlier [] s [] u places named h at before =
@@ -376,17 +376,17 @@ anchored settings place n others bs s u free read = rw (free, read) refl
 
 pub anchor_leads : (settings : ProofSettings) (id : List ℕ) (xs : List ArgumentItems) (a : Written) (bs : List (Var × Term)) (u : Script)
     → IsSymbolItem id → IsIdFree id a.scope → AllByRecursion (λ x. IsSymbolItem x.name) xs → AreArgumentItems settings a.scope [] xs a.script bs u
-    → Leads settings (anchor_item id (argument_items xs)) a
+    → ItemLeads settings (anchor_item id (printed_arguments xs)) a
     (record { script = u; scope = open_anchor a.scope (record { id = id; bindings = bs }) })
 unfolding performed
 anchor_leads settings id xs a bs u is free named read at places =
-    let h = anchor_shaped at id (argument_items xs) is (λ k. all_well xs named k []) in
+    let h = anchor_shaped at id (printed_arguments xs) is (λ k. all_well xs named k []) in
     let s = state_of a places in
-    let others : List Argument = arguments_in (placed_all h.place [] (argument_items xs)) in
+    let others : List Argument = arguments_in (placed_all h.place [] (printed_arguments xs)) in
     let end : ProofState = record s { script = u } in
     let judged = id_free Repeated h.name s (subst (λ name. IsIdFree name a.scope) (sym h.named) free) in (
       places ++ at ∷ [],
-      performed_so settings (placed at (anchor_item id (argument_items xs))) (anchor at h.name others) s _ h.shape
+      performed_so settings (placed at (anchor_item id (printed_arguments xs))) (anchor at h.name others) s _ h.shape
           (subst (λ name. anchor_read settings at h.name others s ≡ done tt (with_anchor at name bs end)) h.named
           (anchored settings at h.name others bs s end judged
           (arguments_led settings a.scope [] xs a.script bs u places named read h.place []))),

@@ -1,11 +1,11 @@
 -- Public. Ids (Alethe, "The Proof Format" and "Subproofs"): which a command may have, and which commands a step may name.
-use Rattle.std.specs.Prelude.{ℕ, ◌+◌, not, if◌then◌else◌, List, [], ◌∷◌, ◌++◌, find, bytes_eq, ⊤}
+use Rattle.std.specs.Prelude.{ℕ, not, if◌then◌else◌, List, [], ◌∷◌, find, bytes_eq, ⊤}
 use Rattle.sexpr.specs.declared.causes.Cause.{Cause}
 use Rattle.sexpr.specs.declared.causes.Cause.TheVariants.{Repeated, NoStep, BadAnchor}
 use Rattle.term_model.specs.Terms.{Var, Term}
-use Rattle.rule_model.specs.Proofs.{ProofItems, no_items, with_assume, with_step, with_subproof}
-use Rattle.rule_model.specs.Scopes.{Nesting, outermost, inside, Scope, first_index, commands_in}
-use Rattle.rule_model.specs.Visibility.{Sight, sight, seen, visible_ids, open_ids}
+use Rattle.rule_model.specs.Proofs.{ProofItems}
+use Rattle.rule_model.specs.Scopes.{Nesting, outermost, inside, Scope}
+use Rattle.rule_model.specs.Visibility.{Sight, direct_assumes, seen, visible_ids, open_ids}
 use Rattle.rule_model.specs.Writing.{is_open_id}
 use Rattle.text_items.specs.ItemShapes.{Name}
 use Rattle.problem_text.specs.Words.{is_among}
@@ -19,14 +19,6 @@ id_judged of_anchor n = do
   _ ← demand (not (is_among (open_ids scope.nesting) n.name)) of_anchor n.place
   demand (not (is_among (visible_ids scope.nesting scope.items) n.name)) Repeated n.place
 
--- the assumes that stand directly in a scope
-abbrev pub assumes_seen : {V T : Type 0} → Nesting V T → ProofItems V T → List Sight
-assumes_seen nesting no_items = []
-assumes_seen nesting (with_assume items id t) =
-    assumes_seen nesting items ++ sight (first_index nesting + commands_in items) id ∷ []
-assumes_seen nesting (with_step items s) = assumes_seen nesting items
-assumes_seen nesting (with_subproof items bindings proof s) = assumes_seen nesting items
-
 -- Where a step stands: the scope to which it belongs, the commands that it sees, and the assumes that it may discharge.
 pub record Standing : Type 0 where
   pub nesting : Nesting Var Term
@@ -39,11 +31,8 @@ stands_in scope = record { nesting = scope.nesting; sees = seen scope.nesting sc
 -- a step that closes a scope belongs to the scope around
 abbrev pub closes_scope : Nesting Var Term → ProofItems Var Term → Standing
 closes_scope outermost items = record { nesting = outermost; sees = []; discharges = [] }
-closes_scope (inside around before anchor) items = record {
-  nesting = around;
-  sees = seen around before;
-  discharges = assumes_seen (inside around before anchor) items;
-}
+closes_scope (inside around before anchor) items =
+    record { nesting = around; sees = seen around before; discharges = direct_assumes (inside around before anchor) items }
 
 -- A step with the id of the innermost open anchor closes its scope.
 unfoldable pub standing_of : Name → Reading Standing

@@ -68,9 +68,9 @@ abbrev pub argument_item : ArgumentItems → Item
 argument_item x =
     list 0 (item (word 0 (codes ":=")) (item (list 0 (item (symbol_item x.name) (item x.sort no_items))) (item x.term no_items)))
 
-abbrev pub argument_items : List ArgumentItems → Items
-argument_items [] = no_items
-argument_items (x ∷ xs) = item (argument_item x) (argument_items xs)
+abbrev pub printed_arguments : List ArgumentItems → Items
+printed_arguments [] = no_items
+printed_arguments (x ∷ xs) = item (argument_item x) (printed_arguments xs)
 
 abbrev pub anchor_item : List ℕ → Items → Item
 anchor_item id others =
@@ -89,14 +89,14 @@ abbrev pub command_read : ProofSettings → Item → Reading ⊤
 command_read settings i = given (command_of i) >>= performed settings
 
 -- Wherever the item stands, it is a command that leads from the one to the other.
-abbrev pub Leads : ProofSettings → Item → Written → Written → Type 0
-Leads settings i a b =
+abbrev pub ItemLeads : ProofSettings → Item → Written → Written → Type 0
+ItemLeads settings i a b =
     (at : ℕ) (places : List ℕ) → (after : List ℕ) × (command_read settings (placed at i) (state_of a places) ≡ done tt (state_of b after))
 
 -- each item leads on from where the one before it led
 abbrev pub LeadAll : ProofSettings → Items → Written → Written → Type 0
 LeadAll settings no_items a b = a ≡ b
-LeadAll settings (item i is) a b = (next : Written) × Leads settings i a next × LeadAll settings is next b
+LeadAll settings (item i is) a b = (next : Written) × ItemLeads settings i a next × LeadAll settings is next b
 
 -- the item has the form of a printed command
 abbrev pub IsListOfWord : Item → Type 0
@@ -125,8 +125,8 @@ pub record IsIdFree (id : List ℕ) (scope : Scope Var Term) : Type 0 where
   pub unseen : is_among (visible_ids scope.nesting scope.items) id ≡ false
 
 -- A step with the id of the innermost open anchor closes its scope, and any other has an id that is free.
-abbrev pub StandsAs : List ℕ → Scope Var Term → Standing → Type 0
-StandsAs id scope at =
+abbrev pub StepStands : List ℕ → Scope Var Term → Standing → Type 0
+StepStands id scope at =
     ((is_open_id scope.nesting id ≡ true) × (at ≡ closes_scope scope.nesting scope.items))
     ⊎ ((is_open_id scope.nesting id ≡ false) × IsIdFree id scope × (at ≡ stands_in scope))
 
@@ -144,7 +144,7 @@ ArgumentsLead settings nesting (item i is) step s argued u =
 -- The items of a step are read to this step, part by part.
 pub record IsStepRead (settings : ProofSettings) (x : StepItems) (a : Written) (step : Step Term) (u : Script) : Type 0 where
   pub at : Standing
-  pub stands : StandsAs x.id a.scope at
+  pub stands : StepStands x.id a.scope at
   pub clause : List Term
   pub behind_clause : Script
   pub literals : AreFormulaItems settings at.nesting x.literals a.script clause behind_clause

@@ -15,8 +15,8 @@ ghost use Rattle.problem_text.specs.Soundness.{IsSound};
 ghost use Rattle.rule_model.specs.Scopes.{outermost};
 ghost use Rattle.rule_model.specs.Writing.{unwritten, add_assume, open_anchor, take_step};
 ghost use Rattle.alethe_text.specs.Soundness.{AreSorted};
-ghost use Rattle.alethe_text.specs.PrintedCommands.{StepItems, ArgumentItems, assume_item, step_item, anchor_item, argument_items};
-ghost use Rattle.alethe_text.specs.PrintedCommands.{Written, Leads, LeadAll, BeginsAsProof, IsFormulaItem, IsIdFree, IsStepRead, AreArgumentItems};
+ghost use Rattle.alethe_text.specs.PrintedCommands.{StepItems, ArgumentItems, assume_item, step_item, anchor_item, printed_arguments};
+ghost use Rattle.alethe_text.specs.PrintedCommands.{Written, ItemLeads, LeadAll, BeginsAsProof, IsFormulaItem, IsIdFree, IsStepRead, AreArgumentItems};
 ghost use Rattle.alethe_text.specs.States.{ProofSettings};
 ghost use Rattle.alethe_text.specs.ProofTexts.{StandsForProof, IsFirstProofFault};
 
@@ -81,13 +81,13 @@ pub fn proofs_are_read_alike_within_limits()
 pub fn printed_commands_are_read_back()
     ensures assumes { (settings : ProofSettings) (id : List ℕ) (i : Item) (a : Written) (t : Term) (u : Script) → IsSymbolItem id →
         IsIdFree id a.scope → IsFormulaItem settings a.scope.nesting i a.script t u →
-        Leads settings (assume_item id i) a (record { script = u; scope = add_assume a.scope id t }) }
+        ItemLeads settings (assume_item id i) a (record { script = u; scope = add_assume a.scope id t }) }
     ensures steps { (settings : ProofSettings) (x : StepItems) (a : Written) (step : Step Term) (u : Script) → IsStepRead settings x a step u →
         IsSymbolItem x.id → IsSymbolItem x.word_of_rule → AllByRecursion IsSymbolItem x.premises → AllByRecursion IsSymbolItem x.discharged →
-        Leads settings (step_item x) a (record { script = u; scope = take_step a.scope step }) }
+        ItemLeads settings (step_item x) a (record { script = u; scope = take_step a.scope step }) }
     ensures anchors { (settings : ProofSettings) (id : List ℕ) (xs : List ArgumentItems) (a : Written) (bs : List (Var × Term)) (u : Script) →
         IsSymbolItem id → IsIdFree id a.scope → AllByRecursion (λ x. IsSymbolItem x.name) xs →
-        AreArgumentItems settings a.scope [] xs a.script bs u → Leads settings (anchor_item id (argument_items xs)) a
+        AreArgumentItems settings a.scope [] xs a.script bs u → ItemLeads settings (anchor_item id (printed_arguments xs)) a
         (record { script = u; scope = open_anchor a.scope (record { id = id; bindings = bs }) }) }
     ensures texts { (settings : ProofSettings) (before : Script) (items : Items) (end : Written) → AreSpelledItems items →
         BeginsAsProof items → LeadAll settings items (record { script = before; scope = unwritten }) end →

@@ -99,3 +99,5 @@ has_argument s v r n i h low = record {
 
 pub counts_stay : (s : Table) (old new : TermsView) (r n : ℕ) → KeepsReferences old new → HasCount s old r n → HasCount s new r n
 counts_stay s old new r n keeps h = record { means = h.means; refers = keeps s r h.means h.refers; count = h.count }
+
+pub ruleset terms_kept = (keeps_references, counted, has_argument, counts_stay)

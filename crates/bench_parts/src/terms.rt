@@ -268,7 +268,7 @@ fn view(symbols: &Symbols, terms: &mut Terms, built: &[Ref]) -> u64
 }
 
 // The head of a term, and the numbers of its arguments, added up.
-#[tactic(auto, using(crate::proofs::TermLemmas::keeps_references, crate::proofs::TermLemmas::counted, crate::proofs::TermLemmas::has_argument, crate::proofs::TermLemmas::counts_stay))]
+#[tactic(auto, using(crate::proofs::TermLemmas::terms_kept))]
 fn read(symbols: &Symbols, terms: &mut Terms, r: Ref) -> u64
     requires { IsTerm symbols.now terms.old r }
     ensures { KeepsReferences terms.old terms.new }

@@ -7,7 +7,7 @@ use Rattle.std.proofs.lemmas.List.{take_all}
 use Rattle.std.proofs.lemmas.Bool.{true≢false}
 use Rattle.term_model.proofs.Lists.{contains_none, contains_cases, contains_head, contains_later}
 use Rattle.rule_model.specs.Resolution.{IsFirstsOf, IsJoined, Joins, JoinAll}
-use Rattle.clause_chain.specs.Chaining.{clauses_in}
+use Rattle.clause_chain.specs.Chaining.{clauses_of}
 use Rattle.clause_chain.specs.contracts.signed_term.SignedTermPartialEq.TheImpl as signed
 use Rattle.clause_chain.specs.declared.signed_term.SignedTerm.{SignedTerm}
 use Rattle.clause_chain.proofs.Keys.{signed_tells}
@@ -76,13 +76,13 @@ all_as_many pivots (first ∷ premises) clause h = let e = joins_as_many first p
 -- at a place, where a premise and a pivot stand
 module _ {X : Type 0} (chain : List X) (vectors : List (Vec X)) (pivots : List (X × X)) (k : ℕ) (v : Vec X) (p : X × X)
     (premise_here : drop k vectors ≡ v ∷ drop (k + 1) vectors) (pivot_here : drop k pivots ≡ p ∷ drop (k + 1) pivots) (clause : List X) where
-  pub stuck_here : ((next : List X) → IsJoined chain v.items p.0 p.1 next → ⊥) → Joins chain (clauses_in (drop k vectors)) (drop k pivots) clause → ⊥
+  pub stuck_here : ((next : List X) → IsJoined chain v.items p.0 p.1 next → ⊥) → Joins chain (clauses_of (drop k vectors)) (drop k pivots) clause → ⊥
   stuck_here none h = let g = rw (premise_here, pivot_here) at h in none g.0 g.1
 
   pub on_here : (new : List X) → IsJoined chain v.items p.0 p.1 new
-      → Joins chain (clauses_in (drop k vectors)) (drop k pivots) clause ↔ Joins new (clauses_in (drop (k + 1) vectors)) (drop (k + 1) pivots) clause
+      → Joins chain (clauses_of (drop k vectors)) (drop k pivots) clause ↔ Joins new (clauses_of (drop (k + 1) vectors)) (drop (k + 1) pivots) clause
   on_here new joined =
-      rw (premise_here, pivot_here) (joins_next chain v.items new (clauses_in (drop (k + 1) vectors)) p (drop (k + 1) pivots) clause joined)
+      rw (premise_here, pivot_here) (joins_next chain v.items new (clauses_of (drop (k + 1) vectors)) p (drop (k + 1) pivots) clause joined)
 
 -- a list as its first item and the others
 pub whole_of : {X : Type 0} (xs : List X) (x : X) (n : ℕ) → length xs ≡ n + 1 → x ≡ get_or xs 0 x → xs ≡ x ∷ take (length xs - 1) (drop 1 xs)
@@ -97,5 +97,5 @@ some_there (x ∷ xs) h e = cc
 -- a chain from the first premise is one from its first occurrences
 pub all_from : (vectors rest : List (Vec SignedTerm)) (pivots : List (SignedTerm × SignedTerm)) (v : Vec SignedTerm) (firsts clause : List SignedTerm)
     → vectors ≡ v ∷ rest → IsFirstsOf [] v.items firsts → pivots ≢ []
-    → JoinAll pivots (clauses_in vectors) clause ↔ Joins firsts (clauses_in rest) pivots clause
-all_from vectors rest pivots v firsts clause whole f some = rw whole (joins_alike v.items firsts (clauses_in rest) pivots clause f some)
+    → JoinAll pivots (clauses_of vectors) clause ↔ Joins firsts (clauses_of rest) pivots clause
+all_from vectors rest pivots v firsts clause whole f some = rw whole (joins_alike v.items firsts (clauses_of rest) pivots clause f some)

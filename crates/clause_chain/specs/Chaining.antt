@@ -2,5 +2,5 @@
 use Rattle.std.specs.Prelude.{List, map}
 use Rattle.std.specs.Global.{Vec}
 
-abbrev pub clauses_in : {X : Type 0} → List (Vec X) → List (List X)
-clauses_in vectors = map (λ v. v.items) vectors
+abbrev pub clauses_of : {X : Type 0} → List (Vec X) → List (List X)
+clauses_of vectors = map (λ v. v.items) vectors

@@ -2,7 +2,7 @@
 
 ghost use Rattle.std.specs.Prelude.{◌≡◌, ◌↔◌, Contains, IfOk, IsTrue, List, length};
 ghost use Rattle.rule_model.specs.Resolution.{IsJoined, JoinAll, Joins};
-ghost use Rattle.clause_chain.specs.Chaining.{clauses_in};
+ghost use Rattle.clause_chain.specs.Chaining.{clauses_of};
 ghost use Rattle.clause_chain.specs.declared.signed_term.SignedTerm.{SignedTerm};
 
 use crate::chain::Chain;
@@ -56,8 +56,8 @@ fn goes_through(
 ) -> Result<bool, AllocError>
     requires { length premises.now ≡ length pivots.now }
     ensures through { IfOk result (λ yes. IsTrue yes → (clause : List SignedTerm) →
-        Joins chain.old (clauses_in premises.now) pivots.now clause ↔ (chain.new ≡ clause)) }
-    ensures stuck { IfOk result (λ yes. (¬ IsTrue yes) → (clause : List SignedTerm) → ¬ Joins chain.old (clauses_in premises.now) pivots.now clause) }
+        Joins chain.old (clauses_of premises.now) pivots.now clause ↔ (chain.new ≡ clause)) }
+    ensures stuck { IfOk result (λ yes. (¬ IsTrue yes) → (clause : List SignedTerm) → ¬ Joins chain.old (clauses_of premises.now) pivots.now clause) }
 {
     'place: for (place, premise) in premises.iter().enumerate() {
         let (here, there) = pivots[place];
@@ -81,7 +81,7 @@ pub fn chain_ends_in(
     pivots: &[(SignedTerm, SignedTerm)],
     clause: &[SignedTerm],
 ) -> Result<bool, AllocError>
-    ensures { IfOk result (λ yes. IsTrue yes ↔ JoinAll pivots.now (clauses_in premises.now) clause.now) }
+    ensures { IfOk result (λ yes. IsTrue yes ↔ JoinAll pivots.now (clauses_of premises.now) clause.now) }
 {
     if premises.len() != pivots.len() + 1 {
         return Ok(false);

@@ -13,7 +13,7 @@ use Rattle.linear_forms.specs.Coefficients as forms
 use Rattle.linear_forms.specs.Forms.{IsDifferenceForm}
 use Rattle.linear_forms.specs.Forms as forms_referred
 use Rattle.scaled_sums.specs.declared.coefficients.Coefficient.{Coefficient}
-use Rattle.scaled_sums.specs.Coefficients.{sum_at, sizes_of, AreApart}
+use Rattle.scaled_sums.specs.Coefficients.{sum_at, sizes_of, AreOfDifferentTerms}
 use Rattle.linear_lines.specs.Lines.{IsReferred}
 use Rattle.line_judging.specs.LineForms.{as_sum, IsNarrowForm}
 
@@ -31,7 +31,7 @@ others_apart c (d ∷ cs) all =
     All-cons (λ (e : Coefficient). c.term ≢ e.term) (as_sum d) (map as_sum cs) (λ e. All-head (λ (e : found.Coefficient). e.term ≢ c.term) d cs all (sym e))
     (others_apart c cs (All-tail (λ (e : found.Coefficient). e.term ≢ c.term) d cs all))
 
-same_apart : (cs : List found.Coefficient) → forms.AreApart cs → AreApart (map as_sum cs)
+same_apart : (cs : List found.Coefficient) → forms.AreOfDifferentTerms cs → AreOfDifferentTerms (map as_sum cs)
 same_apart [] h = λ i j d less below. absurd (omega (arith, below))
 same_apart (c ∷ cs) h =
     AllPairs-cons (λ (x y : Coefficient). x.term ≢ y.term) (as_sum c) (map as_sum cs) (others_apart c cs h.0) (same_apart cs h.1)

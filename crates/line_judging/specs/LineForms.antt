@@ -6,7 +6,7 @@ use Rattle.rule_model.specs.Arith.{Comparison, limit}
 use Rattle.rule_model.specs.Weights.{weight}
 use Rattle.linear_forms.specs.declared.nodes.Coefficient as found
 use Rattle.scaled_sums.specs.declared.coefficients.Coefficient.{Coefficient}
-use Rattle.scaled_sums.specs.Coefficients.{sizes_of, AreApart}
+use Rattle.scaled_sums.specs.Coefficients.{sizes_of, AreOfDifferentTerms}
 use Rattle.linear_lines.specs.declared.lines.LineForm.{LineForm}
 use Rattle.linear_lines.specs.Lines.{IsFormOf}
 
@@ -17,7 +17,7 @@ as_sum c = record { term = c.term; number = c.number }
 -- the form of a comparison, each term of which stands once, and whose numbers are within its weight
 pub record IsNarrowForm (s : Table) (v : TermsView) (c : Comparison) (numbers : LineForm) (cs : List Coefficient) : Type 0 where
   pub form : IsFormOf s v c numbers cs
-  pub apart : AreApart cs
+  pub apart : AreOfDifferentTerms cs
   pub light : unsigned_abs numbers.constant + sizes_of cs ≤ numbers.weight
   pub narrow : numbers.weight < limit
 

@@ -24,7 +24,7 @@ use Rattle.linear_forms.specs.declared.nodes.Coefficient.{Coefficient}
 use Rattle.linear_forms.specs.declared.nodes.Info.{Info}
 use Rattle.linear_forms.specs.declared.nodes.Node.{Node}
 use Rattle.linear_forms.specs.declared.nodes.Node.TheVariants.{Number, Opaque, Multiple, Sum}
-use Rattle.linear_forms.specs.Coefficients.{sum_at, sizes_of, AreApart}
+use Rattle.linear_forms.specs.Coefficients.{sum_at, sizes_of, AreOfDifferentTerms}
 use Rattle.linear_forms.specs.Factors.{added, total, load, total_value, CountsUnits, IsWeighed}
 use Rattle.linear_forms.specs.Forms.{IsReferred, ListsCoefficients, IsToldWeight, IsLinearForm, IsDifferenceForm, TellsOneForm}
 use Rattle.linear_forms.specs.Graphs.{IsOneTerm, IsNode, IsGraphAt, IsGraph, IsRemembered, no_info, info_at}
@@ -111,7 +111,7 @@ number_absent q (c ∷ cs) h =
     let rest = number_absent q cs (All-tail (λ (d : Coefficient). d.term ≢ q) c cs h) in
     rw e (omega (arith, ints, rest))
 
-number_first : (c : Coefficient) (cs : List Coefficient) → AreApart (c ∷ cs) → sum_at (c ∷ cs) c.term ≡ c.number
+number_first : (c : Coefficient) (cs : List Coefficient) → AreOfDifferentTerms (c ∷ cs) → sum_at (c ∷ cs) c.term ≡ c.number
 number_first c cs h =
     let e : nat_eq c.term c.term ≡ true = grind (arith, nat_tests) in
     let rest = number_absent c.term cs h.0 in

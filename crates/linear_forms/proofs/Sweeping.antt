@@ -9,7 +9,7 @@ use Rattle.linear_forms.specs.declared.nodes.Node.{Node}
 use Rattle.linear_forms.specs.declared.nodes.Node.TheVariants.{Number, Opaque, Multiple, Sum}
 use Rattle.linear_forms.specs.declared.nodes.Coefficient.{Coefficient}
 use Rattle.linear_forms.specs.Factors.{added, total, load, total_value, sizes_of, CountsUnits, IsWeighed, IsAbove, HasRoomToPass}
-use Rattle.linear_forms.specs.Sweeps.{node_at, factor_at, SweepState, AreOrdered, AreWeighed, load_in, total_in, without, after_turn, IsNodeSwept, CanSettle, IsOpaqueFrom, HaveOwnNodes, AreApart, IsSweeping, starting, CanSweep, IsSwept}
+use Rattle.linear_forms.specs.Sweeps.{node_at, factor_at, SweepState, AreOrdered, AreWeighed, load_in, total_in, without, after_turn, IsNodeSwept, CanSettle, IsOpaqueFrom, HaveOwnNodes, AreOfDifferentTerms, IsSweeping, starting, CanSweep, IsSwept}
 use Rattle.linear_forms.proofs.Passing.{total_added, load_added, added_length, part_load, times_le}
 
 -- a factor that is taken
@@ -59,7 +59,7 @@ sizes_push : (cs : List Coefficient) (c : Coefficient) → sizes_of (cs ++ c ∷
 sizes_push [] c = refl
 sizes_push (d ∷ cs) c = omega (arith, sizes_push cs c)
 
-apart_push : (cs : List Coefficient) (c : Coefficient) → AreApart cs → All (λ (d : Coefficient). d.term ≢ c.term) cs → AreApart (cs ++ c ∷ [])
+apart_push : (cs : List Coefficient) (c : Coefficient) → AreOfDifferentTerms cs → All (λ (d : Coefficient). d.term ≢ c.term) cs → AreOfDifferentTerms (cs ++ c ∷ [])
 apart_push [] c h k = ((λ i d below. absurd (omega (arith, below))), tt)
 apart_push (d ∷ cs) c h k = (
   All-push (λ (x : Coefficient). x.term ≢ d.term) cs c h.0 (λ e. All-head (λ (x : Coefficient). x.term ≢ c.term) d cs k (sym e)),
@@ -243,7 +243,7 @@ module _ (nodes : List Node) (s now : SweepState) (k : ℕ) (sweeping : IsSweepi
       found_from (Multiple p) is = lower
       found_from (Sum p q) is = lower
 
-      found_apart : (node : Node) → node_at nodes k ≡ node → HaveOwnNodes nodes → AreApart (after_turn node f taken).found
+      found_apart : (node : Node) → node_at nodes k ≡ node → HaveOwnNodes nodes → AreOfDifferentTerms (after_turn node f taken).found
       found_apart (Number n) is own = sweeping.apart own
       found_apart (Opaque r) is own = apart_push now.found (record { term = r; number = f }) (sweeping.apart own) (apart_from r is own)
       found_apart (Multiple p) is own = sweeping.apart own

@@ -13,6 +13,6 @@ sizes_of [] = 0
 sizes_of (c ∷ cs) = unsigned_abs c.number + sizes_of cs
 
 -- no term stands twice
-abbrev pub AreApart : List Coefficient → Type 0
-AreApart [] = Unit {0}
-AreApart (c ∷ cs) = All (λ (d : Coefficient). d.term ≢ c.term) cs × AreApart cs
+abbrev pub AreOfDifferentTerms : List Coefficient → Type 0
+AreOfDifferentTerms [] = Unit {0}
+AreOfDifferentTerms (c ∷ cs) = All (λ (d : Coefficient). d.term ≢ c.term) cs × AreOfDifferentTerms cs

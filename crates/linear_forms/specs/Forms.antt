@@ -10,7 +10,7 @@ use Rattle.linear_forms.specs.declared.nodes.Coefficient.{Coefficient}
 use Rattle.linear_forms.specs.declared.forms.Numbers.{Numbers}
 use Rattle.linear_forms.specs.declared.forms.Linear.{Linear}
 use Rattle.linear_forms.specs.declared.forms.OneForm.{OneForm}
-use Rattle.linear_forms.specs.Coefficients.{sum_at, sizes_of, AreApart}
+use Rattle.linear_forms.specs.Coefficients.{sum_at, sizes_of, AreOfDifferentTerms}
 
 -- a weight is told where it is below the limit
 abbrev pub IsToldWeight : Option ℕ → ℕ → Type 0
@@ -27,7 +27,7 @@ pub record ListsCoefficients (s : Table) (v : TermsView) (cs : List Coefficient)
   pub right : (r : ℕ) (t : Term) → RefersTo s v r t → f t ≡ sum_at cs r
   pub covered : (t : Term) → (f t ≡ pos 0) ⊎ IsReferred s v t
   pub terms : All (λ (c : Coefficient). IsTerm s v c.term) cs
-  pub apart : AreApart cs
+  pub apart : AreOfDifferentTerms cs
   pub others : All (λ (c : Coefficient). c.number ≢ pos 0) cs
 
 -- the linear form of a term

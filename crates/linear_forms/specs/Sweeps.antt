@@ -4,7 +4,7 @@ use Rattle.std.specs.Prelude.{◌⊎◌}
 use Rattle.linear_forms.specs.declared.nodes.Node.{Node}
 use Rattle.linear_forms.specs.declared.nodes.Node.TheVariants.{Number, Opaque, Multiple, Sum}
 use Rattle.linear_forms.specs.declared.nodes.Coefficient.{Coefficient}
-pub use Rattle.linear_forms.specs.Coefficients.{AreApart}
+pub use Rattle.linear_forms.specs.Coefficients.{AreOfDifferentTerms}
 use Rattle.linear_forms.specs.Factors.{passed, total, load, total_value, sizes_of, CountsUnits, IsWeighed, IsAbove}
 
 -- the node of a number, where there is one
@@ -86,7 +86,7 @@ pub record IsSweeping (nodes : List Node) (s now : SweepState) (k : ℕ) : Type 
   pub light : (w : ℕ → ℕ) → AreWeighed nodes w → load_in w s < 2 ^ 127 → load_in w now ≤ load_in w s
   pub passed : (j : ℕ) → k ≤ j → factor_at now.factors j ≡ pos 0
   pub from : All (λ (c : Coefficient). IsOpaqueFrom nodes k c.term) now.found
-  pub apart : HaveOwnNodes nodes → AreApart now.found
+  pub apart : HaveOwnNodes nodes → AreOfDifferentTerms now.found
   pub others : All (λ (c : Coefficient). c.number ≢ pos 0) now.found
 
 abbrev pub starting : List ℤ → SweepState
@@ -107,5 +107,5 @@ pub record IsSwept (nodes : List Node) (factors : List ℤ) (constant : ℤ) (fo
       constant *ℤ unit +ℤ total_value o found ≡ total v factors
   pub light : (w : ℕ → ℕ) → AreWeighed nodes w → load w factors < 2 ^ 127 → unsigned_abs constant + sizes_of found ≤ load w factors
   pub from : All (λ (c : Coefficient). IsOpaqueFrom nodes 0 c.term) found
-  pub apart : HaveOwnNodes nodes → AreApart found
+  pub apart : HaveOwnNodes nodes → AreOfDifferentTerms found
   pub others : All (λ (c : Coefficient). c.number ≢ pos 0) found

@@ -5,7 +5,7 @@ ghost use Rattle.std.specs.List.{AllZip};
 ghost use Rattle.sym_table.specs.Table.{Table};
 ghost use Rattle.term_pool.specs.Views.{TermsView};
 ghost use Rattle.rule_model.specs.Arith.{CoefficientLine, equals, bound_by, IsWhole, limit};
-ghost use Rattle.scaled_sums.specs.Coefficients.{AreApart, sum_at, sizes_of};
+ghost use Rattle.scaled_sums.specs.Coefficients.{AreOfDifferentTerms, sum_at, sizes_of};
 ghost use Rattle.scaled_sums.specs.Relations.{relation_meant, IsBoundOf};
 ghost use Rattle.linear_lines.specs.Lines.{own_weight, StandsForLine, IsFormOf, IsSumOf, IsAbsurd};
 
@@ -18,7 +18,7 @@ use scaled_sums::{
 /// Whether the bound of a line is to be rounded: it is an inequality, and its coefficients are whole once they are multiplied.
 fn rounds(relation: Relation, form: &[Coefficient], factor: i128, multiple: u128) -> bool
     requires narrow { unsigned_abs factor * sizes_of form.now < limit }
-    requires apart { AreApart form.now }
+    requires apart { AreOfDifferentTerms form.now }
     requires multiple { 0 < multiple }
     ensures { IsTrue result ↔ ((relation_meant relation ≢ equals) × ((r : ℕ) → IsWhole multiple (factor *ℤ sum_at form.now r))) }
 {
@@ -52,7 +52,7 @@ pub fn add_line(
     requires over { 0 < multiple }
     requires denominator { 0 < line.denominator }
     requires share { line.denominator ≤ multiple }
-    requires apart { AreApart form.now }
+    requires apart { AreOfDifferentTerms form.now }
     requires light { unsigned_abs numbers.constant + sizes_of form.now ≤ numbers.weight }
     requires narrow { unsigned_abs bound + sizes_of sum.old.items + own_weight multiple line numbers.weight < limit }
     ensures sum { IfOk result (λ b. (s : Table) (v : TermsView) (l : CoefficientLine) (ls : List CoefficientLine) → StandsForLine s v line l →

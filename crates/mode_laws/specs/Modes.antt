@@ -1,6 +1,7 @@
 -- Public. The same options in each mode, and a proof's text that reads the same in both.
 use Rattle.std.specs.Prelude.{◌≡◌, ℕ, List, true, false, Option, Some}
 use Rattle.term_model.specs.Terms.{Var, Term}
+use Rattle.rule_model.specs.LeftOut.{IsSameUpToPivots}
 use Rattle.rule_model.specs.Proofs.{ProofItems}
 use Rattle.problem_text.specs.Problems.{StandsForProblem}
 use Rattle.problem_text.specs.Scripts.{Script}
@@ -8,7 +9,6 @@ use Rattle.alethe_text.specs.ProofTexts.{StandsForProof}
 use Rattle.command_words.specs.declared.request.Options.{Options}
 use Rattle.command_words.specs.CommandLine.{Asked}
 use Rattle.carcara_cli.specs.Reading.{settings_of}
-use Rattle.mode_laws.specs.Pivots.{without_pivots}
 
 -- the same options with `--strict`, and without it
 abbrev pub strictly : Options → Options
@@ -29,7 +29,7 @@ pub record StandsInCheckMode (options : Options) (proof : List ℕ) (script : Sc
   pub others : ProofItems Var Term
   pub after : Script
   pub proof_text : StandsForProof proof (settings_of (in_check_mode options)) script others after
-  pub same : without_pivots others ≡ without_pivots commands
+  pub same : IsSameUpToPivots others commands
 
 -- Behind the problem's text, whatever the proof's text stands for in strict mode, it stands in check mode for a proof that
 -- differs in pivots alone.

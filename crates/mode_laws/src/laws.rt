@@ -1,11 +1,8 @@
 //! Laws over a proof read in both modes. Each is the contract of a function that does nothing.
-ghost use Rattle.std.specs.Prelude.{◌≡◌, ℕ, List, Option, Some};
+ghost use Rattle.std.specs.Prelude.{ℕ, List, Option, Some};
 ghost use Rattle.term_model.specs.Terms.{Var, Term};
-ghost use Rattle.rule_model.specs.Columns.{checking_in};
+ghost use Rattle.rule_model.specs.LeftOut.{IsSameUpToPivots};
 ghost use Rattle.rule_model.specs.Proofs.{ProofItems as Proof};
-ghost use Rattle.rule_model.specs.Statuses.{AreStatuses, Checking, IsVerdict};
-ghost use Rattle.rule_model.specs.declared.rules.Mode.{Mode};
-ghost use Rattle.rule_model.specs.declared.statuses.Status.{Status};
 ghost use Rattle.rule_model.specs.declared.statuses.Verdict.{Verdict};
 ghost use Rattle.problem_text.specs.Scripts.{Script};
 ghost use Rattle.alethe_text.specs.ProofTexts.{StandsForProof};
@@ -18,18 +15,10 @@ ghost use Rattle.carcara_cli.specs.declared.answer.Answer.{Answer};
 ghost use Rattle.carcara_cli.specs.declared.answer.Answer.TheVariants.{Judged};
 ghost use Rattle.carcara_cli.specs.declared.judgement.Judgement.TheVariants.{Valid};
 ghost use Rattle.mode_laws.specs.Modes.{asked_in_check_mode, asked_strictly, in_check_mode, strictly, FilesReadSameInCheckMode};
-ghost use Rattle.mode_laws.specs.Pivots.{without_pivots};
 
 use carcara_cli::laws::words_and_files_define_one_answer;
+use rule_model::laws::ids::pivots_do_not_matter_in_check_mode;
 use rule_model::laws::strict::strictly_met_is_met;
-
-/// Proofs that differ in pivots alone have the same statuses in check mode, and the statuses come to the same verdict.
-pub fn pivots_do_not_matter_in_check_mode()
-    ensures statuses { (c : Checking) (p q : Proof Var Term) (statuses : List Status) → without_pivots p ≡ without_pivots q →
-        AreStatuses (checking_in Mode.Check c) p statuses → AreStatuses (checking_in Mode.Check c) q statuses }
-    ensures verdict { (p q : Proof Var Term) (statuses : List Status) (v : Verdict) → without_pivots p ≡ without_pivots q →
-        IsVerdict statuses p v → IsVerdict statuses q v }
-{}
 
 /// Where the verdict on two texts is `valid` with `--strict`, and the proof's text stands without it for a proof that differs
 /// in pivots alone, the verdict without it is `valid` too.
@@ -37,7 +26,7 @@ pub fn valid_strictly_is_valid()
     ensures { (problem : List ℕ) (options : Options) (proof : List ℕ) (checked : IsCheckedAs problem (strictly options) proof Verdict.Valid)
         (commands : Proof Var Term) (after : Script) →
         StandsForProof proof (settings_of (in_check_mode options)) checked.script commands after →
-        without_pivots commands ≡ without_pivots checked.commands → IsCheckedAs problem (in_check_mode options) proof Verdict.Valid }
+        IsSameUpToPivots commands checked.commands → IsCheckedAs problem (in_check_mode options) proof Verdict.Valid }
 {
     strictly_met_is_met();
     pivots_do_not_matter_in_check_mode();

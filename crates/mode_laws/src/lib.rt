@@ -5,4 +5,4 @@
 
 pub mod laws;
 
-pub use laws::{pivots_do_not_matter_in_check_mode, runs_agree, valid_strictly_is_valid};
+pub use laws::{runs_agree, valid_strictly_is_valid};

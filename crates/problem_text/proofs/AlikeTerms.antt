@@ -13,7 +13,7 @@ use Rattle.problem_text.specs.Limits.{is_low}
 use Rattle.problem_text.specs.TypedTerms.{Typed}
 use Rattle.problem_text.specs.Outcomes.{Outcome, done, refuse, going_on, and_then}
 use Rattle.problem_text.specs.Scripts.{Named, Script, is_taken, with_named, with_term, with_let_name}
-use Rattle.problem_text.specs.Names.{Bound, Place, Meaning, meaning_of, meaning_applied, inside, let_term}
+use Rattle.problem_text.specs.Names.{Bound, Place, Meaning, meaning_of, meaning_applied, place_inside, let_term}
 use Rattle.problem_text.specs.Terms.{settled, with_meaning, with_names, term_from, terms_from, bounds_from}
 use Rattle.sexpr.specs.Items.{Item}
 use Rattle.problem_text.specs.Forms.{form_of}
@@ -93,8 +93,8 @@ mutual
       (λ ts s u same. settled_alike p.settings.limit place 0 (meaning_applied m ts) s u same)))
   term_alike (let_form place bs body) p s u same =
       alike_then (bounds_from bs [] p s) (bounds_from (binds_unplaced bs) [] p u) _ _ (bounds_alike bs [] p s u same)
-      (λ bound s u same. alike_then (term_from body (inside bound p) s) (term_from (form_unplaced body) (inside bound p) u) _ _
-      (term_alike body (inside bound p) s u same)
+      (λ bound s u same. alike_then (term_from body (place_inside bound p) s) (term_from (form_unplaced body) (place_inside bound p) u) _ _
+      (term_alike body (place_inside bound p) s u same)
       (λ t s u same. settled_alike p.settings.limit place 0 (Some (let_term p bound t)) s u same))
   term_alike (annotated place f names) p s u same =
       alike_then (term_from f p s) (term_from (form_unplaced f) p u) _ _ (term_alike f p s u same) (λ t s u same. names_alike t names s u same)

@@ -18,7 +18,7 @@ use Rattle.problem_text.specs.TypedTerms.{Typed}
 use Rattle.problem_text.specs.Outcomes.{Outcome, done, refuse, given, and_then}
 use Rattle.problem_text.specs.Scripts.{Named, Script, is_taken, with_name, with_named, with_term, with_let_name}
 use Rattle.problem_text.specs.Sorts.{sort_from, sorts_from, parameters_from}
-use Rattle.problem_text.specs.Names.{Place, Meaning, meaning_of, meaning_applied, inside, let_term, itself}
+use Rattle.problem_text.specs.Names.{Place, Meaning, meaning_of, meaning_applied, place_inside, let_term, itself}
 use Rattle.problem_text.specs.Terms.{settled, with_meaning, with_names, term_from, terms_from, bounds_from, read_term}
 use Rattle.problem_text.specs.Problems.{logic_set, sort_declared, function_declared, function_defined, term_asserted, script_performed, ends, script_commands}
 use Rattle.problem_text.proofs.Outcomes.{Ends, ends-and_then, ends-goes_on}
@@ -89,7 +89,7 @@ module _ (P : Script → Type 0) (after_term : (t : Term) (s : Script) → P s �
         (λ m. keeps_then P (terms_from fs p s) _ (kept_terms fs p s h).0 (λ ts end k. kept_settled p.settings.limit place (meaning_applied m ts) end k))
     kept_term (let_form place bs body) p s h =
         keeps_then P (bounds_from bs [] p s) _ (kept_bounds bs [] p s h).0
-        (λ bound end k. keeps_then P (term_from body (inside bound p) end) _ (kept_term body (inside bound p) end k).0
+        (λ bound end k. keeps_then P (term_from body (place_inside bound p) end) _ (kept_term body (place_inside bound p) end k).0
         (λ t last l. kept_settled p.settings.limit place (Some (let_term p bound t)) last l))
     kept_term (annotated place f names) p s h = keeps_then P (term_from f p s) _ (kept_term f p s h).0 (λ t end k. kept_names t names end k)
 

@@ -17,7 +17,7 @@ use Rattle.rule_model.specs.Replacement.{replaced, free_variables, HasNoLet, Hav
 use Rattle.problem_text.specs.TypedTerms.{Typed}
 use Rattle.problem_text.specs.Outcomes.{Outcome, done, refuse, and_then}
 use Rattle.problem_text.specs.Scripts.{Named, Script, is_taken, with_named, with_term, with_let_name}
-use Rattle.problem_text.specs.Names.{Bound, Place, itself, innermost, is_bound, replacement, Meaning, value, macro, function, operator, meaning_of_bound, meaning_of_named, meaning_of, trees, sorts_of, expansion, meaning_applied, let_bindings_of, inside, let_term}
+use Rattle.problem_text.specs.Names.{Bound, Place, itself, innermost, is_bound, replacement, Meaning, value, macro, function, operator, meaning_of_bound, meaning_of_named, meaning_of, trees, sorts_of, expansion, meaning_applied, let_bindings_of, place_inside, let_term}
 use Rattle.problem_text.specs.Terms.{settled, with_meaning, with_names, term_from, terms_from, bounds_from}
 use Rattle.problem_text.proofs.Outcomes.{Ends, ends-and_then, if_found, if_some-or, if_some-map, if_some-and_then}
 use Rattle.rule_model.proofs.Replacing.{AreLetFree, replaced-let_free}
@@ -126,7 +126,7 @@ module _ (ArePlain : Script → Type 0) (found_plain : (s : Script) (name : List
   themselves-free [] = tt
   themselves-free (b ∷ bs) = (tt, themselves-free bs)
 
-  inside-free : (p : Place) (bs : List Bound) → AreBoundFree p p.scope → AreBoundFree p bs → AreBoundFree (inside bs p) (inside bs p).scope
+  inside-free : (p : Place) (bs : List Bound) → AreBoundFree p p.scope → AreBoundFree p bs → AreBoundFree (place_inside bs p) (place_inside bs p).scope
   inside-free p bs h k e = go p.settings.replaces_lets
     where
       go : (b : Bool) → AllByRecursion (λ b. HasNoLet b.stands_for) ((if b then bs else map (λ b. itself b.variable) bs) ++ p.scope)
@@ -176,8 +176,8 @@ module _ (ArePlain : Script → Type 0) (found_plain : (s : Script) (name : List
         (λ m fit. ends-and_then ArePlain (AreFreeIn p) (IsFreeIn p) (terms_from fs p s) (λ ts after. settled p.settings.limit place (meaning_applied m ts) after) (terms-free fs p s h plain)
         (λ ts after read plain'. settled-free p place (meaning_applied m ts) after plain' (applied-free p m ts fit read)))
     term-free (let_form place bs body) p s h plain =
-        ends-and_then ArePlain (AreBoundFree p) (IsFreeIn p) (bounds_from bs [] p s) (λ bound after. and_then (term_from body (inside bound p) after) (λ t last. settled p.settings.limit place (Some (let_term p bound t)) last)) (bounds-free bs [] p s h plain)
-        (λ bound after fit plain'. ends-and_then ArePlain (IsFreeIn p) (IsFreeIn p) (term_from body (inside bound p) after) (λ t last. settled p.settings.limit place (Some (let_term p bound t)) last) (term-free body (inside bound p) after (inside-free p bound h fit) plain')
+        ends-and_then ArePlain (AreBoundFree p) (IsFreeIn p) (bounds_from bs [] p s) (λ bound after. and_then (term_from body (place_inside bound p) after) (λ t last. settled p.settings.limit place (Some (let_term p bound t)) last)) (bounds-free bs [] p s h plain)
+        (λ bound after fit plain'. ends-and_then ArePlain (IsFreeIn p) (IsFreeIn p) (term_from body (place_inside bound p) after) (λ t last. settled p.settings.limit place (Some (let_term p bound t)) last) (term-free body (place_inside bound p) after (inside-free p bound h fit) plain')
         (λ t last read plain''. settled-free p place (Some (let_term p bound t)) last plain'' (let-free p bound t read)))
     term-free (annotated place f names) p s h plain =
         ends-and_then ArePlain (IsFreeIn p) (IsFreeIn p) (term_from f p s) (λ t after. with_names t names after) (term-free f p s h plain)

@@ -11,7 +11,7 @@ use Rattle.problem_text.specs.Words.{operator_named}
 use Rattle.rule_model.specs.Replacement.{replaced, free_variables}
 use Rattle.problem_text.specs.TypedTerms.{Typed}
 use Rattle.problem_text.specs.Scripts.{Script}
-use Rattle.problem_text.specs.Names.{Bound, Place, itself, innermost, is_bound, replacement, Meaning, value, macro, function, operator, meaning_of_bound, meaning_of_named, meaning_of, trees, sorts_of, expansion, meaning_applied, let_bindings_of, inside, let_term}
+use Rattle.problem_text.specs.Names.{Bound, Place, itself, innermost, is_bound, replacement, Meaning, value, macro, function, operator, meaning_of_bound, meaning_of_named, meaning_of, trees, sorts_of, expansion, meaning_applied, let_bindings_of, place_inside, let_term}
 use Rattle.problem_text.specs.Soundness.{AreBoundSorted, IsSound}
 use Rattle.problem_text.proofs.Outcomes.{if_found, if_some-or, if_some-map, if_some-and_then}
 use Rattle.rule_model.specs.Substitution.{HaveTheirSorts}
@@ -110,7 +110,7 @@ pub themselves-fit : (bs : List Bound) → AreBoundSorted (map (λ b. itself b.v
 themselves-fit [] = tt
 themselves-fit (b ∷ bs) = (refl, themselves-fit bs)
 
-pub inside-fits : (p : Place) (bs : List Bound) → AreBoundSorted p.scope → AreBoundSorted bs → AreBoundSorted (inside bs p).scope
+pub inside-fits : (p : Place) (bs : List Bound) → AreBoundSorted p.scope → AreBoundSorted bs → AreBoundSorted (place_inside bs p).scope
 inside-fits p bs h k = go p.settings.replaces_lets
   where
     go : (b : Bool) → AreBoundSorted ((if b then bs else map (λ b. itself b.variable) bs) ++ p.scope)

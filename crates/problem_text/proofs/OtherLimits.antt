@@ -18,7 +18,7 @@ use Rattle.problem_text.specs.Limits.{is_low, with_limit, AreLow}
 use Rattle.problem_text.specs.TypedTerms.{Typed}
 use Rattle.problem_text.specs.Outcomes.{Outcome, done, refuse, and_then, going_on}
 use Rattle.problem_text.specs.Scripts.{Script, is_taken, with_named, with_term, with_let_name}
-use Rattle.problem_text.specs.Names.{Place, Meaning, meaning_of, meaning_applied, inside, let_term}
+use Rattle.problem_text.specs.Names.{Place, Meaning, meaning_of, meaning_applied, place_inside, let_term}
 use Rattle.problem_text.specs.Terms.{settled, with_meaning, with_names, term_from, terms_from, bounds_from, read_term}
 
 -- Where a reading from a state ends without a fault, and in a state of this kind, the state was of this kind before, and
@@ -105,7 +105,7 @@ module _ (limit : Option ℕ) where
         (λ ts u. same_settled p.settings.limit place (meaning_applied m ts) u))
     same_term (let_form place bs body) p s =
         same_then IsWithin s (bounds_from bs [] p s) _ _ _ (same_bounds bs [] p s)
-        (λ bound u. same_then IsWithin u (term_from body (inside bound p) u) _ _ _ (same_term body (inside bound p) u)
+        (λ bound u. same_then IsWithin u (term_from body (place_inside bound p) u) _ _ _ (same_term body (place_inside bound p) u)
         (λ t w. same_settled p.settings.limit place (Some (let_term p bound t)) w))
     same_term (annotated place f names) p s = same_then IsWithin s (term_from f p s) _ _ _ (same_term f p s) (λ t u. same_names t names u)
 

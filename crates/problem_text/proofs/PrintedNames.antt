@@ -11,7 +11,7 @@ use Rattle.rule_model.specs.Replacement.{free_variables}
 use Rattle.problem_text.specs.TypedTerms.{Typed}
 use Rattle.problem_text.specs.Outcomes.{done}
 use Rattle.problem_text.specs.Scripts.{Named, Script, is_taken, with_named, with_term}
-use Rattle.problem_text.specs.Names.{inside, Place, is_bound, innermost, value, meaning_of}
+use Rattle.problem_text.specs.Names.{place_inside, Place, is_bound, innermost, value, meaning_of}
 use Rattle.problem_text.specs.Terms.{term_from, read_term}
 use Rattle.problem_text.specs.PrintedTerms.{named_item, bounds_in, IsUsable, MeansTerm}
 use Rattle.problem_text.specs.PrintedTerms.{IsPrintable, ArePrintable, AreBoundPrintable, HasNotName, HaveNotName, AreBoundWithoutName}
@@ -46,7 +46,7 @@ mutual
   printable_behind (call f ts) p s n apart k =
       (k.0, meaning_kept p s n f.name apart.0 ∙ k.1, all_printable_behind ts p s n apart.1 k.2)
   printable_behind (let_in bs t) p s n apart k =
-      (k.0, k.1, bound_printable_behind bs [] p s n apart.0 k.2, printable_behind t (inside (bounds_in bs) p) s n apart.1 k.3)
+      (k.0, k.1, bound_printable_behind bs [] p s n apart.0 k.2, printable_behind t (place_inside (bounds_in bs) p) s n apart.1 k.3)
 
   all_printable_behind : (ts : Terms) (p : Place) (s : Script) (n : Named) → HaveNotName n.name ts → ArePrintable p s ts
       → ArePrintable p (with_named n s) ts

@@ -8,7 +8,7 @@ use Rattle.sexpr.specs.Printed.{IsSymbolItem, IsSpelledItem, AreSpelledItems}
 use Rattle.sexpr.proofs.PrintedNumerals.{decimal_is_word}
 use Rattle.term_model.specs.Terms.{Term, numeral, variable, operation, call, let_in, Terms, no_terms, term, Bindings, no_bindings, binding}
 use Rattle.sym_table.specs.Words.{operator_symbol}
-use Rattle.problem_text.specs.Names.{inside, Place}
+use Rattle.problem_text.specs.Names.{place_inside, Place}
 use Rattle.problem_text.specs.Scripts.{Script}
 use Rattle.problem_text.specs.PrintedTerms.{applied_item, term_item, term_items, pair_items, bounds_in}
 use Rattle.problem_text.specs.PrintedTerms.{IsPrintable, ArePrintable, AreBoundPrintable}
@@ -31,7 +31,7 @@ mutual
   term_spelled (variable x) p s k = k.0.1.spelled
   term_spelled (operation op ts) p s k = applied_spelled (operator_symbol op) (term_items ts) k.0.symbol (terms_spelled ts p s k.2)
   term_spelled (call f ts) p s k = applied_spelled f.name (term_items ts) k.0.symbol (terms_spelled ts p s k.2)
-  term_spelled (let_in bs t) p s k = (let_spelled, (pairs_spelled bs [] p s k.2, (term_spelled t (inside (bounds_in bs) p) s k.3, tt)))
+  term_spelled (let_in bs t) p s k = (let_spelled, (pairs_spelled bs [] p s k.2, (term_spelled t (place_inside (bounds_in bs) p) s k.3, tt)))
 
   terms_spelled : (ts : Terms) (p : Place) (s : Script) → ArePrintable p s ts → AreSpelledItems (term_items ts)
   terms_spelled no_terms p s k = tt

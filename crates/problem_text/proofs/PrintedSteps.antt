@@ -13,7 +13,7 @@ use Rattle.problem_text.specs.TypedTerms.{Typed}
 use Rattle.problem_text.specs.Outcomes.{done}
 use Rattle.problem_text.specs.Scripts.{Named, Script, is_taken, with_let_name, with_named, with_term}
 use Rattle.problem_text.specs.Names.{Place, is_bound, innermost, Meaning, value, function, operator, meaning_of, meaning_applied}
-use Rattle.problem_text.specs.Names.{inside, let_term, let_bindings_of, trees, sorts_of}
+use Rattle.problem_text.specs.Names.{place_inside, let_term, let_bindings_of, trees, sorts_of}
 use Rattle.problem_text.specs.Terms.{term_from, terms_from, bounds_from}
 use Rattle.problem_text.specs.PrintedTerms.{bounds_in}
 use Rattle.problem_text.proofs.PrintedForms.{here}
@@ -82,7 +82,7 @@ bounds_are (binding x t bs) = ap (binding x t) (bounds_are bs)
 
 pub let_read : (at : ℕ) (bs : Bindings) (binds : LetBinds) (body : Form) (t : Term) (sort : Sort) (p : Place) (s u w : Script)
     → p.settings.limit ≡ None → p.settings.replaces_lets ≡ false → bounds_from binds [] p s ≡ done (bounds_in bs) u
-    → term_from body (inside (bounds_in bs) p) u ≡ done (record { tree = t; sort = sort }) w
+    → term_from body (place_inside (bounds_in bs) p) u ≡ done (record { tree = t; sort = sort }) w
     → term_from (let_form at binds body) p s ≡ done (record { tree = let_in bs t; sort = sort }) (with_term (let_in bs t) w)
 unfolding term_from bounds_from
 let_read at bs binds body t sort p s u w free kept first second = settle (rw (first, second, free) refl)

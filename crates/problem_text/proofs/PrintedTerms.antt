@@ -13,10 +13,10 @@ use Rattle.problem_text.specs.Forms.{form_of, forms_of, binds_of, binds_in}
 use Rattle.problem_text.specs.TypedTerms.{Typed}
 use Rattle.problem_text.specs.Outcomes.{done}
 use Rattle.problem_text.specs.Scripts.{Script, with_let_name, with_term}
-use Rattle.problem_text.specs.Names.{inside, Place, Meaning, function, operator, meaning_of, meaning_applied, trees, sorts_of}
+use Rattle.problem_text.specs.Names.{place_inside, Place, Meaning, function, operator, meaning_of, meaning_applied, trees, sorts_of}
 use Rattle.problem_text.specs.Terms.{term_from, terms_from, bounds_from}
 use Rattle.problem_text.specs.PrintedTerms.{applied_item, term_item, term_items, pair_items, bounds_in, BindsSome, MayLead}
-use Rattle.problem_text.specs.PrintedTerms.{IsPrintable, ArePrintable, AreBoundPrintable, ReadsTo}
+use Rattle.problem_text.specs.PrintedTerms.{IsPrintable, ArePrintable, AreBoundPrintable, IsReadAs}
 use Rattle.problem_text.proofs.PrintedForms.{here, symbol_formed, application_formed, numeral_formed, let_formed, pair_formed, pair_well}
 use Rattle.problem_text.proofs.PrintedSteps.{number_read, symbol_read, application_read, both_read, let_read, bound_read}
 use Rattle.problem_text.proofs.PrintedSteps.{variable_applied, operation_applied, call_applied}
@@ -34,7 +34,7 @@ mutual
       (k.0, sym (same_meaning p s u (operator_symbol op) same) ∙ k.1, all_printable_then ts p s u same k.2)
   printable_then (call f ts) p s u same k = (k.0, sym (same_meaning p s u f.name same) ∙ k.1, all_printable_then ts p s u same k.2)
   printable_then (let_in bs t) p s u same k =
-      (k.0, k.1, bound_printable_then bs [] p s u same k.2, printable_then t (inside (bounds_in bs) p) s u same k.3)
+      (k.0, k.1, bound_printable_then bs [] p s u same k.2, printable_then t (place_inside (bounds_in bs) p) s u same k.3)
 
   all_printable_then : (ts : Terms) (p : Place) (s u : Script) → SayTheSame s u → ArePrintable p s ts → ArePrintable p u ts
   all_printable_then no_terms p s u same k = tt
@@ -152,8 +152,8 @@ mutual
       let pairs : Item = placed c (list 0 (pair_items bs)) in
       let body : Item = placed d (term_item t) in
       let f = bounds_read (c + 1) [] bs [] p s free of.0 k.2 in
-      let g = form_read d t sort (inside (bounds_in bs) p) f.after free of.1
-      (printable_then t (inside (bounds_in bs) p) s f.after f.same k.3) in
+      let g = form_read d t sort (place_inside (bounds_in bs) p) f.after free of.1
+      (printable_then t (place_inside (bounds_in bs) p) s f.after f.same k.3) in
       formed p s (let_form at (binds_of pairs) (form_of body)) _ _ (let_formed at b pairs body (some_well c bs p s k.1 k.2))
       (record {
         after = with_term (let_in bs t) g.after;
@@ -207,6 +207,6 @@ mutual
 
 -- a term printed whole
 pub term_read : (t : Term) (sort : Sort) (p : Place) (s : Script) (at : ℕ) → p.settings.limit ≡ None → IsOf t sort → IsPrintable p s t
-    → ReadsTo p s (placed at (term_item t)) (record { tree = t; sort = sort })
+    → IsReadAs p s (placed at (term_item t)) (record { tree = t; sort = sort })
 term_read t sort p s at free of k =
     let f = form_read at t sort p s free of k in record { after = f.after; read = f.read; same = f.same }

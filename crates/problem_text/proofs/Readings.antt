@@ -16,7 +16,7 @@ use Rattle.problem_text.specs.Limits.{is_low}
 use Rattle.problem_text.specs.TypedTerms.{Typed}
 use Rattle.problem_text.specs.Outcomes.{Outcome, done, refuse, and_then}
 use Rattle.problem_text.specs.Scripts.{Named, Script, is_taken, with_named, with_term, with_let_name}
-use Rattle.problem_text.specs.Names.{Place, Meaning, meaning_of, meaning_applied, inside, let_term}
+use Rattle.problem_text.specs.Names.{Place, Meaning, meaning_of, meaning_applied, place_inside, let_term}
 use Rattle.problem_text.specs.Terms.{settled, with_meaning, with_names, term_from, terms_from, bounds_from}
 use Rattle.problem_text.specs.Soundness.{IsReadWithin, AreBoundSorted, IsSound}
 use Rattle.problem_text.proofs.Outcomes.{Ends, ends-and_then}
@@ -85,8 +85,8 @@ mutual
       (λ m fit. ends-and_then IsSound (AreRead p.settings.limit) (IsReadWithin p.settings.limit) (terms_from fs p s) (λ ts after. settled p.settings.limit place (meaning_applied m ts) after) (terms-sound fs p s h sound)
       (λ ts after read sound'. settled-sound p.settings.limit place (meaning_applied m ts) after sound' (applied-fits m ts fit (typed_of_read p.settings.limit ts read))))
   term-sound (let_form place bs body) p s h sound =
-      ends-and_then IsSound AreBoundSorted (IsReadWithin p.settings.limit) (bounds_from bs [] p s) (λ bound after. and_then (term_from body (inside bound p) after) (λ t last. settled p.settings.limit place (Some (let_term p bound t)) last)) (bounds-sound bs [] p s h sound)
-      (λ bound after fit sound'. ends-and_then IsSound (IsReadWithin p.settings.limit) (IsReadWithin p.settings.limit) (term_from body (inside bound p) after) (λ t last. settled p.settings.limit place (Some (let_term p bound t)) last) (term-sound body (inside bound p) after (inside-fits p bound h fit) sound')
+      ends-and_then IsSound AreBoundSorted (IsReadWithin p.settings.limit) (bounds_from bs [] p s) (λ bound after. and_then (term_from body (place_inside bound p) after) (λ t last. settled p.settings.limit place (Some (let_term p bound t)) last)) (bounds-sound bs [] p s h sound)
+      (λ bound after fit sound'. ends-and_then IsSound (IsReadWithin p.settings.limit) (IsReadWithin p.settings.limit) (term_from body (place_inside bound p) after) (λ t last. settled p.settings.limit place (Some (let_term p bound t)) last) (term-sound body (place_inside bound p) after (inside-fits p bound h fit) sound')
       (λ t last read sound''. settled-sound p.settings.limit place (Some (let_term p bound t)) last sound'' (let-fits p bound t fit read.sorted)))
   term-sound (annotated place f names) p s h sound =
       ends-and_then IsSound (IsReadWithin p.settings.limit) (IsReadWithin p.settings.limit) (term_from f p s) (λ t after. with_names t names after) (term-sound f p s h sound)

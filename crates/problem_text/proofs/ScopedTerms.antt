@@ -22,7 +22,7 @@ use Rattle.problem_text.specs.Limits.{is_low}
 use Rattle.problem_text.specs.TypedTerms.{Typed}
 use Rattle.problem_text.specs.Outcomes.{Outcome, done, refuse, and_then}
 use Rattle.problem_text.specs.Scripts.{Script, is_taken, with_named, with_term, with_let_name}
-use Rattle.problem_text.specs.Names.{Bound, Place, itself, innermost, is_bound, replacement, Meaning, value, macro, function, operator, meaning_of_bound, meaning_of_named, meaning_of, trees, sorts_of, expansion, meaning_applied, let_bindings_of, inside, let_term}
+use Rattle.problem_text.specs.Names.{Bound, Place, itself, innermost, is_bound, replacement, Meaning, value, macro, function, operator, meaning_of_bound, meaning_of_named, meaning_of, trees, sorts_of, expansion, meaning_applied, let_bindings_of, place_inside, let_term}
 use Rattle.problem_text.specs.Soundness.{AreThemselves}
 use Rattle.problem_text.specs.Terms.{settled, with_meaning, with_names, term_from, terms_from, bounds_from}
 use Rattle.problem_text.proofs.Outcomes.{Ends, ends-and_then, if_found, if_some-or, if_some-map, if_some-and_then}
@@ -206,7 +206,7 @@ themselves-over : (W : Var → Type 0) (bs : List Bound) → ((x : Var) → Bind
 themselves-over W [] w = tt
 themselves-over W (b ∷ bs) w = (λ x e. w x (inl e), themselves-over W bs (λ x later. w x (inr later)))
 
-inside-over : (V : Var → Type 0) (p : Place) (bs : List Bound) → AreOver V p.scope → AreOver V bs → AreOver (Within p bs V) (inside bs p).scope
+inside-over : (V : Var → Type 0) (p : Place) (bs : List Bound) → AreOver V p.scope → AreOver V bs → AreOver (Within p bs V) (place_inside bs p).scope
 inside-over V p bs h k = go p.settings.replaces_lets refl
   where
     go : (b : Bool) → p.settings.replaces_lets ≡ b → AreOver (Within p bs V) ((if b then bs else map (λ b. itself b.variable) bs) ++ p.scope)
@@ -219,7 +219,7 @@ themselves-stand : (bs : List Bound) → AllByRecursion (λ b. b.stands_for ≡ 
 themselves-stand [] = tt
 themselves-stand (b ∷ bs) = (refl, themselves-stand bs)
 
-inside-themselves : (p : Place) (bs : List Bound) → AreThemselves p → AreThemselves (inside bs p)
+inside-themselves : (p : Place) (bs : List Bound) → AreThemselves p → AreThemselves (place_inside bs p)
 inside-themselves p bs h e = go p.settings.replaces_lets e
   where
     go : (b : Bool) → b ≡ false → AllByRecursion (λ b. b.stands_for ≡ variable b.variable) ((if b then bs else map (λ b. itself b.variable) bs) ++ p.scope)
@@ -280,9 +280,9 @@ mutual
       (λ m fit. ends-and_then AreScoped (AreAllOver V) (λ t. IsOver V t.tree) (terms_from fs p s) (λ ts after. settled p.settings.limit place (meaning_applied m ts) after) (terms-over fs V p s h themselves macros)
       (λ ts after read macros'. settled-over V p.settings.limit place (meaning_applied m ts) after macros' (applied-over V m ts fit read)))
   term-over (let_form place bs body) V p s h themselves macros =
-      ends-and_then AreScoped (AreOver V) (λ t. IsOver V t.tree) (bounds_from bs [] p s) (λ bound after. and_then (term_from body (inside bound p) after) (λ t last. settled p.settings.limit place (Some (let_term p bound t)) last)) (bounds-over bs [] V p s h themselves macros)
-      (λ bound after fit macros'. ends-and_then AreScoped (λ t. IsOver (Within p bound V) t.tree) (λ t. IsOver V t.tree) (term_from body (inside bound p) after) (λ t last. settled p.settings.limit place (Some (let_term p bound t)) last)
-      (term-over body (Within p bound V) (inside bound p) after (inside-over V p bound h fit) (inside-themselves p bound themselves) macros')
+      ends-and_then AreScoped (AreOver V) (λ t. IsOver V t.tree) (bounds_from bs [] p s) (λ bound after. and_then (term_from body (place_inside bound p) after) (λ t last. settled p.settings.limit place (Some (let_term p bound t)) last)) (bounds-over bs [] V p s h themselves macros)
+      (λ bound after fit macros'. ends-and_then AreScoped (λ t. IsOver (Within p bound V) t.tree) (λ t. IsOver V t.tree) (term_from body (place_inside bound p) after) (λ t last. settled p.settings.limit place (Some (let_term p bound t)) last)
+      (term-over body (Within p bound V) (place_inside bound p) after (inside-over V p bound h fit) (inside-themselves p bound themselves) macros')
       (λ t last read macros''. settled-over V p.settings.limit place (Some (let_term p bound t)) last macros'' (let-over V p bound t fit read)))
   term-over (annotated place f names) V p s h themselves macros =
       ends-and_then AreScoped (λ t. IsOver V t.tree) (λ t. IsOver V t.tree) (term_from f p s) (λ t after. with_names t names after) (term-over f V p s h themselves macros)

@@ -88,8 +88,8 @@ let_bindings_of [] = no_bindings
 let_bindings_of (b ∷ bs) = binding b.variable b.stands_for (let_bindings_of bs)
 
 -- where the body of a let with these bindings stands
-abbrev pub inside : List Bound → Place → Place
-inside bs p = record p { scope = (if p.settings.replaces_lets then bs else map (λ b. itself b.variable) bs) ++ p.scope }
+abbrev pub place_inside : List Bound → Place → Place
+place_inside bs p = record p { scope = (if p.settings.replaces_lets then bs else map (λ b. itself b.variable) bs) ++ p.scope }
 
 -- a let with this body
 abbrev pub let_term : Place → List Bound → Typed → Typed

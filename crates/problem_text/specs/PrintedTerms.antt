@@ -6,7 +6,7 @@ use Rattle.term_model.specs.Terms.{Term, numeral, variable, operation, call, let
 use Rattle.sym_table.specs.Words.{operator_symbol}
 use Rattle.rule_model.specs.Replacement.{free_variables}
 use Rattle.problem_text.specs.Alike.{SayTheSame}
-use Rattle.problem_text.specs.Names.{Bound, Place, inside, value, function, operator, meaning_of}
+use Rattle.problem_text.specs.Names.{Bound, Place, place_inside, value, function, operator, meaning_of}
 use Rattle.problem_text.specs.Outcomes.{done}
 use Rattle.problem_text.specs.Scripts.{Named, Script}
 use Rattle.problem_text.specs.Terms.{read_term}
@@ -69,7 +69,7 @@ abbrev mutual
       MayLead (operator_symbol op) × (meaning_of p s (operator_symbol op) ≡ Some (operator op)) × ArePrintable p s ts
   IsPrintable p s (call f ts) = MayLead f.name × (meaning_of p s f.name ≡ Some (function f)) × ArePrintable p s ts
   IsPrintable p s (let_in bs t) =
-      (p.settings.replaces_lets ≡ false) × BindsSome bs × AreBoundPrintable p s [] bs × IsPrintable (inside (bounds_in bs) p) s t
+      (p.settings.replaces_lets ≡ false) × BindsSome bs × AreBoundPrintable p s [] bs × IsPrintable (place_inside (bounds_in bs) p) s t
 
   pub ArePrintable : Place → Script → Terms → Type 0
   ArePrintable p s no_terms = ⊤
@@ -83,7 +83,7 @@ abbrev mutual
       × AreBoundPrintable p s (x.name ∷ earlier) bs
 
 -- The item is read to this term, and gives no name.
-pub record ReadsTo (p : Place) (s : Script) (i : Item) (t : Typed) : Type 0 where
+pub record IsReadAs (p : Place) (s : Script) (i : Item) (t : Typed) : Type 0 where
   pub after : Script
   pub read : read_term i p s ≡ done t after
   pub same : SayTheSame s after

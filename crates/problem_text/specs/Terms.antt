@@ -13,7 +13,7 @@ use Rattle.problem_text.specs.Limits.{is_low}
 use Rattle.problem_text.specs.TypedTerms.{Typed}
 use Rattle.problem_text.specs.Outcomes.{Outcome, done, refuse, and_then}
 use Rattle.problem_text.specs.Scripts.{Script, is_taken, with_named, with_term, with_let_name}
-use Rattle.problem_text.specs.Names.{Bound, Place, Meaning, meaning_of, meaning_applied, inside, let_term}
+use Rattle.problem_text.specs.Names.{Bound, Place, Meaning, meaning_of, meaning_applied, place_inside, let_term}
 
 -- A term that begins at this place, where its sorts allow it. It counts as read also where it is too high.
 abbrev pub settled : Option ℕ → ℕ → Option Typed → Script → Outcome Script Typed
@@ -42,7 +42,7 @@ unfoldable mutual
       and_then (terms_from fs p s) (λ ts after. settled p.settings.limit place (meaning_applied m ts) after))
   term_from (let_form place bs body) p s =
       and_then (bounds_from bs [] p s) (λ bound after.
-      and_then (term_from body (inside bound p) after) (λ t last. settled p.settings.limit place (Some (let_term p bound t)) last))
+      and_then (term_from body (place_inside bound p) after) (λ t last. settled p.settings.limit place (Some (let_term p bound t)) last))
   term_from (annotated place f names) p s = and_then (term_from f p s) (λ t after. with_names t names after)
 
   -- arguments, from the left

@@ -16,7 +16,7 @@ ghost use Rattle.problem_text.specs.Soundness.{IsSound, HasNoLets, AreBoundSorte
 ghost use Rattle.sexpr.specs.Spans.{AreAlike, IsListAt};
 ghost use Rattle.problem_text.specs.Alike.{SayTheSame, EndAlike};
 ghost use Rattle.problem_text.specs.Remembered.{IsReadTo, StandFor};
-ghost use Rattle.problem_text.specs.PrintedTerms.{term_item, named_item, IsUsable, IsPrintable, ReadsTo, HasNotName, MeansTerm};
+ghost use Rattle.problem_text.specs.PrintedTerms.{term_item, named_item, IsUsable, IsPrintable, IsReadAs, HasNotName, MeansTerm};
 ghost use Rattle.problem_text.specs.TypedTerms.{Typed};
 ghost use Rattle.problem_text.specs.Limits.{with_limit, AreLow};
 ghost use Rattle.problem_text.specs.Terms.{read_term};
@@ -94,7 +94,7 @@ pub fn terms_are_read_alike_within_limits()
 pub fn printed_terms_are_read_back()
     ensures spelled { (t : Term) (p : Place) (s : Script) → IsPrintable p s t → IsSpelledItem (term_item t) }
     ensures whole { (t : Term) (sort : Sort) (p : Place) (s : Script) (at : ℕ) → p.settings.limit ≡ None → IsOf t sort → IsPrintable p s t →
-        ReadsTo p s (placed at (term_item t)) (record { tree = t; sort = sort }) }
+        IsReadAs p s (placed at (term_item t)) (record { tree = t; sort = sort }) }
     ensures naming { (i : Item) (name : List ℕ) (t : Typed) (p : Place) (s after : Script) (at : ℕ) → p.settings.limit ≡ None →
         IsSymbolItem name → ((k : ℕ) → read_term (placed k i) p s ≡ done t after) → is_taken after name ≡ false →
         read_term (placed at (named_item i name)) p s ≡ done t (with_named (record { name = name; meant = t }) after) }

@@ -180,3 +180,7 @@ module _ (d : Draft) (proof : ProofItems ℕ ℕ) (k : ℕ) (h : IsDraft d (at o
 
   pub read_bindings : (x : List (ℕ × ℕ)) → option_map (λ s. s.entry.bindings) (slice_get d.scopes k) ≡ Some x → x ≡ bindings_at proof k
   read_bindings x at = read_scope (λ e. e.bindings) d proof k x [] h at
+
+pub ruleset id_read = (read_own_id, read_anchor_id, inner_within)
+
+pub ruleset scope_read = (read_own_scope, read_outer_scope, inner_within)

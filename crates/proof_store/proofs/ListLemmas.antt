@@ -65,3 +65,7 @@ same_put_behind i old ls l e same k h = kept ls l k (rw e h) ∙ same k h
     kept [] l k h = absurd (omega arith)
     kept (x ∷ ls) l zero h = refl
     kept (x ∷ ls) l (suc k) h = kept ls l k (omega arith)
+
+pub ruleset lists_put = (slice_get_put, take_put, length_put, take_same, length_same)
+
+pub ruleset lists_cut = (get_cut, same_cut, same_put)

@@ -11,7 +11,7 @@ use Rattle.rule_model.specs.Scopes.{Nesting, outermost, inner, commands_in, subp
 use Rattle.rule_model.specs.Commands.{IndexedCommand, assume, step, closing, Entry, entry_of, around_number, lines_in, ScopeEntry, scopes_in, scopes}
 use Rattle.rule_model.specs.Reading.{id_of, rule_of, rule_name_of, clause_of, premises_of, discharged_of, pivots_of, ratios_of}
 use Rattle.term_pool.specs.Bindings.{IsBindingOf}
-use Rattle.proof_store.specs.Meaning.{IsPivotOf, IsStepOf, StandForItems, no_items_stand, assume_stands, step_stands, subproof_stands}
+use Rattle.proof_store.specs.Meaning.{IsPivotOf, IsProofStepOf, StandForItems, no_items_stand, assume_stands, step_stands, subproof_stands}
 
 -- as many commands, and subproofs
 pub commands_same : (s : Table) (v : TermsView) (is : ProofItems ℕ ℕ) (ps : ProofItems Var Term) → StandForItems s v is ps → commands_in is ≡ commands_in ps
@@ -69,8 +69,8 @@ inner_same s v n m is ps bs cs a of k h =
 -- commands and scopes that stand for others
 pub data IsCommandOf (s : Table) (v : TermsView) : IndexedCommand ℕ → IndexedCommand Term → Type 0 where
   assume_is : (id : List ℕ) (r : ℕ) (t : Term) → RefersTo s v r t → IsCommandOf s v (assume id r) (assume id t)
-  step_is : (step' : Step ℕ) (of : Step Term) → IsStepOf s v step' of → IsCommandOf s v (step step') (step of)
-  closing_is : (step' : Step ℕ) (of : Step Term) → IsStepOf s v step' of → IsCommandOf s v (closing step') (closing of)
+  step_is : (step' : Step ℕ) (of : Step Term) → IsProofStepOf s v step' of → IsCommandOf s v (step step') (step of)
+  closing_is : (step' : Step ℕ) (of : Step Term) → IsProofStepOf s v step' of → IsCommandOf s v (closing step') (closing of)
 
 pub record IsEntryOf (s : Table) (v : TermsView) (e : Entry ℕ) (f : Entry Term) : Type 0 where
   pub command : IsCommandOf s v e.command f.command
@@ -126,7 +126,7 @@ module _ (s : Table) (v : TermsView) (is : ProofItems ℕ ℕ) (ps : ProofItems 
   )
 
 -- what stands for something goes on standing for it
-step_stays : (s z : Table) (v w : TermsView) → ((r : ℕ) (t : Term) → RefersTo s v r t → RefersTo z w r t) → (step' : Step ℕ) (of : Step Term) → IsStepOf s v step' of → IsStepOf z w step' of
+step_stays : (s z : Table) (v w : TermsView) → ((r : ℕ) (t : Term) → RefersTo s v r t → RefersTo z w r t) → (step' : Step ℕ) (of : Step Term) → IsProofStepOf s v step' of → IsProofStepOf z w step' of
 step_stays s z v w stay step' of h = record {
   id = h.id;
   rule = h.rule;

@@ -10,7 +10,7 @@ use Rattle.term_pool.specs.Views.{TermsView, RefersTo, IsTerm}
 use Rattle.rule_model.specs.Proofs.{Step, ProofItems, no_items, with_assume, with_step, with_subproof}
 use Rattle.term_pool.specs.Bindings.{IsBindingOf}
 use Rattle.term_pool.proofs.Leaves.{one_variable}
-use Rattle.proof_store.specs.Meaning.{IsPivotOf, IsStepOf, StandForItems, no_items_stand, assume_stands, step_stands, subproof_stands, BindsTerm, IsOfTerms, AreOfTerms, IsMeant}
+use Rattle.proof_store.specs.Meaning.{IsPivotOf, IsProofStepOf, StandForItems, no_items_stand, assume_stands, step_stands, subproof_stands, BindsTerm, IsOfTerms, AreOfTerms, IsMeant}
 
 -- lists in step with one list
 zip_one : {A B : Type 0} (R : A → B → Type 0) → ((x : A) (y z : B) → R x y → R x z → y ≡ z) → (xs : List A) (ys zs : List B) → AllZip R xs ys → AllZip R xs zs → ys ≡ zs
@@ -56,7 +56,7 @@ module _ (s : Table) (v : TermsView) (known : IsOneToOne v.pass) (one_term : (a 
       let second = sym h.truth ∙ k.truth in
       λ i. (first i, second i)
 
-  one_step : (a : Step ℕ) (b c : Step Term) → IsStepOf s v a b → IsStepOf s v a c → b ≡ c
+  one_step : (a : Step ℕ) (b c : Step Term) → IsProofStepOf s v a b → IsProofStepOf s v a c → b ≡ c
   one_step a b c h k =
       let id = sym h.id ∙ k.id in
       let rule = sym h.rule ∙ k.rule in
@@ -107,7 +107,7 @@ module _ (s : Table) (v : TermsView) where
   some_pivot : (p : ℕ × Bool) → IsTerm s v p.0 → HasOther (IsPivotOf s v) p
   some_pivot p h = record { other = (h.means, p.1); related = record { term = h.refers; truth = refl } }
 
-  some_step : (a : Step ℕ) → IsOfTerms s v a → HasOther (IsStepOf s v) a
+  some_step : (a : Step ℕ) → IsOfTerms s v a → HasOther (IsProofStepOf s v) a
   some_step a h =
       let clause = zip_some (RefersTo s v) (IsTerm s v) some_reference a.clause h.clause in
       let pivots = zip_some (IsPivotOf s v) (λ p. IsTerm s v p.0) some_pivot a.pivots h.pivots in

@@ -141,3 +141,5 @@ filled_parts i es xs h k l = from 0 es xs (i - length es) k h
 pub filled_count : {X : Type 0} (i : ℕ) (es : List ℕ) (xs : List X) (end : ℕ) → length es ≤ i → length (parts 0 (filled i es end) xs) ≡ i
 filled_count i es xs end h =
     parts_count 0 (filled i es end) xs ∙ (length-append es (replicate (i - length es) end) ∙ rw (length-replicate (i - length es) end) (omega arith))
+
+pub ruleset parts_filled = (filled_ends, filled_parts, filled_count)

@@ -104,3 +104,5 @@ have_lists_note k last rows lists h = let n = note_count k last rows in record {
   long = rw n h.long;
   few = let f = h.few in omega arith;
 }
+
+pub ruleset scope_pushed = (inner_count, inner_push, inner_refused, have_lists_push, have_lists_refused)

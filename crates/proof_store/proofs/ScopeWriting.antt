@@ -147,3 +147,5 @@ nested (inside around before anchor) id e = omega arith
 
 pub opened_here : (d : Draft) (id : List ℕ) → IsDraft d (proof_of d) → is_open_id (proof_of d).nesting id ≡ true → 0 < d.here
 opened_here d id h e = rw h.here (nested (proof_of d).nesting id e)
+
+pub ruleset scope_closed = (close_writes, owner_is, owner_within, opened_here)

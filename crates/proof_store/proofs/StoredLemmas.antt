@@ -169,3 +169,7 @@ in_step_push columns next names more rows c name h few has keeps within count =
 
 pub in_step_refused : (columns next : Columns) (names : List (List ℕ)) (rows : List Row) → AreInStep rows columns names → IsLong (length rows) next → AreInStep rows next names
 in_step_refused columns next names rows h long = record { long = long; named = h.named; few_names = h.few_names; few = h.few }
+
+pub ruleset command_pushed = (stored_count, stored_push, stored_refused, in_step_push, in_step_refused)
+
+pub ruleset name_stored = (stored_count, unknown_name, known_name, has_name)

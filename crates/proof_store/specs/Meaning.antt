@@ -14,7 +14,7 @@ pub record IsPivotOf (s : Table) (v : TermsView) (p : ℕ × Bool) (q : Term × 
   pub term : RefersTo s v p.0 q.0
   pub truth : p.1 ≡ q.1
 
-pub record IsStepOf (s : Table) (v : TermsView) (step : Step ℕ) (of : Step Term) : Type 0 where
+pub record IsProofStepOf (s : Table) (v : TermsView) (step : Step ℕ) (of : Step Term) : Type 0 where
   pub id : step.id ≡ of.id
   pub rule : step.rule ≡ of.rule
   pub rule_name : step.rule_name ≡ of.rule_name
@@ -29,11 +29,11 @@ pub data StandForItems (s : Table) (v : TermsView) : ProofItems ℕ ℕ → Proo
   no_items_stand : StandForItems s v no_items no_items
   assume_stands : (is : ProofItems ℕ ℕ) (ps : ProofItems Var Term) (id : List ℕ) (r : ℕ) (t : Term) → StandForItems s v is ps → RefersTo s v r t →
       StandForItems s v (with_assume is id r) (with_assume ps id t)
-  step_stands : (is : ProofItems ℕ ℕ) (ps : ProofItems Var Term) (step : Step ℕ) (of : Step Term) → StandForItems s v is ps → IsStepOf s v step of →
+  step_stands : (is : ProofItems ℕ ℕ) (ps : ProofItems Var Term) (step : Step ℕ) (of : Step Term) → StandForItems s v is ps → IsProofStepOf s v step of →
       StandForItems s v (with_step is step) (with_step ps of)
   subproof_stands : (is : ProofItems ℕ ℕ) (ps : ProofItems Var Term) (bindings : List (ℕ × ℕ)) (bound : List (Var × Term)) (inner : ProofItems ℕ ℕ)
       (proof : ProofItems Var Term) (step : Step ℕ) (of : Step Term) → StandForItems s v is ps → AllZip (IsBindingOf s v) bindings bound →
-      StandForItems s v inner proof → IsStepOf s v step of → StandForItems s v (with_subproof is bindings inner step) (with_subproof ps bound proof of)
+      StandForItems s v inner proof → IsProofStepOf s v step of → StandForItems s v (with_subproof is bindings inner step) (with_subproof ps bound proof of)
 
 -- the leaf of a variable with a reference that stands for a term
 pub record BindsTerm (s : Table) (v : TermsView) (b : ℕ × ℕ) : Type 0 where

@@ -152,7 +152,7 @@ impl Commands {
     }
 
     /// Adds a command.
-    #[tactic(auto, using(crate::proofs::StoredLemmas::stored_count, crate::proofs::StoredLemmas::stored_push, crate::proofs::StoredLemmas::stored_refused, crate::proofs::StoredLemmas::in_step_push, crate::proofs::StoredLemmas::in_step_refused))]
+    #[tactic(auto, using(crate::proofs::StoredLemmas::command_pushed))]
     pub(crate) fn push(&mut self, command: NewCommand<'_>) -> Result<(), Memory>
         requires { length self.old < 2 ^ 32 - 1 }
         ensures pushed { OnOk result (self.new ≡ self.old ++ stored command.entry ∷ []) }
@@ -184,7 +184,7 @@ impl Commands {
     }
 
     /// The name of its rule.
-    #[tactic(auto, using(crate::proofs::StoredLemmas::stored_count, crate::proofs::StoredLemmas::unknown_name, crate::proofs::StoredLemmas::known_name, crate::proofs::StoredLemmas::has_name))]
+    #[tactic(auto, using(crate::proofs::StoredLemmas::name_stored))]
     pub(crate) fn rule_name(&self, i: usize) -> &[u8]
         requires { i < length self.now }
         ensures { option_map (λ s. s.rule_name) (slice_get self.now i) ≡ Some result.now }

@@ -123,7 +123,7 @@ fn stand(draft: &mut Draft, step: NewCommand<'_>) -> Result<u32, Memory>
 }
 
 /// Adds the step that closes the innermost open scope.
-#[tactic(auto, using(crate::proofs::ScopeWriting::close_writes, crate::proofs::ScopeWriting::owner_is, crate::proofs::ScopeWriting::owner_within, crate::proofs::ScopeWriting::opened_here, crate::proofs::WritingLemmas::draft_index, crate::proofs::WritingLemmas::here_within))]
+#[tactic(auto, using(crate::proofs::ScopeWriting::scope_closed, crate::proofs::WritingLemmas::draft_index, crate::proofs::WritingLemmas::here_within))]
 fn close(draft: &mut Draft, step: NewCommand<'_>) -> Result<u32, Memory>
     requires draft { IsDraft draft.old (proof_of draft.old) }
     requires open_anchor { is_open_id (proof_of draft.old).nesting step.id.now ≡ true }

@@ -128,7 +128,7 @@ fn fill(ends: &mut Vec<u32>, i: usize) -> Result<(), Memory>
 }
 
 /// Adds a list at place `i`, behind empty ones where fewer lists are there.
-#[tactic(auto, using(crate::proofs::Parts::filled_ends, crate::proofs::Parts::filled_parts, crate::proofs::Parts::filled_count, crate::proofs::ListLemmas::get_put_behind, crate::proofs::ListLemmas::same_put_behind))]
+#[tactic(auto, using(crate::proofs::Parts::parts_filled, crate::proofs::ListLemmas::get_put_behind, crate::proofs::ListLemmas::same_put_behind))]
 fn add_at<T: Copy + Drop>(
     items: &mut Vec<T>,
     ends: &mut Vec<u32>,
@@ -165,7 +165,7 @@ impl<T: Copy + Drop> Lists<T> {
         part(&self.items, &self.ends, i)
     }
 
-    #[tactic(auto, using(crate::proofs::Parts::parts_count, crate::proofs::ListLemmas::slice_get_put, crate::proofs::ListLemmas::take_put, crate::proofs::ListLemmas::length_put, crate::proofs::ListLemmas::take_same, crate::proofs::ListLemmas::length_same))]
+    #[tactic(auto, using(crate::proofs::Parts::parts_count, crate::proofs::ListLemmas::lists_put))]
     /// Puts a list at place `i`, and takes away what stood there and behind it, the list itself where it is refused.
     pub(crate) fn put(&mut self, i: usize, list: &[T]) -> Result<(), Memory>
         requires { i ≤ length self.old }
@@ -192,7 +192,7 @@ impl<T: Copy + Drop> Lists<T> {
     /// Puts a list at place `i`, for `get_or_empty`, and takes away what stood there and behind it, the list itself where it
     /// is refused. An empty one takes no end, so that lists that are mostly empty cost little; one that is not empty is put
     /// behind empty ones up to its place. Where lists are put at places that only go up, no place is filled so twice.
-    #[tactic(auto, using(crate::proofs::Parts::parts_count, crate::proofs::ListLemmas::get_cut, crate::proofs::ListLemmas::same_cut, crate::proofs::ListLemmas::same_put))]
+    #[tactic(auto, using(crate::proofs::Parts::parts_count, crate::proofs::ListLemmas::lists_cut))]
     pub(crate) fn put_if_any(&mut self, i: usize, list: &[T]) -> Result<(), Memory>
         ensures put { OnOk result (slice_index_or self.new i [] ≡ list.now) }
         ensures agrees { SameBelow i self.old self.new }

@@ -80,7 +80,7 @@ impl Proof {
     }
 
     /// Its id.
-    #[tactic(auto, using(crate::proofs::ReadingLemmas::count_is, crate::proofs::LineLemmas::read_own_id, crate::proofs::LineLemmas::read_anchor_id, crate::proofs::LineLemmas::inner_within))]
+    #[tactic(auto, using(crate::proofs::ReadingLemmas::count_is, crate::proofs::LineLemmas::id_read))]
     pub fn id(&self, i: u32) -> &[u8]
         requires { i < commands_in self.now }
         ensures { result.now ≡ id_at self.now i }
@@ -139,7 +139,7 @@ impl Proof {
     }
 
     /// The number of the scope to which it belongs. 0 is the outermost one.
-    #[tactic(auto, using(crate::proofs::ReadingLemmas::count_is, crate::proofs::LineLemmas::read_own_scope, crate::proofs::LineLemmas::read_outer_scope, crate::proofs::LineLemmas::inner_within))]
+    #[tactic(auto, using(crate::proofs::ReadingLemmas::count_is, crate::proofs::LineLemmas::scope_read))]
     pub fn scope_of(&self, i: u32) -> u32
         requires { i < commands_in self.now }
         ensures { result ≡ scope_at self.now i }

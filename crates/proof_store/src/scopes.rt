@@ -97,7 +97,7 @@ impl Scopes {
     }
 
     /// Adds the scope of an anchor, inside another.
-    #[tactic(auto, using(crate::proofs::ScopeLemmas::inner_count, crate::proofs::ScopeLemmas::inner_push, crate::proofs::ScopeLemmas::inner_refused, crate::proofs::ScopeLemmas::have_lists_push, crate::proofs::ScopeLemmas::have_lists_refused))]
+    #[tactic(auto, using(crate::proofs::ScopeLemmas::scope_pushed))]
     pub(crate) fn push(
         &mut self,
         parent: u32,

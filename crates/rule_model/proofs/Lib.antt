@@ -51,4 +51,4 @@ pub mod Correspondence
 pub mod ElaborationExamples
 pub mod Chaining
 pub mod Forms
-pub mod WithoutIds
+pub mod LeftOut

@@ -13,7 +13,7 @@ use Rattle.term_model.proofs.Sorting.{when-same, choice_sort-branches, value_has
 use Rattle.term_model.proofs.Tests.{sort_eq_decides}
 use Rattle.rule_model.specs.declared.letter.Letter.{Letter}
 use Rattle.rule_model.specs.Rewriting.{Guard, always, truths, one_number, two_numbers, below, at_most, PassesGuard, RewriteRow}
-use Rattle.rule_model.specs.Schemas.{Pattern, letter, constant, unary, binary, ternary, fill}
+use Rattle.rule_model.specs.Schemas.{Pattern, letter, nullary, unary, binary, ternary, fill}
 use Rattle.rule_model.proofs.TruthTables.{pattern_value, fill_value, is_in, is_truth_in, same_values, truth_letter, table, both}
 
 -- whether an operator gives a truth value, and whether a pattern has one where it is well sorted
@@ -30,7 +30,7 @@ gives_truth _ = false
 
 abbrev pub is_of_truths : Pattern → Bool
 is_of_truths (letter l) = false
-is_of_truths (constant op) = gives_truth op
+is_of_truths (nullary op) = gives_truth op
 is_of_truths (unary op p) = gives_truth op
 is_of_truths (binary op p q) = gives_truth op
 is_of_truths (ternary Op.Ite p q r) = is_of_truths q || is_of_truths r
@@ -75,7 +75,7 @@ choice_of c t u s h k l = record {
 
 pub of_truths : (terms : Letter → Term) (p : Pattern) (s : Sort) → is_of_truths p ≡ true → IsOf (fill terms p) s → s ≡ Sort.Bool
 of_truths terms (letter l) s e h = absurd cc
-of_truths terms (constant op) s e h = gives_bool op no_terms s e h
+of_truths terms (nullary op) s e h = gives_bool op no_terms s e h
 of_truths terms (unary op p) s e h = gives_bool op (term (fill terms p) no_terms) s e h
 of_truths terms (binary op p q) s e h =
     gives_bool op (term (fill terms p) (term (fill terms q) no_terms)) s e h
@@ -104,7 +104,7 @@ takes_two _ = false
 
 abbrev pub is_boolean : Pattern → Bool
 is_boolean (letter l) = true
-is_boolean (constant op) = takes_none op
+is_boolean (nullary op) = takes_none op
 is_boolean (unary op p) = takes_one op && is_boolean p
 is_boolean (binary op p q) = takes_two op && (is_boolean p && is_boolean q)
 is_boolean (ternary op p q r) = false
@@ -134,7 +134,7 @@ same_is Letter.D = refl
 
 boolean_is : (terms : Letter → Term) (p : Pattern) → is_boolean p ≡ true → ((l : Letter) → is_in l p ≡ true → IsOf (terms l) Sort.Bool) → IsOf (fill terms p) Sort.Bool
 boolean_is terms (letter l) e each = each l (same_is l)
-boolean_is terms (constant op) e each = none_taken op e
+boolean_is terms (nullary op) e each = none_taken op e
 boolean_is terms (unary op p) e each =
     one_taken op _ (and-left (takes_one op) (is_boolean p) e) (boolean_is terms p (and-right (takes_one op) (is_boolean p) e) each)
 boolean_is terms (binary op p q) e each =

@@ -12,20 +12,20 @@ use Rattle.term_model.specs.Meaning.{Valuation, value}
 use Rattle.term_model.specs.Sorts.{IsOf}
 use Rattle.term_model.proofs.Basics.{and-left, and-right}
 use Rattle.rule_model.specs.declared.letter.Letter.{Letter}
-use Rattle.rule_model.specs.Schemas.{Pattern, letter, constant, unary, binary, ternary, fill, Schema}
+use Rattle.rule_model.specs.Schemas.{Pattern, letter, nullary, unary, binary, ternary, fill, Schema}
 use Rattle.rule_model.proofs.Arguments.{are_truths, all_arguments_are_truths, choices_are_truths}
 
 -- the value of a pattern, where its letters have these
 abbrev pub pattern_value : (Letter → Value) → Pattern → Value
 pattern_value v (letter l) = v l
-pattern_value v (constant op) = meaning op []
+pattern_value v (nullary op) = meaning op []
 pattern_value v (unary op p) = meaning op (pattern_value v p ∷ [])
 pattern_value v (binary op p q) = meaning op (pattern_value v p ∷ pattern_value v q ∷ [])
 pattern_value v (ternary op p q r) = meaning op (pattern_value v p ∷ pattern_value v q ∷ pattern_value v r ∷ [])
 
 pub fill_value : (I : Interpretation) (r : Valuation) (terms : Letter → Term) (p : Pattern) → value I r (fill terms p) ≡ pattern_value (λ l. value I r (terms l)) p
 fill_value I r terms (letter l) = refl
-fill_value I r terms (constant op) = refl
+fill_value I r terms (nullary op) = refl
 fill_value I r terms (unary op p) = rw (fill_value I r terms p) refl
 fill_value I r terms (binary op p q) = rw (fill_value I r terms p, fill_value I r terms q) refl
 fill_value I r terms (ternary op p q s) =
@@ -41,7 +41,7 @@ is_same _ _ = false
 
 abbrev pub is_in : Letter → Pattern → Bool
 is_in l (letter m) = is_same l m
-is_in l (constant op) = false
+is_in l (nullary op) = false
 is_in l (unary op p) = is_in l p
 is_in l (binary op p q) = is_in l p || is_in l q
 is_in l (ternary op p q r) = is_in l p || (is_in l q || is_in l r)
@@ -49,7 +49,7 @@ is_in l (ternary op p q r) = is_in l p || (is_in l q || is_in l r)
 -- whether a letter is of Bool where the pattern is
 abbrev pub is_truth_in : Letter → Pattern → Bool
 is_truth_in l (letter m) = is_same l m
-is_truth_in l (constant op) = false
+is_truth_in l (nullary op) = false
 is_truth_in l (unary op p) = are_truths op && is_truth_in l p
 is_truth_in l (binary op p q) = are_truths op && (is_truth_in l p || is_truth_in l q)
 is_truth_in l (ternary Op.Ite p q r) = is_truth_in l p || (is_truth_in l q || is_truth_in l r)
@@ -68,7 +68,7 @@ same_values v w (letter Letter.A) same = same Letter.A refl
 same_values v w (letter Letter.B) same = same Letter.B refl
 same_values v w (letter Letter.C) same = same Letter.C refl
 same_values v w (letter Letter.D) same = same Letter.D refl
-same_values v w (constant op) same = refl
+same_values v w (nullary op) same = refl
 same_values v w (unary op p) same = rw (same_values v w p same) refl
 same_values v w (binary op p q) same =
     rw (same_values v w p (λ l e. same l (or_left (is_in l p) (is_in l q) e)), same_values v w q (λ l e. same l (or_right (is_in l p) (is_in l q) e))) refl
@@ -82,7 +82,7 @@ same_values v w (ternary op p q r) same =
 -- a letter is of Bool where it is in a pattern of Bool
 pub truth_letter : (terms : Letter → Term) (l : Letter) (p : Pattern) → is_truth_in l p ≡ true → IsOf (fill terms p) Sort.Bool → IsOf (terms l) Sort.Bool
 truth_letter terms l (letter m) e h = same_letter (λ k. IsOf (terms k) Sort.Bool) l m e h
-truth_letter terms l (constant op) e h = absurd cc
+truth_letter terms l (nullary op) e h = absurd cc
 truth_letter terms l (unary op p) e h =
     truth_letter terms l p (and-right (are_truths op) (is_truth_in l p) e)
     (all_arguments_are_truths op (term (fill terms p) no_terms) (and-left (are_truths op) (is_truth_in l p) e) h).0

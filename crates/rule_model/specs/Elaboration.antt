@@ -31,8 +31,8 @@ pub data Adds (c : Checking) {V T : Type 0} : Nesting V T → ProofItems V T →
   assume_added : (items more : ProofItems V T) (id : List ℕ) (t : T) →
       Adds c outermost items more → Adds c outermost items (with_assume more id t)
 
--- A step in the place of another has its clause, and a hole stays one, with its rule's word. Else its rule, its premises and
--- its pivots are free.
+-- A step in the place of another has its clause, and a hole stays one, with its rule's word, and nothing else becomes one. This
+-- leaves its rule, its premises, its pivots, its coefficients and what it discharges free.
 pub record TakesPlace (c : Checking) {T : Type 0} (old new : Step T) : Type 0 where
   pub clause : new.clause ≡ old.clause
   pub hole : IsHole c old → IsHole c new × (new.rule_name ≡ old.rule_name)
@@ -77,8 +77,8 @@ pub record IsLowLine (h : ℕ) (line : Line Var Term) : Type 0 where
   pub images : All (λ (b : Var × Term). height b.1 ≤ h) (images (open_anchors line.scope.nesting))
 
 -- no term of the proof is higher
-abbrev pub AreLow : ℕ → ProofItems Var Term → Type 0
-AreLow h proof = All (IsLowLine h) (lines_in outermost proof)
+abbrev pub IsLowProof : ℕ → ProofItems Var Term → Type 0
+IsLowProof h proof = All (IsLowLine h) (lines_in outermost proof)
 
 -- A proof is an elaboration of another for the same assertions. It is well formed, and well sorted where the other is. Its
 -- strict statuses all are Ok or holes, and it keeps every command. Where no assertion and no term of the other is higher
@@ -90,4 +90,4 @@ pub record IsElaboration (c : Checking) (old new : ProofItems Var Term) : Type 0
   pub are : AreStatuses (checking_in Mode.Strict c) new statuses
   pub pass : All Passes statuses
   pub kept : Keeps c outermost old outermost new
-  pub low : (h : ℕ) → All (λ t. height t ≤ h) c.assertions → AreLow h old → AreLow (2 * h + 10) new
+  pub low : (h : ℕ) → All (λ t. height t ≤ h) c.assertions → IsLowProof h old → IsLowProof (2 * h + 10) new

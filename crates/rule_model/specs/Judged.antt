@@ -1,12 +1,12 @@
 -- Public. What the condition of a rule may look at: a step that closes no scope, under a mode.
-use Rattle.std.specs.Prelude.{ℕ, Bool, List, [], ◌∷◌, map, slice_get, Option}
+use Rattle.std.specs.Prelude.{ℕ, Bool, List, [], ◌∷◌, slice_get, Option}
 use Rattle.std.specs.Option.{option_map_or}
 use Rattle.term_model.specs.Terms.{Var, Term}
 use Rattle.rule_model.specs.declared.rules.Mode.{Mode}
 use Rattle.rule_model.specs.declared.rules.Rule.{Rule}
 use Rattle.rule_model.specs.Commands.{lines_in}
 use Rattle.rule_model.specs.Proofs.{Fraction, ProofItems}
-use Rattle.rule_model.specs.Reading.{rule_at, clause_at, premises_at, pivots_at, ratios_at}
+use Rattle.rule_model.specs.Reading.{rule_at, clause_at, premise_clauses, pivots_at, ratios_at}
 use Rattle.rule_model.specs.Scopes.{Nesting, outermost, inside}
 
 -- The mode, the rule, the clause, the premises' clauses in the order in which the step names them, the pivots, the
@@ -35,7 +35,7 @@ judged_at mode proof i = record {
   mode = mode;
   rule = rule_at proof i;
   clause = clause_at proof i;
-  premises = map (clause_at proof) (premises_at proof i);
+  premises = premise_clauses proof i;
   pivots = pivots_at proof i;
   ratios = ratios_at proof i;
   anchors = anchors_at proof i;

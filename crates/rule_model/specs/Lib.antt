@@ -40,7 +40,7 @@ pub mod Columns
 pub mod Elaboration
 pub mod Correspondence
 pub mod ElaborationExamples
-pub mod WithoutIds
+pub mod LeftOut
 pub mod Holes
 pub mod Chaining
 pub mod Forms

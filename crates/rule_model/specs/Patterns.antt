@@ -1,7 +1,7 @@
 -- Public. The patterns that tables of rules and of rewrites are written in.
 use Rattle.term_model.specs.declared.symbols.Op.{Op}
 use Rattle.rule_model.specs.declared.letter.Letter.{Letter}
-use Rattle.rule_model.specs.Schemas.{Pattern, letter, constant, unary, binary, ternary}
+use Rattle.rule_model.specs.Schemas.{Pattern, letter, nullary, unary, binary, ternary}
 
 abbrev pub a : Pattern
 a = letter Letter.A
@@ -16,10 +16,10 @@ abbrev pub d : Pattern
 d = letter Letter.D
 
 abbrev pub yes : Pattern
-yes = constant Op.True
+yes = nullary Op.True
 
 abbrev pub never : Pattern
-never = constant Op.False
+never = nullary Op.False
 
 abbrev pub no : Pattern → Pattern
 no p = unary Op.Not p

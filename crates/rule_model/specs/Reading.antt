@@ -1,11 +1,11 @@
 -- Public. What a proof has at an index, and at a scope's number. Past the end there is nothing.
-use Rattle.std.specs.Prelude.{ℕ, List, [], ◌∷◌, Bool, true, false, slice_get, Option, None}
+use Rattle.std.specs.Prelude.{ℕ, List, [], ◌∷◌, map, Bool, true, false, slice_get, Option, None}
 use Rattle.std.specs.Option.{option_map_or}
 use Rattle.rule_model.specs.declared.rules.Rule.{Rule}
 use Rattle.rule_model.specs.Proofs.{Fraction, Step, ProofItems}
 use Rattle.rule_model.specs.Commands.{IndexedCommand, assume, step, closing, entries, scopes}
 
--- a command as a step: that of an assume has no rule and no word of one, and its clause is the term
+-- a command as a step: that of an assume has the rule `Assume` and no word of one, and its clause is the term
 abbrev pub step_of : {T : Type 0} → IndexedCommand T → Step T
 step_of (assume id t) = record {
   id = id;
@@ -65,6 +65,9 @@ clause_at proof i = option_map_or (λ e. clause_of e.command) (slice_get (entrie
 
 abbrev pub premises_at : {V T : Type 0} → ProofItems V T → ℕ → List ℕ
 premises_at proof i = option_map_or (λ e. premises_of e.command) (slice_get (entries proof) i) []
+
+abbrev pub premise_clauses : {V T : Type 0} → ProofItems V T → ℕ → List (List T)
+premise_clauses proof i = map (clause_at proof) (premises_at proof i)
 
 abbrev pub discharged_at : {V T : Type 0} → ProofItems V T → ℕ → List ℕ
 discharged_at proof i = option_map_or (λ e. discharged_of e.command) (slice_get (entries proof) i) []

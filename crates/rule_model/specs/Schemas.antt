@@ -5,10 +5,10 @@ use Rattle.term_model.specs.declared.symbols.Op.{Op}
 use Rattle.term_model.specs.Terms.{Term, operation, no_terms, term}
 use Rattle.rule_model.specs.declared.letter.Letter.{Letter}
 
--- a letter, a constant, or an operator over one, two or three patterns
+-- a letter, or an operator over no pattern, or over one, two or three
 pub data Pattern : Type 0 where
   letter : Letter → Pattern
-  constant : Op → Pattern
+  nullary : Op → Pattern
   unary : Op → Pattern → Pattern
   binary : Op → Pattern → Pattern → Pattern
   ternary : Op → Pattern → Pattern → Pattern → Pattern
@@ -16,7 +16,7 @@ pub data Pattern : Type 0 where
 -- the term that a pattern becomes where these terms are put in for its letters
 abbrev pub fill : (Letter → Term) → Pattern → Term
 fill terms (letter l) = terms l
-fill terms (constant op) = operation op no_terms
+fill terms (nullary op) = operation op no_terms
 fill terms (unary op p) = operation op (term (fill terms p) no_terms)
 fill terms (binary op p q) = operation op (term (fill terms p) (term (fill terms q) no_terms))
 fill terms (ternary op p q r) =

@@ -1,6 +1,6 @@
 -- Public. The rules of simplification (Alethe specification, "List of rules"): tables of rewrites in order, and those over
 -- the arguments of `and` and `or`. The step has no premise, and its clause is one equality. Both modes ask the same.
-use Rattle.std.specs.Prelude.{ℕ, suc, zero, ◌+◌, ◌≡◌, ◌≢◌, ◌⊎◌, List, [], ◌∷◌, Contains}
+use Rattle.std.specs.Prelude.{ℕ, suc, zero, ◌+◌, ◌≡◌, ◌⊎◌, List, [], ◌∷◌, Contains}
 use Rattle.term_model.specs.declared.symbols.Op.{Op}
 use Rattle.term_model.specs.Flips.{equality}
 use Rattle.term_model.specs.Terms.{Term, operation, terms_of, not_of}

@@ -9,7 +9,7 @@ use Rattle.term_model.specs.Terms.{Var, Term, operation, let_in, Bindings, no_te
 use Rattle.rule_model.specs.declared.rules.Mode.{Mode}
 use Rattle.rule_model.specs.Congruence.{AreSides, AreDifferences}
 use Rattle.rule_model.specs.Proofs.{ProofItems}
-use Rattle.rule_model.specs.Reading.{rule_at, clause_at, premises_at, discharged_at, scope_at, bindings_at, last_inside_at, is_assume}
+use Rattle.rule_model.specs.Reading.{rule_at, clause_at, premises_at, premise_clauses, discharged_at, scope_at, bindings_at, last_inside_at, is_assume}
 
 -- the command at index j is an assume that stands directly in scope k, before the step that closes this
 pub record IsAssumeIn {V T : Type 0} (proof : ProofItems V T) (i k j : ℕ) : Type 0 where
@@ -65,4 +65,4 @@ pub record IsLetClosing (mode : Mode) (proof : ProofItems Var Term) (i k : ℕ) 
   pub ends : EndsIn proof k (equality body result ∷ [])
   pub variables : map (λ (b : Var × Term). b.0) (bindings_at proof k) ≡ variables_of bindings
   pub hidden : All (λ x. ¬ IsFree x result) (variables_of bindings)
-  pub linked : AreLinkedTo mode (map (clause_at proof) (premises_at proof i)) (bound_terms bindings) (map (λ (b : Var × Term). b.1) (bindings_at proof k))
+  pub linked : AreLinkedTo mode (premise_clauses proof i) (bound_terms bindings) (map (λ (b : Var × Term). b.1) (bindings_at proof k))

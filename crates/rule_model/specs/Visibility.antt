@@ -21,13 +21,16 @@ direct nesting (with_step items s) = direct nesting items ++ sight (first_index 
 direct nesting (with_subproof items bindings proof s) =
     direct nesting items ++ sight (first_index nesting + (commands_in items + commands_in proof)) s.id ∷ []
 
--- the indices of the assumes that stand directly in a scope
+-- those of them that are assumes, and their indices
+abbrev pub direct_assumes : {V T : Type 0} → Nesting V T → ProofItems V T → List Sight
+direct_assumes nesting no_items = []
+direct_assumes nesting (with_assume items id t) =
+    direct_assumes nesting items ++ sight (first_index nesting + commands_in items) id ∷ []
+direct_assumes nesting (with_step items s) = direct_assumes nesting items
+direct_assumes nesting (with_subproof items bindings proof s) = direct_assumes nesting items
+
 abbrev pub assumes_in : {V T : Type 0} → Nesting V T → ProofItems V T → List ℕ
-assumes_in nesting no_items = []
-assumes_in nesting (with_assume items id t) =
-    assumes_in nesting items ++ (first_index nesting + commands_in items) ∷ []
-assumes_in nesting (with_step items s) = assumes_in nesting items
-assumes_in nesting (with_subproof items bindings proof s) = assumes_in nesting items
+assumes_in nesting items = map (λ s. s.index) (direct_assumes nesting items)
 
 -- what can be seen from where a scope is opened, and from where it is written up to now
 abbrev pub seen_around : {V T : Type 0} → Nesting V T → List Sight

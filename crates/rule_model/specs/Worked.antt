@@ -1,4 +1,4 @@
--- Private. The proof of the worked example, over numbers in the place of terms:
+-- Public. The proof of the worked example, over numbers in the place of terms:
 --   (anchor :step t1)
 --   (assume t1.h 5)
 --   (step t1.t (cl 6) :rule hole :premises (t1.h))

@@ -1,21 +1,25 @@
 -- Private. What each rule asks of the coefficients and the clause of a step that has no premise.
-use Rattle.std.specs.Prelude.{List, [], ◌∷◌, Option, None}
+use Rattle.std.specs.Prelude.{List, [], Option, None}
 use Rattle.line_judging.specs.declared.judging.Absurdity.{Absurdity}
 use Rattle.linear_forms.specs.declared.forms.OneForm.{OneForm}
 use Rattle.term_parts.specs.declared.answers.Answer.{Answer}
-use Rattle.term_model.specs.declared.symbols.Op.{Op}
 use Rattle.term_model.specs.Terms.{Term}
+use Rattle.rule_model.specs.declared.kinds.Family.{Family}
+use Rattle.rule_model.specs.declared.kinds.Kind.{Kind}
 use Rattle.rule_model.specs.declared.rules.Rule.{Rule}
 use Rattle.rule_model.specs.Arith.{MeetsFormSimplification, IsWideFormSimplification, MeetsLaGeneric, IsWideLaGeneric}
-use Rattle.rule_model.specs.Patterns.{a, b, no, conj, disj, equal, less_eq}
+use Rattle.rule_model.specs.Conditions.{row_of}
 use Rattle.rule_model.specs.Proofs.{Fraction}
-use Rattle.rule_model.specs.Schemas.{Schema, ternary, tautology, IsInstanceOf}
+use Rattle.rule_model.specs.RuleNames.{kind_of}
+use Rattle.rule_model.specs.Schemas.{Schema, IsInstanceOf}
+
+-- the schema that the table of rules has of a rule of this family
+abbrev pub if_arithmetic : Kind → Option Schema → Option Schema
+if_arithmetic (Kind.Judged Family.Arith) schema = schema
+if_arithmetic kind schema = None
 
 abbrev pub arithmetic_schema_of : Rule → Option Schema
-arithmetic_schema_of Rule.LaDisequality = tautology (ternary Op.Or (equal a b) (no (less_eq a b)) (no (less_eq b a)) ∷ [])
-arithmetic_schema_of Rule.LaTotality = tautology (disj (less_eq a b) (less_eq b a) ∷ [])
-arithmetic_schema_of Rule.LaRwEq = tautology (equal (equal a b) (conj (less_eq a b) (less_eq b a)) ∷ [])
-arithmetic_schema_of rule = None
+arithmetic_schema_of rule = if_arithmetic (kind_of rule) (row_of rule).schema
 
 abbrev pub MeetsArithmetic : Rule → Option (List Fraction) → List Term → Type 0
 MeetsArithmetic Rule.LaGeneric ratios clause = MeetsLaGeneric ratios [] clause

@@ -1,9 +1,9 @@
 -- Public. The sides of the equality that a step states, and what they become.
-use Rattle.std.specs.Prelude.{◌≡◌, ◌⊎◌, ℕ, List, [], ◌∷◌, map}
+use Rattle.std.specs.Prelude.{◌≡◌, ◌⊎◌, ℕ, List, [], ◌∷◌}
 use Rattle.rule_model.specs.Contexts.{images}
 use Rattle.rule_model.specs.Judged.{anchors_at}
 use Rattle.rule_model.specs.Proofs.{ProofItems}
-use Rattle.rule_model.specs.Reading.{clause_at, premises_at}
+use Rattle.rule_model.specs.Reading.{clause_at, premise_clauses}
 use Rattle.rule_model.specs.Replacement.{Replacement}
 use Rattle.rule_model.specs.Substitution.{put_in}
 use Rattle.term_model.specs.Flips.{equality}
@@ -23,4 +23,4 @@ pub record IsSubstitutedSide (anchors : List Replacement) (premises : List (List
 
 -- the same of the step at an index, by the anchors that are open there
 abbrev pub IsSideOf : ProofItems Var Term → ℕ → Term → Type 0
-IsSideOf proof i t = IsSubstitutedSide (anchors_at proof i) (map (clause_at proof) (premises_at proof i)) (clause_at proof i) t
+IsSideOf proof i t = IsSubstitutedSide (anchors_at proof i) (premise_clauses proof i) (clause_at proof i) t

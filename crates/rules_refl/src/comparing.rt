@@ -42,6 +42,7 @@ pub(crate) fn are_same(
 /// What is said of a step where a substitution was refused.
 pub fn refused(stop: TermStop) -> RuleStop
     ensures full { result ≡ RuleStop.PoolFull → stop ≡ TermStop.PoolFull }
+    ensures memory { result ≡ RuleStop.Memory → stop ≡ TermStop.Memory }
 {
     match stop {
         TermStop::PoolFull => RuleStop::PoolFull,

@@ -11,7 +11,7 @@ use Rattle.std.proofs.lemmas.List.Folds.{flat_map-map, length-flat_map-take}
 use Rattle.std.proofs.lemmas.List.Sorted.{Contains-permutation, All-permutation}
 use Rattle.rule_model.specs.Consequence.{literal_at}
 use Rattle.rule_model.specs.declared.literal.Literal.TheVariants.{Plain, Always, Never}
-use Rattle.rules_resolution.specs.Clause.{clauses_of}
+use Rattle.clause_chain.specs.Chaining.{clauses_of}
 use Rattle.rules_resolution.specs.Literal.{Lit}
 use Rattle.rules_resolution.specs.declared.naming.Key.{Key}
 use Rattle.pair_pool.specs.declared.stops.Memory.{Memory}

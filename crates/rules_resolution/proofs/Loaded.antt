@@ -6,10 +6,10 @@ use Rattle.std.specs.List.{AllZip}
 use Rattle.std.proofs.lemmas.List.{take_more}
 use Rattle.std.proofs.lemmas.List.Elements.{All-nil, All-cons}
 use Rattle.rule_model.specs.Proofs.{ProofItems}
-use Rattle.rule_model.specs.Reading.{clause_at, premises_at}
+use Rattle.rule_model.specs.Reading.{clause_at, premises_at, premise_clauses}
 use Rattle.term_model.proofs.Zips.{zip_push}
 use Rattle.rules_resolution.specs.Loading.{AreListsOf}
-use Rattle.rules_resolution.specs.Steps.{AreShort, IsShort, premise_clauses}
+use Rattle.rules_resolution.specs.Steps.{AreShort, IsShort}
 
 -- one item more
 pub zip_more : {X Y : Type 0} (R : X → Y → Type 0) (xs : List X) (ys : List Y) (i : ℕ) (d : X) (y : Y) → i < length xs

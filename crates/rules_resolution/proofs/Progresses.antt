@@ -6,7 +6,7 @@ use Rattle.std.proofs.lemmas.List.Elements.{All-contains, Contains-push, Contain
 use Rattle.rule_model.specs.Consequence.{literal_at, premise_at, literal_of, IsOnly, IsConflict, IsUnit, Leads, Contradicts}
 use Rattle.rule_model.specs.Literals.{negation_of, Entails}
 use Rattle.rule_model.specs.declared.literal.Literal.TheVariants.{Plain, Always, Never}
-use Rattle.rules_resolution.specs.Clause.{clauses_of}
+use Rattle.clause_chain.specs.Chaining.{clauses_of}
 use Rattle.rules_resolution.specs.Falsity.{same_literal, is_false_in}
 use Rattle.rules_resolution.specs.Literal.{Lit}
 use Rattle.rules_resolution.specs.declared.occurrence.Occurrence.{Occurrence}

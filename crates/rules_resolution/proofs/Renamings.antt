@@ -7,7 +7,7 @@ use Rattle.rule_model.specs.Renaming.{KeepsAtomsApart, IsLiteralImage, AreLitera
 use Rattle.rule_model.specs.declared.literal.Literal.{Literal}
 use Rattle.rule_model.proofs.Renamings.{leads_renamed, contradicts_renamed, follows_renamed}
 use Rattle.rule_model.specs.declared.literal.Literal.TheVariants.{Plain, Always, Never}
-use Rattle.rules_resolution.specs.Clause.{clauses_of}
+use Rattle.clause_chain.specs.Chaining.{clauses_of}
 use Rattle.rules_resolution.specs.Literal.{Lit}
 use Rattle.pair_pool.specs.declared.stops.Memory.{Memory}
 use Rattle.rules_resolution.specs.Shows.{Shows}

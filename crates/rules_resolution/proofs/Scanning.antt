@@ -7,7 +7,7 @@ use Rattle.std.proofs.lemmas.List.Elements.{All-from_get_or}
 use Rattle.rule_model.specs.Consequence.{IsFalse, literal_at, premise_at, literal_of, IsOnly, IsUnit, IsConflict, Leads, Contradicts, Follows}
 use Rattle.rule_model.specs.Literals.{negation_of}
 use Rattle.rule_model.specs.declared.literal.Literal.TheVariants.{Never}
-use Rattle.rules_resolution.specs.Clause.{clauses_of}
+use Rattle.clause_chain.specs.Chaining.{clauses_of}
 use Rattle.rules_resolution.specs.Falsity.{same_literal, is_false_in}
 use Rattle.rules_resolution.specs.Idle.{IsIdle, AllIdleBelow}
 use Rattle.rules_resolution.specs.Literal.{Lit}

@@ -11,7 +11,7 @@ use Rattle.term_pool.specs.Views.{TermsView, RefersTo, ReferToAll}
 use Rattle.proof_store.specs.Meaning.{IsPivotOf}
 use Rattle.rule_model.specs.Renaming.{KeepsAtomsApart}
 use Rattle.rule_model.specs.Resolution.{JoinAll, ResolvesStrictly, sides_of}
-use Rattle.clause_chain.specs.Chaining.{clauses_in}
+use Rattle.clause_chain.specs.Chaining.{clauses_of}
 use Rattle.clause_chain.specs.declared.signed_term.SignedTerm.{SignedTerm}
 use Rattle.rules_resolution.specs.Loading.{AreListsOf, TakeAway}
 use Rattle.rules_resolution.specs.SignedTerms.{HasSign, StandsForSigned, IsSignedOf}
@@ -50,7 +50,7 @@ module _ (s : Table) (v : TermsView) where
   clause_signed (r ∷ rs) (k ∷ ks) (t ∷ ts) z refer = (z.0 t refer.0, clause_signed rs ks ts z.1 refer.1)
 
   clauses_signed : (premises : List (Bor (List ℕ))) (signed : List (Vec SignedTerm)) (ps : List (List Term)) → AreListsOf (IsSignedOf s v) premises signed
-      → ReferToClauses s v premises ps → AllZip (AllZip (StandsForSigned s v)) (clauses_in signed) ps
+      → ReferToClauses s v premises ps → AllZip (AllZip (StandsForSigned s v)) (clauses_of signed) ps
   clauses_signed [] [] [] z refer = tt
   clauses_signed [] [] (p ∷ ps) z refer = absurd refer
   clauses_signed [] (c ∷ cs) ps z refer = absurd z
@@ -78,7 +78,7 @@ pub strictly_tells : (s : Table) (v : TermsView) → KeepsAtomsApart (RefersTo s
     (goal : List SignedTerm) (ps : List (List Term)) (qs : List (Term × Bool)) (ts : List Term)
     → AreListsOf (IsSignedOf s v) premises clauses → AllZip (TakeAway s v) pivots taken → AllZip (IsSignedOf s v) clause goal
     → ReferToClauses s v premises ps → AllZip (IsPivotOf s v) pivots qs → ReferToAll s v clause ts
-    → JoinAll taken (clauses_in clauses) goal ↔ ResolvesStrictly qs ps ts
+    → JoinAll taken (clauses_of clauses) goal ↔ ResolvesStrictly qs ps ts
 strictly_tells s v one premises pivots clause clauses taken goal ps qs ts zc zt zg rp rq rc =
-    all_carried (StandsForSigned s v) (signed_apart s v one) (clauses_in clauses) taken goal ps (map sides_of qs) ts
+    all_carried (StandsForSigned s v) (signed_apart s v one) (clauses_of clauses) taken goal ps (map sides_of qs) ts
     (clauses_signed s v premises clauses ps zc rp) (pivots_signed s v pivots taken qs zt rq) (clause_signed s v clause goal ts zg rc)

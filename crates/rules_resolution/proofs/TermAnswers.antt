@@ -19,7 +19,7 @@ use Rattle.rule_model.specs.Resolution.{as_clause, Resolves, ResolvesInCheck}
 use Rattle.rule_model.specs.RuleNames.{kind_of}
 use Rattle.rule_model.proofs.Renamings.{leads_renamed, contradicts_renamed, follows_renamed}
 use Rattle.rules_resolution.specs.declared.end.End.{End}
-use Rattle.rules_resolution.specs.Clause.{clauses_of}
+use Rattle.clause_chain.specs.Chaining.{clauses_of}
 use Rattle.rules_resolution.specs.Ends.{IsEnd, trail_from}
 use Rattle.rules_resolution.specs.Literal.{Lit}
 use Rattle.rules_resolution.specs.Shows.{Shows}

@@ -26,7 +26,7 @@ use Rattle.term_model.proofs.Zips.{zip_length}
 use Rattle.term_parts.specs.Judging.{ReferToClauses}
 use Rattle.rule_model.proofs.Resolution.{bare_is_bare, atom_is_plain}
 use Rattle.rules_resolution.specs.Literal.{Lit}
-use Rattle.rules_resolution.specs.Clause.{clauses_of}
+use Rattle.clause_chain.specs.Chaining.{clauses_of}
 use Rattle.rules_resolution.specs.TermLiterals.{IsLiteralOf, AreLiteralsOf, AreClausesOf, turned}
 
 turned_more : {A : Type 0} (b : Bool) (l : Literal A) → negation_of (turned b l) ≡ turned (not b) l

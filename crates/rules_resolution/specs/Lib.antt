@@ -1,5 +1,4 @@
 pub mod Literal
-pub mod Clause
 pub mod Falsity
 pub mod Renaming
 pub mod Naming

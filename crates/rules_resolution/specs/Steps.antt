@@ -1,5 +1,5 @@
 -- Public. What the calls ask of premises, and the steps for which references and pivots stand.
-use Rattle.std.specs.Prelude.{◌<◌, ◌^◌, ℕ, Bool, List, length, map, All}
+use Rattle.std.specs.Prelude.{◌<◌, ◌^◌, ℕ, Bool, List, length, All}
 use Rattle.std.specs.Borrow.{Bor}
 use Rattle.std.specs.List.{AllZip}
 use Rattle.sym_table.specs.Table.{Table}
@@ -25,7 +25,3 @@ pub record IsShort {V T : Type 0} (proof : ProofItems V T) : Type 0 where
 pub record StandsWithPivots (s : Table) (v : TermsView) (given : Step) (taken : List (ℕ × Bool)) (j : Judged) : Type 0 where
   pub step : StandsForStep s v given j
   pub pivots : AllZip (IsPivotOf s v) taken j.pivots
-
--- the clauses of the premises of the command at an index, in the order in which it names them
-abbrev pub premise_clauses : {V T : Type 0} → ProofItems V T → ℕ → List (List T)
-premise_clauses proof i = map (clause_at proof) (premises_at proof i)

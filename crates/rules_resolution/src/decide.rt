@@ -3,7 +3,7 @@ ghost use Rattle.std.specs.Prelude.{◌<◌, ◌^◌, ℕ, List, length, vec_len
 ghost use Rattle.rule_model.specs.Consequence.{Follows};
 ghost use Rattle.rule_model.specs.Literals.{Entails};
 ghost use Rattle.rule_model.specs.declared.literal.Literal.{Literal};
-ghost use Rattle.rules_resolution.specs.Clause.{clauses_of};
+ghost use Rattle.clause_chain.specs.Chaining.{clauses_of};
 ghost use Rattle.rules_resolution.specs.Ends.{IsEnd};
 ghost use Rattle.rules_resolution.specs.Shows.{Shows};
 

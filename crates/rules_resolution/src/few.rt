@@ -2,7 +2,7 @@
 ghost use Rattle.std.specs.Prelude.{◌≡◌, ◌<◌, ◌^◌, length, vec_len, All, IfOk, IfSome, IfNone, MatchBool};
 ghost use Rattle.std.specs.List.{list_any};
 ghost use Rattle.rule_model.specs.Consequence.{Contradicts};
-ghost use Rattle.rules_resolution.specs.Clause.{clauses_of};
+ghost use Rattle.clause_chain.specs.Chaining.{clauses_of};
 ghost use Rattle.rules_resolution.specs.Ends.{IsEnd};
 ghost use Rattle.rules_resolution.specs.Falsity.{same_literal, is_false_in};
 ghost use Rattle.rules_resolution.specs.Scans.{AreFalseBelow, HasNoOtherBelow, HasOther, IsLook, IsOpen, IsRound, is_other};

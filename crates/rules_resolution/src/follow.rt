@@ -1,7 +1,7 @@
 //! Unit propagation from the negated conclusion, by a table of all literals.
 ghost use Rattle.std.specs.Prelude.{◌≡◌, ◌+◌, ◌<◌, ◌≤◌, ◌^◌, [], ◌∷◌, ◌++◌, length, vec_len, All, IfOk, IfSome, IfNone, OnOk, MatchBool, false};
 ghost use Rattle.rule_model.specs.Consequence.{Contradicts, Follows, IsConflict};
-ghost use Rattle.rules_resolution.specs.Clause.{clauses_of};
+ghost use Rattle.clause_chain.specs.Chaining.{clauses_of};
 ghost use Rattle.rules_resolution.specs.Renaming.{all_literals};
 ghost use Rattle.rules_resolution.specs.Shows.{Shows};
 ghost use Rattle.rules_resolution.specs.Standing.{Advances, AreInRange, AreReady, IsTallied, open_at, total_of};

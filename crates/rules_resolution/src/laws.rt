@@ -6,6 +6,7 @@ ghost use Rattle.clause_chain.specs.declared.signed_term.SignedTerm.{SignedTerm}
 ghost use Rattle.rule_model.specs.Consequence.{Follows};
 ghost use Rattle.rule_model.specs.Literals.{Entails};
 ghost use Rattle.rule_model.specs.Proofs.{ProofItems};
+ghost use Rattle.rule_model.specs.Reading.{premise_clauses};
 ghost use Rattle.rule_model.specs.Renaming.{KeepsAtomsApart};
 ghost use Rattle.rule_model.specs.Resolution.{IsJoined};
 ghost use Rattle.rule_model.specs.declared.literal.Literal.{Literal};
@@ -13,7 +14,7 @@ ghost use Rattle.sym_table.specs.Table.{Table};
 ghost use Rattle.term_model.specs.Terms.{Term};
 ghost use Rattle.term_pool.specs.Views.{RefersTo, TermsView};
 ghost use Rattle.rules_resolution.specs.SignedTerms.{StandsForSigned};
-ghost use Rattle.rules_resolution.specs.Steps.{AreShort, IsShort, premise_clauses};
+ghost use Rattle.rules_resolution.specs.Steps.{AreShort, IsShort};
 
 /// Law: a clause that follows from clauses by unit propagation is true under all truth values of the atoms
 /// that make those clauses true.

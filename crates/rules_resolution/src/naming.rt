@@ -1,7 +1,7 @@
 //! A name for each atom: the number of the first literal that has it.
 ghost use Rattle.std.specs.Prelude.{◌≡◌, ◌+◌, ◌<◌, ◌≤◌, ◌++◌, length, IfOk, OnOk};
 ghost use Rattle.std.specs.List.Sorted.{IsNonDecreasingBy};
-ghost use Rattle.rules_resolution.specs.Clause.{clauses_of};
+ghost use Rattle.clause_chain.specs.Chaining.{clauses_of};
 ghost use Rattle.rules_resolution.specs.Naming.{AreKeys, HasNames, IsRun, key_at, key_rank, keys_from};
 ghost use Rattle.rules_resolution.specs.Renaming.{AreNames, all_literals};
 

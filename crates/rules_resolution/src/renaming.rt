@@ -1,6 +1,6 @@
 //! The same clauses with new names for their atoms.
 ghost use Rattle.std.specs.Prelude.{◌≡◌, ◌+◌, ◌<◌, ◌≤◌, ◌^◌, length, vec_len, All, IfOk};
-ghost use Rattle.rules_resolution.specs.Clause.{clauses_of};
+ghost use Rattle.clause_chain.specs.Chaining.{clauses_of};
 ghost use Rattle.rules_resolution.specs.Renaming.{all_literals, joined_clauses, renamed_atom, renamed_from, renamed_in};
 
 use crate::literal::Lit;

@@ -1,7 +1,7 @@
 //! How many literals of each premise are not false.
 ghost use Rattle.std.specs.Prelude.{◌≡◌, ◌+◌, ◌<◌, ◌≤◌, ◌^◌, ◌++◌, ◌∷◌, [], length, vec_len, slice_set, map, All, IfOk, OnOk};
 ghost use Rattle.std.specs.List.{list_any};
-ghost use Rattle.rules_resolution.specs.Clause.{clauses_of};
+ghost use Rattle.clause_chain.specs.Chaining.{clauses_of};
 ghost use Rattle.rules_resolution.specs.Standing.{is_always, blank_of, blank_standings, open_at, places_at, ready_with, AreInRange, IsTallied, AreReady};
 
 use crate::literal::Lit;

@@ -3,7 +3,7 @@ ghost use Rattle.std.specs.Prelude.{◌≡◌, ◌<◌, List, map, All, IfOk, If
 ghost use Rattle.proof_store.specs.Checks.{StandForSome};
 ghost use Rattle.proof_store.specs.Meaning.{StandForItems};
 ghost use Rattle.rule_model.specs.Proofs.{ProofItems};
-ghost use Rattle.rule_model.specs.Reading.{clause_at};
+ghost use Rattle.rule_model.specs.Reading.{clause_at, premise_clauses};
 ghost use Rattle.rule_model.specs.Resolution.{as_clause, ResolvesInCheck};
 ghost use Rattle.rule_model.specs.RuleNames.{kind_of};
 ghost use Rattle.rule_model.specs.Scopes.{commands_in};
@@ -13,7 +13,7 @@ ghost use Rattle.term_model.specs.Terms.{Var, Term};
 ghost use Rattle.term_parts.specs.Judging.{IsStepOf, KeepsTruthOfEach, ReferToClauses, TellsEach};
 ghost use Rattle.term_pool.specs.Views.{IsTerm, ReferToAll};
 ghost use Rattle.rules_resolution.specs.Shows.{Shows};
-ghost use Rattle.rules_resolution.specs.Steps.{AreShort, IsShort, StandsWithPivots, premise_clauses};
+ghost use Rattle.rules_resolution.specs.Steps.{AreShort, IsShort, StandsWithPivots};
 
 use crate::end::trail_of;
 use crate::laws::premises_are_short;

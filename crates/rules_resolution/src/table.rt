@@ -1,6 +1,6 @@
 //! The table of all occurrences, in order, in which no premise has a literal twice.
 ghost use Rattle.std.specs.Prelude.{◌≡◌, ◌+◌, ◌<◌, ◌^◌, ◌++◌, length, vec_len, All, IfOk, OnOk};
-ghost use Rattle.rules_resolution.specs.Clause.{clauses_of};
+ghost use Rattle.clause_chain.specs.Chaining.{clauses_of};
 ghost use Rattle.rules_resolution.specs.Table.{IsOccurrenceTable, all_occurrences, goal_occurrences, occurrence_at, occurrences_of};
 
 use crate::literal::Lit;

@@ -2,7 +2,7 @@
 ghost use Rattle.std.specs.Prelude.{◌≡◌, ◌⊎◌, ◌+◌, ◌<◌, ◌≤◌, ℕ, List, [], length, vec_len, IfOk, OnOk, true, false};
 ghost use Rattle.std.specs.List.{Any};
 ghost use Rattle.rule_model.specs.declared.literal.Literal.{Literal};
-ghost use Rattle.rules_resolution.specs.Clause.{clauses_of};
+ghost use Rattle.clause_chain.specs.Chaining.{clauses_of};
 ghost use Rattle.rules_resolution.specs.Falsity.{is_false_in};
 ghost use Rattle.rules_resolution.specs.Occurrence.{literal_in};
 ghost use Rattle.rules_resolution.specs.Standing.{Advances, AreInRange, AreReady, IsTallied};

@@ -21,7 +21,7 @@ use Rattle.term_pool.specs.Views.{TermsView, RefersTo}
 use Rattle.rule_model.specs.Constants.{constant_of}
 use Rattle.rule_model.specs.declared.letter.Letter.{Letter}
 use Rattle.rule_model.specs.Rewriting.{Guard, always, truths, one_number, two_numbers, below, at_most, AreConstantsBy, PassesGuard}
-use Rattle.rule_model.specs.Schemas.{Pattern, constant, unary, fill}
+use Rattle.rule_model.specs.Schemas.{Pattern, nullary, unary, fill}
 use Rattle.schema_match.specs.Letters.{slot, Agrees}
 use Rattle.schema_match.specs.declared.letters.Letters.{Letters}
 use Rattle.rules_simplify.specs.declared.asked.Asked.{Asked}
@@ -49,8 +49,8 @@ sides_alike t u w = go w.sort w.of.sorts w.of.arguments w.of.is
         record { sort = x; first = k.0; second = subst (IsOf u) (sym same) k.1.0 }
 
 bool_by_form : (f : Letter → Term) (p : Pattern) (s : Sort) → is_of_bool p ≡ true → IsOf (fill f p) s → s ≡ Sort.Bool
-bool_by_form f (constant Op.True) s e h = when-same _ _ s h.is
-bool_by_form f (constant Op.False) s e h = when-same _ _ s h.is
+bool_by_form f (nullary Op.True) s e h = when-same _ _ s h.is
+bool_by_form f (nullary Op.False) s e h = when-same _ _ s h.is
 bool_by_form f (unary Op.Not p) s e h = when-same _ _ s h.is
 bool_by_form f _ s e h = absurd cc
 

@@ -8,7 +8,7 @@ use Rattle.term_model.specs.Terms.{Term, operation, terms_of}
 use Rattle.term_pool.specs.Views.{TermsView, IsTerm, RefersTo, ReferToAll}
 use Rattle.rule_model.specs.declared.letter.Letter.{Letter}
 use Rattle.rule_model.specs.Rewriting.{RewriteRow, PassesGuard, Rewrites, FitsRow, IsFirstFit}
-use Rattle.rule_model.specs.Schemas.{Pattern, letter, constant, unary, binary, ternary, fill}
+use Rattle.rule_model.specs.Schemas.{Pattern, letter, nullary, unary, binary, ternary, fill}
 use Rattle.schema_match.specs.Letters.{slot, Agrees}
 use Rattle.schema_match.specs.Matching.{parts_of, Fits, Matches}
 use Rattle.schema_match.specs.Stack.{StackOf, IsStack}
@@ -137,7 +137,7 @@ opened_not table of row t is other (u, r) = go of.left is.0 r.from
   where
     go : (p : Pattern) → root_of p ≡ Some row.op → t ≡ fill r.terms p → ⊥
     go (letter l) root e = absurd cc
-    go (constant op) root e = absurd cc
+    go (nullary op) root e = absurd cc
     go (unary op p) root e = other (fill r.terms p) [] (e ∙ filled_is r.terms (unary op p) row.op root)
     go (binary op p q) root e = other (fill r.terms p) (fill r.terms q ∷ []) (e ∙ filled_is r.terms (binary op p q) row.op root)
     go (ternary op p q o) root e =

@@ -9,7 +9,7 @@ use Rattle.term_model.proofs.Basics.{and-left, and-right, not_both}
 use Rattle.term_model.proofs.Lists.{contains_none, contains_cases}
 use Rattle.rule_model.specs.declared.letter.Letter.{Letter}
 use Rattle.rule_model.specs.Rewriting.{RewriteRow, PassesGuard, Rewrites, FitsRow, IsFirstFit}
-use Rattle.rule_model.specs.Schemas.{Pattern, letter, constant, unary, binary, ternary, fill}
+use Rattle.rule_model.specs.Schemas.{Pattern, letter, nullary, unary, binary, ternary, fill}
 use Rattle.rule_model.specs.TermTests.{op_eq}
 use Rattle.rule_model.proofs.ArgumentLists.{same_arguments}
 use Rattle.std.specs.Bool.{⊤}
@@ -41,7 +41,7 @@ one_inside op t u e = cc
 module _ (f g : Letter → Term) where
   pub letter_told : (l : Letter) (p : Pattern) → has_letter l p ≡ true → fill f p ≡ fill g p → f l ≡ g l
   letter_told l (letter m) e same = subst (λ n. f n ≡ g n) (sym (same_letters l m e)) same
-  letter_told l (constant op) e same = absurd cc
+  letter_told l (nullary op) e same = absurd cc
   letter_told l (unary op p) e same = letter_told l p e cc
   letter_told l (binary op p q) e same =
       elim (or_cases (has_letter l p) (has_letter l q) e) [
@@ -59,7 +59,7 @@ module _ (f g : Letter → Term) where
 
   pub right_told : (p q : Pattern) → has_letters_of p q ≡ true → fill f p ≡ fill g p → fill f q ≡ fill g q
   right_told p (letter l) e same = letter_told l p e same
-  right_told p (constant op) e same = refl
+  right_told p (nullary op) e same = refl
   right_told p (unary op q) e same = let inner = right_told p q e same in cc
   right_told p (binary op q r) e same =
       let first = right_told p q (and-left (has_letters_of p q) (has_letters_of p r) e) same in
@@ -75,7 +75,7 @@ module _ (f g : Letter → Term) where
 -- a pattern that is an application to some arguments
 pub filled_is : (f : Letter → Term) (p : Pattern) (op : Op) → root_of p ≡ Some op → fill f p ≡ operation op (terms_of (map (fill f) (patterns_in p)))
 filled_is f (letter l) op e = absurd cc
-filled_is f (constant o) op e = absurd cc
+filled_is f (nullary o) op e = absurd cc
 filled_is f (unary o p) op e = let same : o ≡ op = cc in ap (λ x. operation x (term (fill f p) no_terms)) same
 filled_is f (binary o p q) op e = let same : o ≡ op = cc in ap (λ x. operation x (term (fill f p) (term (fill f q) no_terms))) same
 filled_is f (ternary o p q r) op e =
@@ -93,7 +93,7 @@ arguments_sorted op ts s h = go ts h.sorts h.arguments
 module _ (f : Letter → Term) where
   pub letter_sorted : (l : Letter) (p : Pattern) → IsWellSorted (fill f p) → has_letter l p ≡ true → IsWellSorted (f l)
   letter_sorted l (letter m) w e = subst (λ n. IsWellSorted (f n)) (sym (same_letters l m e)) w
-  letter_sorted l (constant op) w e = absurd cc
+  letter_sorted l (nullary op) w e = absurd cc
   letter_sorted l (unary op p) w e = letter_sorted l p (arguments_sorted op (fill f p ∷ []) w.sort w.of).0 e
   letter_sorted l (binary op p q) w e =
       let args = arguments_sorted op (fill f p ∷ fill f q ∷ []) w.sort w.of in
@@ -227,7 +227,7 @@ AreTold w (p ∷ ps) = IsTrue (has_letters_of w p) × AreTold w ps
 
 all_told : (w q : Pattern) → has_letters_of w q ≡ true → AreTold w (patterns_in q)
 all_told w (letter l) e = tt
-all_told w (constant op) e = tt
+all_told w (nullary op) e = tt
 all_told w (unary op p) e = (e, tt)
 all_told w (binary op p q) e = (and-left (has_letters_of w p) (has_letters_of w q) e, (and-right (has_letters_of w p) (has_letters_of w q) e, tt))
 all_told w (ternary op p q r) e =
@@ -276,24 +276,24 @@ one_op op o e = subst (λ x. op_eq op x ≡ true) e (op_itself op)
 module _ (f g : Letter → Term) where
   pub one_term : (p q : Pattern) → fill f p ≡ fill g q → may_be p q ≡ true
   one_term (letter l) q e = refl
-  one_term (constant op) (letter m) e = refl
-  one_term (constant op) (constant o) e = one_op op o cc
-  one_term (constant op) (unary o q) e = absurd cc
-  one_term (constant op) (binary o q r) e = absurd cc
-  one_term (constant op) (ternary o q r s) e = absurd cc
+  one_term (nullary op) (letter m) e = refl
+  one_term (nullary op) (nullary o) e = one_op op o cc
+  one_term (nullary op) (unary o q) e = absurd cc
+  one_term (nullary op) (binary o q r) e = absurd cc
+  one_term (nullary op) (ternary o q r s) e = absurd cc
   one_term (unary op p) (letter m) e = refl
-  one_term (unary op p) (constant o) e = absurd cc
+  one_term (unary op p) (nullary o) e = absurd cc
   one_term (unary op p) (unary o q) e = both_true (op_eq op o) (may_be p q) (one_op op o cc) (one_term p q cc)
   one_term (unary op p) (binary o q r) e = absurd cc
   one_term (unary op p) (ternary o q r s) e = absurd cc
   one_term (binary op p p2) (letter m) e = refl
-  one_term (binary op p p2) (constant o) e = absurd cc
+  one_term (binary op p p2) (nullary o) e = absurd cc
   one_term (binary op p p2) (unary o q) e = absurd cc
   one_term (binary op p p2) (binary o q q2) e =
       both_true (op_eq op o) (may_be p q && may_be p2 q2) (one_op op o cc) (both_true (may_be p q) (may_be p2 q2) (one_term p q cc) (one_term p2 q2 cc))
   one_term (binary op p p2) (ternary o q r s) e = absurd cc
   one_term (ternary op p p2 p3) (letter m) e = refl
-  one_term (ternary op p p2 p3) (constant o) e = absurd cc
+  one_term (ternary op p p2 p3) (nullary o) e = absurd cc
   one_term (ternary op p p2 p3) (unary o q) e = absurd cc
   one_term (ternary op p p2 p3) (binary o q r) e = absurd cc
   one_term (ternary op p p2 p3) (ternary o q q2 q3) e =

@@ -5,7 +5,7 @@ use Rattle.term_model.specs.declared.symbols.Op.{Op}
 use Rattle.rule_model.specs.declared.letter.Letter.{Letter}
 use Rattle.rule_model.specs.Patterns.{a, b, c, no, conj, implies, equal}
 use Rattle.rule_model.specs.Rewriting.{RewriteRow, Guard, always, truths, one_number, two_numbers, below, at_most}
-use Rattle.rule_model.specs.Schemas.{Pattern, letter, constant, unary, binary, ternary}
+use Rattle.rule_model.specs.Schemas.{Pattern, letter, nullary, unary, binary, ternary}
 use Rattle.rule_model.specs.Simplify.{not_simplify, implies_simplify, equiv_simplify, bool_simplify, ite_simplify, eq_simplify, comp_simplify}
 use Rattle.rule_model.specs.TermTests.{op_eq}
 use Rattle.schema_match.specs.Matching.{parts_of}
@@ -31,14 +31,14 @@ rows_of Simplification.Comparison = comp_simplify
 -- the operator of a pattern that is an application to some arguments, and these
 abbrev pub root_of : Pattern → Option Op
 root_of (letter l) = None
-root_of (constant op) = None
+root_of (nullary op) = None
 root_of (unary op p) = Some op
 root_of (binary op p q) = Some op
 root_of (ternary op p q r) = Some op
 
 abbrev pub patterns_in : Pattern → List Pattern
 patterns_in (letter l) = []
-patterns_in (constant op) = []
+patterns_in (nullary op) = []
 patterns_in (unary op p) = p ∷ []
 patterns_in (binary op p q) = p ∷ q ∷ []
 patterns_in (ternary op p q r) = p ∷ q ∷ r ∷ []
@@ -53,14 +53,14 @@ same_letter _ _ = false
 
 abbrev pub has_letter : Letter → Pattern → Bool
 has_letter l (letter m) = same_letter l m
-has_letter l (constant op) = false
+has_letter l (nullary op) = false
 has_letter l (unary op p) = has_letter l p
 has_letter l (binary op p q) = has_letter l p || has_letter l q
 has_letter l (ternary op p q r) = has_letter l p || (has_letter l q || has_letter l r)
 
 abbrev pub has_letters_of : Pattern → Pattern → Bool
 has_letters_of whole (letter l) = has_letter l whole
-has_letters_of whole (constant op) = true
+has_letters_of whole (nullary op) = true
 has_letters_of whole (unary op p) = has_letters_of whole p
 has_letters_of whole (binary op p q) = has_letters_of whole p && has_letters_of whole q
 has_letters_of whole (ternary op p q r) = has_letters_of whole p && (has_letters_of whole q && has_letters_of whole r)
@@ -68,8 +68,8 @@ has_letters_of whole (ternary op p q r) = has_letters_of whole p && (has_letters
 -- whether two patterns may become one term, each with terms of its own for the letters, as far as their operators tell
 abbrev pub may_be : Pattern → Pattern → Bool
 may_be (letter l) q = true
-may_be (constant op) (letter m) = true
-may_be (constant op) (constant o) = op_eq op o
+may_be (nullary op) (letter m) = true
+may_be (nullary op) (nullary o) = op_eq op o
 may_be (unary op p) (letter m) = true
 may_be (unary op p) (unary o p') = op_eq op o && may_be p p'
 may_be (binary op p q) (letter m) = true
@@ -94,8 +94,8 @@ SaysNext rows right Conjoins = (rows ≡ bool_simplify) × (right ≡ implies (c
 
 -- whether what a pattern becomes is of Bool by its form
 abbrev pub is_of_bool : Pattern → Bool
-is_of_bool (constant Op.True) = true
-is_of_bool (constant Op.False) = true
+is_of_bool (nullary Op.True) = true
+is_of_bool (nullary Op.False) = true
 is_of_bool (unary Op.Not p) = true
 is_of_bool p = false
 

@@ -1,7 +1,7 @@
 -- What a step discharges are assumes before it, whose clauses are one literal.
 use Rattle.std.proofs.Common.{◌≡◌, ◌<◌, ◌+◌, ℕ, List, [], ◌∷◌, ◌++◌, take, slice_get, Option, Some, None, Contains, refl, sym, ◌∙◌, ap, subst, arith}
 use Rattle.std.specs.List.{AllByRecursion}
-use Rattle.std.proofs.lemmas.List.{append_assoc}
+use Rattle.std.proofs.lemmas.List.{append_assoc, map-append}
 use Rattle.std.proofs.lemmas.List.Elements.{All-contains, All-from_recursion}
 use Rattle.std.proofs.lemmas.Option.{slice_get_within, slice_get-map}
 use Rattle.std.specs.Option.{option_map, option_map_or}
@@ -10,7 +10,7 @@ use Rattle.rule_model.specs.Proofs.{ProofItems, no_items, with_assume, with_step
 use Rattle.rule_model.specs.Scopes.{Nesting, outermost, inside, at, inner, commands_in, first_index}
 use Rattle.rule_model.specs.Commands.{IndexedCommand, assume, step, closing, Line, Entry, entry_of, lines_in, lines_around, lines_to}
 use Rattle.rule_model.specs.Reading.{clause_of, discharged_of, clause_at, discharged_at}
-use Rattle.rule_model.specs.Visibility.{assumes_in}
+use Rattle.rule_model.specs.Visibility.{Sight, sight, direct_assumes, assumes_in}
 use Rattle.rule_model.specs.WellFormed.{AreWellFormed}
 use Rattle.rule_model.specs.Writing.{MayAddHere}
 use Rattle.rule_model.proofs.LineReading.{clause_is, discharged_are}
@@ -40,8 +40,10 @@ module _ {V T : Type 0} where
       let lines = lines_around nesting ++ lines_in nesting items in
       let join = sym (append_assoc (lines_around nesting) (lines_in nesting items) (l ∷ [])) in
       let place : slice_get (lines ++ l ∷ []) (first_index nesting + commands_in items) ≡ Some l = subst (λ k. slice_get (lines ++ l ∷ []) k ≡ Some l) (lines_count (at nesting items)) (slice_get-last lines l) in
-      all_joined _ (assumes_in nesting items) _ (more lines (l ∷ []) _ (assumes_in nesting items) join (assume_lines nesting items))
-      (record { line = l; there = rw join place; id = id; term = t; is = refl }, tt)
+      subst (AllByRecursion (IsAssumeLine (lines_around nesting ++ (lines_in nesting items ++ l ∷ []))))
+      (sym (map-append (λ (c : Sight). c.index) (direct_assumes nesting items) (sight (first_index nesting + commands_in items) id ∷ [])))
+      (all_joined _ (assumes_in nesting items) _ (more lines (l ∷ []) _ (assumes_in nesting items) join (assume_lines nesting items))
+      (record { line = l; there = rw join place; id = id; term = t; is = refl }, tt))
   assume_lines nesting (with_step items s) =
       let l : Line V T = record { scope = at nesting items; command = step s } in
       more _ (l ∷ []) _ (assumes_in nesting items) (sym (append_assoc (lines_around nesting) (lines_in nesting items) (l ∷ []))) (assume_lines nesting items)

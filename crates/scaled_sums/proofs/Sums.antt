@@ -12,7 +12,7 @@ use Rattle.rule_model.specs.Arith.{IsWhole}
 use Rattle.rule_model.proofs.Ring as ring
 use Rattle.rule_model.proofs.Arith.{whole_sum}
 use Rattle.scaled_sums.specs.declared.coefficients.Coefficient.{Coefficient}
-use Rattle.scaled_sums.specs.Coefficients.{sum_at, sizes_of, AreApart, scale}
+use Rattle.scaled_sums.specs.Coefficients.{sum_at, sizes_of, AreOfDifferentTerms, scale}
 use Rattle.scaled_sums.proofs.Wholes.{whole_nothing}
 
 abbrev pub counted : Coefficient → ℕ → ℤ
@@ -70,7 +70,7 @@ absent (c ∷ cs) r h =
     omega (arith, ints, other_counts c r (h 0 c (omega arith)), absent cs r (λ j d l. h (suc j) d (omega (arith, l))))
 
 -- where no term stands twice, a term's coefficient is the one that stands with it
-pub alone : (cs : List Coefficient) (k : ℕ) (c : Coefficient) → AreApart cs → k < length cs → c ≡ get_or cs k c → sum_at cs c.term ≡ c.number
+pub alone : (cs : List Coefficient) (k : ℕ) (c : Coefficient) → AreOfDifferentTerms cs → k < length cs → c ≡ get_or cs k c → sum_at cs c.term ≡ c.number
 alone [] k c apart h e = absurd (omega (arith, h))
 alone (d ∷ cs) zero c apart h e =
     subst (λ (x : Coefficient). sum_at (d ∷ cs) x.term ≡ x.number) (sym e)

@@ -13,8 +13,8 @@ sizes_of [] = 0
 sizes_of (c ∷ cs) = unsigned_abs c.number + sizes_of cs
 
 -- no reference stands twice
-abbrev pub AreApart : List Coefficient → Type 0
-AreApart cs = AllPairs (λ (c d : Coefficient). c.term ≢ d.term) cs
+abbrev pub AreOfDifferentTerms : List Coefficient → Type 0
+AreOfDifferentTerms cs = AllPairs (λ (c d : Coefficient). c.term ≢ d.term) cs
 
 -- multiplied by a number
 abbrev pub scale : ℤ → Coefficient → Coefficient

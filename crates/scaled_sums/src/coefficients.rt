@@ -1,7 +1,7 @@
 //! Sums of coefficients.
 ghost use Rattle.std.specs.Prelude.{◌≡◌, ◌≤◌, ◌<◌, ◌+◌, ◌*◌, ◌++◌, ◌↔◌, ◌+ℤ◌, ◌*ℤ◌, pos, ℕ, map, unsigned_abs, IsTrue, OnOk};
 ghost use Rattle.rule_model.specs.Arith.{IsWhole, limit};
-ghost use Rattle.scaled_sums.specs.Coefficients.{sum_at, sizes_of, scale, AreApart};
+ghost use Rattle.scaled_sums.specs.Coefficients.{sum_at, sizes_of, scale, AreOfDifferentTerms};
 
 use pair_pool::{Memory, Ref};
 
@@ -64,7 +64,7 @@ fn comes_whole(c: Coefficient, factor: i128, multiple: u128) -> bool
 /// Whether the coefficients of a line are whole once they are multiplied.
 pub fn are_whole(line: &[Coefficient], factor: i128, multiple: u128) -> bool
     requires narrow { unsigned_abs factor * sizes_of line.now < limit }
-    requires apart { AreApart line.now }
+    requires apart { AreOfDifferentTerms line.now }
     requires multiple { 0 < multiple }
     ensures { IsTrue result ↔ ((r : ℕ) → IsWhole multiple (factor *ℤ sum_at line.now r)) }
 {

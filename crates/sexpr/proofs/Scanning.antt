@@ -108,3 +108,9 @@ string_open xs at past = rw (drop_all at xs past) refl
 -- no byte of a word is white space or begins a comment
 pub blanks_stop_at_word : (xs : List ℕ) (at : ℕ) → at < length xs → is_word_byte (get_or xs at 0) ≡ true → blanks_end false at (drop at xs) ≡ at
 blanks_stop_at_word xs at within word = blanks_stop xs at within (word_is_no_white _ word) (word_is_no_semicolon _ word)
+
+pub ruleset comment_ends = (comment_goes, comment_stops_at_feed, comment_stops_at_return, blanks_end_at_end)
+
+pub ruleset token_starts = (white_goes, comment_begins, blanks_stop, blanks_stop_at_word, blanks_end_at_end)
+
+pub ruleset string_ends = (string_goes, string_doubles, string_stops, string_stops_at_end, string_open)

@@ -8,7 +8,7 @@ use crate::bytes::{is_white, is_word_byte};
 
 /// The place after a comment of which the byte at `at` is the first after the semicolon: at the byte that ends
 /// its line, or at the end of the text.
-#[tactic(auto, using(crate::proofs::Scanning::comment_goes, crate::proofs::Scanning::comment_stops_at_feed, crate::proofs::Scanning::comment_stops_at_return, crate::proofs::Scanning::blanks_end_at_end))]
+#[tactic(auto, using(crate::proofs::Scanning::comment_ends))]
 pub(crate) fn comment_end(bytes: &[u8], at: usize) -> usize
     requires { at ≤ length bytes.now }
     ensures after { at ≤ result }
@@ -24,7 +24,7 @@ pub(crate) fn comment_end(bytes: &[u8], at: usize) -> usize
 
 /// The place of the first byte of the token that comes next from `at` on, behind white space and comments. None where no token
 /// is left. A byte of a word is asked for first, since most tokens are words.
-#[tactic(auto, using(crate::proofs::Scanning::white_goes, crate::proofs::Scanning::comment_begins, crate::proofs::Scanning::blanks_stop, crate::proofs::Scanning::blanks_stop_at_word, crate::proofs::Scanning::blanks_end_at_end))]
+#[tactic(auto, using(crate::proofs::Scanning::token_starts))]
 #[inline(always)]
 pub(crate) fn token_start(bytes: &[u8], at: usize) -> Option<usize>
     requires { at ≤ length bytes.now }
@@ -49,7 +49,7 @@ pub(crate) fn token_start(bytes: &[u8], at: usize) -> Option<usize>
 }
 
 /// The place after the quote that ends a string, where `at` is the place after its opening quote.
-#[tactic(auto, using(crate::proofs::Scanning::string_goes, crate::proofs::Scanning::string_doubles, crate::proofs::Scanning::string_stops, crate::proofs::Scanning::string_stops_at_end, crate::proofs::Scanning::string_open))]
+#[tactic(auto, using(crate::proofs::Scanning::string_ends))]
 pub(crate) fn string_end(bytes: &[u8], at: usize) -> Option<usize>
     requires { at ≤ length bytes.now }
     ensures value { result ≡ spec.string_end at (drop at bytes.now) }

@@ -15,7 +15,7 @@ use Rattle.term_pool.proofs.Keeping.{terms-refl}
 use Rattle.smtlib_reader.specs.Defining.{AddsParameter, AreListed, IsReadyForBody}
 use Rattle.term_model.specs.Heights.{height}
 use Rattle.term_names.specs.InScope.{IsScope, AreValuesBound}
-use Rattle.problem_text.specs.Names.{Bound, Place, itself, inside}
+use Rattle.problem_text.specs.Names.{Bound, Place, itself, place_inside}
 use Rattle.smtlib_reader.specs.Parameters.{parameter_said, parameters_said}
 use Rattle.term_reader.specs.Reading.{IsReaderIdle}
 use Rattle.term_names.specs.Entries.{EntriesView}
@@ -91,7 +91,7 @@ inside_themselves (x ∷ xs) = ap (λ bs. itself x ∷ bs) (inside_themselves xs
 -- the parameters are in scope, and listed
 pub is_entered : (s z : Table) (v : TermsView) (r : ReadingView) (l : Listed) (e : EntriesView) (scope : List Scoped) (values none : List Value) (xs : List Var) (sc : Script)
     → AddsNoSymbols s z → IsReaderIdle (both s v) r sc (top r.replaces_lets) → AreValuesBound (both z v) l.leaves.items values (map itself xs) → l.sorts.items ≡ map (λ (c : Value). c.sort) values
-    → ((p : Place) → IsScope (both z v) r.names.scope p.scope → p.settings.replaces_lets ≡ false → IsScope (both z v) scope (inside (map itself xs) p).scope) → e ≡ r.names.known.own → none ≡ []
+    → ((p : Place) → IsScope (both z v) r.names.scope p.scope → p.settings.replaces_lets ≡ false → IsScope (both z v) scope (place_inside (map itself xs) p).scope) → e ≡ r.names.known.own → none ≡ []
     → AreListed z l xs × IsReadyForBody (both z v) (record r { names = record { known = record r.names.known { own = e }; scope = scope }; values = none }) xs sc
 is_entered s z v r l e scope values none xs sc adds idle bound sorts put same no_values = (
   record { leaves = leaves_bound z l.leaves.items xs bound.leaves; sorts = sorts ∙ sorts_bound (both z v) values xs bound.values },

@@ -1,8 +1,8 @@
 -- Public. What contracts see of a claimer and of a seat at it: the numbers below a count, which its seats draw.
-use Rattle.std.specs.Prelude.{◌≡◌, ℕ, ◌≤◌, Bool, if◌then◌else◌, nat_eq, nat_lt, List, Contains, sum_by}
+use Rattle.std.specs.Prelude.{◌≡◌, ℕ, ◌≤◌, Bool, if◌then◌else◌, nat_lt, List, Contains}
 use Rattle.atomic_table.specs.Seated.{TableId}
 use Rattle.step_claimer.specs.declared.drawer.Drawer.{Drawer}
-use Rattle.step_claimer.specs.Drawers.{IsGiven}
+use Rattle.step_claimer.specs.Drawers.{times, IsGiven}
 
 -- the numbers below the count are drawn from a word of this table
 pub record ClaimerView : Type 0 where
@@ -33,10 +33,6 @@ drawer_of seat = record {
   ended = seat.ended;
   numbers = seat.numbers;
 }
-
--- how often x is among the numbers
-abbrev pub times : ℕ → List ℕ → ℕ
-times x numbers = sum_by (λ y. if nat_eq y x then 1 else 0) numbers
 
 -- the numbers are those below n, each once
 abbrev pub HasEachOnce : ℕ → List ℕ → Type 0

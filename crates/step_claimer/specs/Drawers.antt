@@ -8,17 +8,20 @@ use Rattle.step_claimer.specs.declared.drawer.Drawer.{Drawer}
 abbrev pub drawn_once : ℕ → ℕ → ℕ → ℕ
 drawn_once x n next = if nat_lt x n then (if nat_lt x next then 1 else 0) else 0
 
--- how often a seat drew x
+-- how often x is among the numbers, and how often a seat drew it
+abbrev pub times : ℕ → List ℕ → ℕ
+times x numbers = sum_by (λ y. if nat_eq y x then 1 else 0) numbers
+
 abbrev pub times_in : ℕ → Drawer → ℕ
-times_in x v = sum_by (λ y. if nat_eq y x then 1 else 0) v.numbers
+times_in x v = times x v.numbers
 
 -- the shares of a seat that may still draw
 abbrev pub open_shares : Drawer → ℕ
 open_shares v = if v.ended then 0 else v.shares
 
 -- The numbers below n and below the next one were drawn, each once, by these seats. Each seat that draws too late ends, so
--- the next number stays near n. What a seat drew lies below its `past`, and that not beyond the next number. A seat that has
--- ended has seen the numbers run out, and one without shares is spent.
+-- the next number stays near n. What a seat draws next is no number below its `past`: that is not beyond the next number. A seat
+-- that has ended has seen the numbers run out, and one without shares is spent.
 pub record IsGiven (n next : ℕ) (seats : List Drawer) : Type 0 where
   pub counts : All (λ (v : Drawer). v.count ≡ n) seats
   pub total : sum_by (λ (v : Drawer). v.shares) seats ≡ 65

@@ -166,13 +166,15 @@ impl Claimer {
         }
     }
 
-    /// All that the other seat drew, and its shares, go to `seat`, which has ended where either had. Two steps.
+    /// All that the other seat drew, and its shares, go to `seat`, which has ended where either had. What it draws next is still
+    /// no number below its own `past`, though the other may have drawn numbers beyond. Two steps.
     #[tactic(auto, unfolding(crate::specs::Claims::IsSeatOf))]
     pub fn join(&self, seat: &mut ClaimSeat, other: ClaimSeat)
         requires of_claimer { IsSeatOf self.now seat.old × IsSeatOf self.now other }
         ensures of_claimer { IsSeatOf self.now seat.new }
         ensures shares { seat.new.shares ≡ seat.old.shares + other.shares }
         ensures numbers { seat.new.numbers ≡ seat.old.numbers ++ other.numbers }
+        ensures past { seat.new.past ≡ seat.old.past }
         ensures ended { seat.new.ended ≡ (if seat.old.ended then true else other.ended) }
         ensures steps { seat.new.steps ≡ seat.old.steps + other.steps + 2 }
     {

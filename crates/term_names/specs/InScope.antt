@@ -11,12 +11,12 @@ use Rattle.term_expansion.specs.declared.values.Value.{Value}
 use Rattle.term_expansion.specs.SymbolsAndTerms.{SymbolsAndTerms}
 
 -- a variable in scope, by its name and leaf, and what it stands for
-abbrev pub IsScoped : SymbolsAndTerms → Scoped → Bound → Type 0
-IsScoped w e b = (e.name ≡ b.variable.name) × PutsIn w e.bound b.variable b.stands_for
+abbrev pub IsInScope : SymbolsAndTerms → Scoped → Bound → Type 0
+IsInScope w e b = (e.name ≡ b.variable.name) × PutsIn w e.bound b.variable b.stands_for
 
 -- the variables in scope, the innermost first, by their names and leaves, and what they stand for
 abbrev pub IsScope : SymbolsAndTerms → List Scoped → List Bound → Type 0
-IsScope w es bs = AllZip (IsScoped w) es bs
+IsScope w es bs = AllZip (IsInScope w) es bs
 
 -- leaves and values in the same order: the variables of a let and what they are bound to
 pub record AreValuesBound (w : SymbolsAndTerms) (ks : List ℕ) (cs : List Value) (bs : List Bound) : Type 0 where
@@ -24,5 +24,5 @@ pub record AreValuesBound (w : SymbolsAndTerms) (ks : List ℕ) (cs : List Value
   pub values : AllZip (λ c b. IsValue w c (record { tree = b.stands_for; sort = b.variable.sort })) cs bs
 
 -- none of the values is too high
-abbrev pub AreLow : List Value → Type 0
-AreLow values = AllByRecursion (λ c. c.height ≤ most_height) values
+abbrev pub AreValuesLow : List Value → Type 0
+AreValuesLow values = AllByRecursion (λ c. c.height ≤ most_height) values

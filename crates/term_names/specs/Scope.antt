@@ -30,11 +30,11 @@ pub record OwnNames : Type 0 where
   pub scope : List Scoped
 
 -- with the entries that it starts from
-abbrev pub names_in : ReadSettings → OwnNames → NamesView
-names_in e n = record { known = record { base = base_of e.base; own = n.own }; scope = n.scope }
+abbrev pub all_names : ReadSettings → OwnNames → NamesView
+all_names e n = record { known = record { base = base_of e.base; own = n.own }; scope = n.scope }
 
 abbrev pub known_in : ReadSettings → OwnNames → KnownView
-known_in e n = (names_in e n).known
+known_in e n = (all_names e n).known
 
 -- what a name means by what a reader has itself
 abbrev pub own_meant_of : OwnNames → List ℕ → Option Meant

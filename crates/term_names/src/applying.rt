@@ -4,7 +4,7 @@ ghost use Rattle.term_model.specs.Sorts.{sorts_eq};
 ghost use Rattle.term_pool.specs.Views.{KeepsTerms};
 ghost use Rattle.term_names.specs.Applying.{bounds_of};
 ghost use Rattle.term_names.specs.Heads.{HeadMeans, IsSymbolOf};
-ghost use Rattle.term_names.specs.InScope.{AreLow};
+ghost use Rattle.term_names.specs.InScope.{AreValuesLow};
 ghost use Rattle.term_names.specs.Making.{Makes};
 ghost use Rattle.term_names.specs.Scope.{known_in};
 ghost use Rattle.problem_text.specs.Names.{Meaning, macro, meaning_applied};
@@ -39,7 +39,7 @@ pub fn apply(
     from: usize,
 ) -> Result<Option<Value>, ReadFault>
     requires some { from < length values.now }
-    requires low { AreLow values.now }
+    requires low { AreValuesLow values.now }
     requires head { (m : Meaning) × (ts : List Typed) ×
         HeadMeans (both tables.now.symbols.now terms.old) (known_in tables.now.settings.now tables.now.names.now) head m ×
         AreValues (both tables.now.symbols.now terms.old) (drop from values.now) ts }
@@ -73,7 +73,7 @@ fn apply_symbol(
     from: usize,
 ) -> Result<Option<Value>, ReadFault>
     requires some { from < length values.now }
-    requires low { AreLow values.now }
+    requires low { AreValuesLow values.now }
     requires symbol { (m : Meaning) × (ts : List Typed) × IsSymbolOf symbols.now leaf m × AreValues (both symbols.now terms.old) (drop from values.now) ts }
     ensures makes { (m : Meaning) (ts : List Typed) → IsSymbolOf symbols.now leaf m → AreValues (both symbols.now terms.old) (drop from values.now) ts →
         Makes terms.old (both symbols.now terms.new) (meaning_applied m ts) result }

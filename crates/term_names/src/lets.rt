@@ -5,9 +5,9 @@ ghost use Rattle.term_model.specs.Terms.{Var, variable};
 ghost use Rattle.term_pool.specs.StandsFor.{variable_leaf};
 ghost use Rattle.term_pool.specs.Views.{TermsView, KeepsTerms};
 ghost use Rattle.problem_text.specs.Limits.{most_height};
-ghost use Rattle.term_names.specs.InScope.{IsScope, AreLow, AreValuesBound};
+ghost use Rattle.term_names.specs.InScope.{IsScope, AreValuesLow, AreValuesBound};
 ghost use Rattle.term_names.specs.Making.{Makes};
-ghost use Rattle.problem_text.specs.Names.{Bound, Place, itself, inside, let_term};
+ghost use Rattle.problem_text.specs.Names.{Bound, Place, itself, place_inside, let_term};
 ghost use Rattle.term_names.specs.Scope.{Scoped};
 ghost use Rattle.problem_text.specs.TypedTerms.{Typed};
 ghost use Rattle.term_expansion.specs.Values.{IsValue};
@@ -44,7 +44,7 @@ pub fn bind(
     ensures bound { (v : TermsView) (bs : List Bound) (p : Place) →
         AreValuesBound (both symbols.now v) variables.now.leaves.now (drop variables.now.from variables.now.values.now) bs →
         IsScope (both symbols.now v) names.old.scope p.scope → p.settings.replaces_lets ≡ replaces_lets →
-        OnOk result (IsScope (both symbols.now v) names.new.scope (inside bs p).scope) }
+        OnOk result (IsScope (both symbols.now v) names.new.scope (place_inside bs p).scope) }
     ensures inner { OnOk result ((inner : List Scoped) × (names.new.scope ≡ inner ++ names.old.scope) × (length inner ≡ length variables.now.leaves.now)) }
     ensures own { names.new.own ≡ names.old.own }
 {
@@ -134,7 +134,7 @@ pub fn close(
 ) -> Result<Option<Value>, ReadFault>
     requires some { 0 < length variables.now.leaves.now }
     requires within { variables.now.from ≤ length variables.now.values.now }
-    requires low { AreLow variables.now.values.now }
+    requires low { AreValuesLow variables.now.values.now }
     requires body_low { body.height ≤ most_height }
     requires bound { (bs : List Bound) × (t : Typed) × AreValuesBound (both symbols.now terms.old) variables.now.leaves.now
         (drop variables.now.from variables.now.values.now) bs × IsValue (both symbols.now terms.old) body t }

@@ -6,7 +6,7 @@ ghost use Rattle.term_names.specs.Entries.{no_entries, Puts};
 ghost use Rattle.term_names.specs.Held.{IsHeldLinked, scoped};
 ghost use Rattle.term_names.specs.Known as spec;
 ghost use Rattle.term_names.specs.Known.{known_entry, IsKnownThere, macro_of, named_of};
-ghost use Rattle.term_names.specs.Scope.{Scoped, bound_of, known_in, names_in, meant_of, own_meant_of, IsMeantThere};
+ghost use Rattle.term_names.specs.Scope.{Scoped, bound_of, known_in, all_names, meant_of, own_meant_of, IsMeantThere};
 ghost use Rattle.term_names.specs.declared.entries.Entry.TheVariants as Entry;
 ghost use Rattle.term_names.specs.declared.settings.ReadSettings.{ReadSettings};
 
@@ -123,8 +123,8 @@ impl Names {
     // A part of its callers, which ask it for each symbol of a text.
     #[inline(always)]
     pub fn find(&self, settings: &ReadSettings<'_>, name: &[u8]) -> Option<Meant>
-        ensures meant { result ≡ meant_of (names_in settings.now self.now) name.now }
-        ensures there { IfSome result (IsMeantThere (names_in settings.now self.now)) }
+        ensures meant { result ≡ meant_of (all_names settings.now self.now) name.now }
+        ensures there { IfSome result (IsMeantThere (all_names settings.now self.now)) }
     {
         if let Some(meant) = self.own_meant(name) {
             return Some(meant);
@@ -137,7 +137,7 @@ impl Names {
     #[inline(always)]
     fn own_meant(&self, name: &[u8]) -> Option<Meant>
         ensures meant { result ≡ own_meant_of self.now name.now }
-        ensures there { (e : ReadSettings) → IfSome result (IsMeantThere (names_in e self.now)) }
+        ensures there { (e : ReadSettings) → IfSome result (IsMeantThere (all_names e self.now)) }
     {
         let number = self.own.table.find(name)?;
         if let Some(bound) = held_at(&self.own.table, &self.held, number) {

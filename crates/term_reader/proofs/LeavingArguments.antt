@@ -11,7 +11,7 @@ use Rattle.term_reader.specs.Frames.{WholeReading}
 use Rattle.term_reader.specs.Layers.{form_at, forms_at}
 use Rattle.term_reader.specs.Leaving.{with_open, Spends, Leaves}
 use Rattle.term_reader.specs.OpenApplications.{wants_more}
-use Rattle.term_names.specs.InScope.{AreLow}
+use Rattle.term_names.specs.InScope.{AreValuesLow}
 use Rattle.term_names.specs.Making.{Makes}
 use Rattle.problem_text.specs.Names.{Meaning, meaning_applied}
 use Rattle.term_reader.specs.Turns.{HasRead, IsAt, Goes}
@@ -46,7 +46,7 @@ module _ (items : ItemsView) (g : WholeReading) (s : Table) (v : TermsView) (r :
   take_pushed : take opened.from (pushed r c) ≡ take opened.from r.values
   take_pushed = let (m, read, rest, is, here, outer) = h.frames in take-append-le opened.from r.values (c ∷ []) here.within
 
-  low_pushed : AreLow (pushed r c)
+  low_pushed : AreValuesLow (pushed r c)
   low_pushed = all_at_end _ r.values c h.stands.low h.low
 
   -- what is applied to the arguments

@@ -12,11 +12,11 @@ use Rattle.term_pool.proofs.Keeping.{terms-refl}
 use Rattle.text_items.specs.ItemShapes.{Name}
 use Rattle.problem_text.specs.Forms.{Form, LetBinds, no_binds}
 use Rattle.term_reader.specs.Frames.{WholeReading, AreFrames}
-use Rattle.term_names.specs.InScope.{IsScope, AreLow, AreValuesBound}
+use Rattle.term_names.specs.InScope.{IsScope, AreValuesLow, AreValuesBound}
 use Rattle.text_items.specs.Stepping.{name_in, IsSymbolAt}
 use Rattle.term_reader.specs.Layers.{form_at}
 use Rattle.term_reader.specs.Leaving.{with_open, Leaves}
-use Rattle.problem_text.specs.Names.{Bound, Place, inside}
+use Rattle.problem_text.specs.Names.{Bound, Place, place_inside}
 use Rattle.term_reader.specs.Turns.{HasRead, IsAt}
 use Rattle.term_reader.specs.Resuming.{Waiting, bindings, body_of, bound_to, resumed}
 use Rattle.term_names.specs.Known.{KnownView}
@@ -65,7 +65,7 @@ module _ (items : ItemsView) (g : WholeReading) (s : Table) (v : TermsView) (r :
   abbrev pub Binds : Table → List ℕ → List Value → List Scoped → Type 0
   Binds t ks values scope =
       (w : TermsView) (bs : List Bound) (p : Place) → AreValuesBound (both t w) ks (drop opened.from values) bs → IsScope (both t w) r.names.scope p.scope
-      → p.settings.replaces_lets ≡ r.replaces_lets → IsScope (both t w) scope (inside bs p).scope
+      → p.settings.replaces_lets ≡ r.replaces_lets → IsScope (both t w) scope (place_inside bs p).scope
 
   -- what waits where these are the bindings that are left
   waits : (bs : LetBinds) → h.frames.2 ≡ bs
@@ -89,7 +89,7 @@ module _ (items : ItemsView) (g : WholeReading) (s : Table) (v : TermsView) (r :
       omega (arith, e, length-append r.leaves.items (k ∷ []))
 
   module _ (t : Table) (leaves : List ℕ) (values : List Value) (added : IsAdded t leaves values) where
-    low_now : AreLow values
+    low_now : AreValuesLow values
     low_now = rw added.values_are (all_at_end _ r.values c h.stands.low h.low)
 
     bound_now : AreValuesBound (both t v) (drop opened.leaves leaves) (drop opened.from values) all_read
@@ -141,7 +141,7 @@ module _ (items : ItemsView) (g : WholeReading) (s : Table) (v : TermsView) (r :
         let counted : length inner ≡ length leaves - opened.leaves = each ∙ ap length are ∙ length-drop opened.leaves leaves in
         record {
           script = h.script;
-          place = inside all_read h.place;
+          place = place_inside all_read h.place;
           waiting = body_of opened.place all_read h.place ∷ rest;
           stands = record {
             script = rw known (script_stays s t v v added.adds (terms-refl v) r.names.known h.script h.stands.script);

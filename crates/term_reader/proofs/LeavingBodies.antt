@@ -8,7 +8,7 @@ use Rattle.term_reader.specs.Frames.{WholeReading}
 use Rattle.term_names.specs.InScope.{AreValuesBound}
 use Rattle.term_reader.specs.Leaving.{with_open, Leaves}
 use Rattle.term_names.specs.Making.{Makes}
-use Rattle.problem_text.specs.Names.{Bound, Place, inside, let_term}
+use Rattle.problem_text.specs.Names.{Bound, Place, place_inside, let_term}
 use Rattle.term_reader.specs.Turns.{HasRead}
 use Rattle.term_reader.specs.Resuming.{Waiting, resumed}
 use Rattle.term_names.specs.Scope.{Scoped}
@@ -55,7 +55,7 @@ module _ (items : ItemsView) (g : WholeReading) (s : Table) (v : TermsView) (r :
       × ((p : Place) (bs : List Bound) (t : Typed) → AreValuesBound (both s v) ks (drop opened.from r.values) bs → IsValue (both s v) c t
       → p.settings.replaces_lets ≡ r.replaces_lets → Makes v (both s w) (Some (let_term p bs t)) made)
 
-  outer_settings : (outer : Place) (bound : List Bound) → h.place ≡ inside bound outer → outer.settings ≡ limited r.replaces_lets
+  outer_settings : (outer : Place) (bound : List Bound) → h.place ≡ place_inside bound outer → outer.settings ≡ limited r.replaces_lets
   outer_settings outer bound same = sym (ap (λ (p : Place). p.settings) same) ∙ h.stands.settings
 
   body_whole : (w : TermsView) (made : Result (Option Value) ReadFault) → Closed w made → IsWhole g s v w opened.place made

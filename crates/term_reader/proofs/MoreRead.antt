@@ -6,7 +6,7 @@ use Rattle.indexmap.proofs.SetLemmas.{AllZip-push}
 use Rattle.sym_table.specs.Table.{Table}
 use Rattle.term_model.specs.Terms.{Term}
 use Rattle.term_pool.specs.Views.{TermsView}
-use Rattle.term_names.specs.InScope.{AreLow}
+use Rattle.term_names.specs.InScope.{AreValuesLow}
 use Rattle.term_names.specs.Known.{KnownView, known_entry}
 use Rattle.problem_text.specs.Scripts.{Script}
 use Rattle.term_names.specs.Standing.{IsFunctionAt, IsNoFunction, HasNoEntry, IsNameMeant, IsScript}
@@ -15,10 +15,10 @@ use Rattle.term_expansion.specs.declared.values.Value.{Value}
 use Rattle.term_expansion.specs.SymbolsAndTerms.{both}
 
 -- stacks
-pub low_below : (n : ℕ) (values : List Value) → AreLow values → AreLow (take n values)
+pub low_below : (n : ℕ) (values : List Value) → AreValuesLow values → AreValuesLow (take n values)
 low_below n [] h = go n
   where
-    go : (k : ℕ) → AreLow (take k [])
+    go : (k : ℕ) → AreValuesLow (take k [])
     go zero = tt
     go (suc k) = tt
 low_below zero (c ∷ values) h = tt

@@ -8,7 +8,7 @@ use Rattle.problem_text.specs.Forms.{Form, symbol, application, let_form, annota
 use Rattle.problem_text.specs.TypedTerms.{Typed}
 use Rattle.problem_text.specs.Outcomes.{Outcome, done, refuse, going_on, and_then}
 use Rattle.problem_text.specs.Scripts.{Script, with_let_name}
-use Rattle.problem_text.specs.Names.{Bound, Place, Meaning, meaning_of, meaning_applied, inside, let_term}
+use Rattle.problem_text.specs.Names.{Bound, Place, Meaning, meaning_of, meaning_applied, place_inside, let_term}
 use Rattle.problem_text.specs.Terms.{settled, with_names, with_meaning, term_from, terms_from, bounds_from}
 use Rattle.term_reader.specs.Resuming.{Waiting, arguments, bindings, body_of, naming, bound_to, body_from, after, resumed}
 
@@ -161,7 +161,7 @@ next_binding_refused ws place read m earlier n f bs body p t s taken =
 -- the last binding is read, so the body comes
 pub last_binding_read : (ws : List Waiting) (place : ℕ) (read : List Bound) (m : Name) (earlier : List (List ℕ)) (body : Form) (p : Place) (t : Typed) (s : Script)
     → resumed (bindings place read m earlier no_binds body p ∷ ws) (done t s)
-    ≡ resumed (body_of place (read ++ bound_to m t ∷ []) p ∷ ws) (term_from body (inside (read ++ bound_to m t ∷ []) p) s)
+    ≡ resumed (body_of place (read ++ bound_to m t ∷ []) p ∷ ws) (term_from body (place_inside (read ++ bound_to m t ∷ []) p) s)
 unfolding bounds_from
 last_binding_read ws place read m earlier body p t s = refl
 

@@ -14,7 +14,7 @@ use Rattle.problem_text.specs.Forms.{LetBinds}
 use Rattle.term_names.specs.Heads.{IsSymbolOf, IsMacroMeant, HeadMeans}
 use Rattle.term_reader.specs.Frames.{HasArgumentsSoFar, HasBindings, HasBody, WholeReading, AreFrames}
 use Rattle.term_expansion.specs.Free.{AreFreeLeaves}
-use Rattle.term_names.specs.InScope.{IsScoped, IsScope, AreValuesBound}
+use Rattle.term_names.specs.InScope.{IsInScope, IsScope, AreValuesBound}
 use Rattle.term_names.specs.Known.{KnownView, known_entry, macro_of}
 use Rattle.problem_text.specs.Names.{Bound, Place, Meaning}
 use Rattle.term_reader.specs.Turns.{ReaderStands}
@@ -138,7 +138,7 @@ module _ (s z : Table) (v w : TermsView) (keeps : Keeps s z) (terms : KeepsTerms
   puts_in_stays b x t h = record { leaf = keeps.leaves b.variable (variable_leaf x) h.leaf; value = value_stays b.value _ h.value }
 
   pub scope_stays : (es : List Scoped) (bs : List Bound) → IsScope (both s v) es bs → IsScope (both z w) es bs
-  scope_stays = zip_weaken (IsScoped (both s v)) (IsScoped (both z w)) (λ e b h. (h.0, puts_in_stays e.bound b.variable b.stands_for h.1))
+  scope_stays = zip_weaken (IsInScope (both s v)) (IsInScope (both z w)) (λ e b h. (h.0, puts_in_stays e.bound b.variable b.stands_for h.1))
 
   pub bound_stays : (ks : List ℕ) (cs : List Value) (bs : List Bound) → AreValuesBound (both s v) ks cs bs → AreValuesBound (both z w) ks cs bs
   bound_stays ks cs bs h = record {

@@ -8,7 +8,7 @@ use Rattle.problem_text.specs.Limits.{is_low}
 use Rattle.problem_text.specs.TypedTerms.{Typed}
 use Rattle.problem_text.specs.Outcomes.{Outcome, done, refuse, and_then}
 use Rattle.problem_text.specs.Scripts.{Script, with_term}
-use Rattle.problem_text.specs.Names.{meaning_applied, inside, let_term}
+use Rattle.problem_text.specs.Names.{meaning_applied, place_inside, let_term}
 use Rattle.problem_text.specs.Terms.{settled, term_from, terms_from, bounds_from}
 use Rattle.term_reader.specs.Resuming.{Waiting, arguments, bindings, body_of, naming, bound_to, after, resumed}
 use Rattle.problem_text.proofs.Growing.{HasRead, Reads, reads_then, by_settled, by_names, by_term, by_terms, by_bounds}
@@ -20,7 +20,7 @@ module _ (x : Term) where
       (λ ts last k. by_settled x p.settings.limit place (meaning_applied m (read ++ t ∷ ts)) last k)
   by_waiting (bindings place read n earlier left body p) t s h =
       reads_then x (bounds_from left (n.name ∷ earlier) p s) _ (by_bounds x left (n.name ∷ earlier) p s h).0
-      (λ bound last k. reads_then x (term_from body (inside (read ++ bound_to n t ∷ bound) p) last) _ (by_term x body _ last k).0
+      (λ bound last k. reads_then x (term_from body (place_inside (read ++ bound_to n t ∷ bound) p) last) _ (by_term x body _ last k).0
       (λ u end l. by_settled x p.settings.limit place (Some (let_term p (read ++ bound_to n t ∷ bound) u)) end l))
   by_waiting (body_of place bound p) t s h = by_settled x p.settings.limit place (Some (let_term p bound t)) s h
   by_waiting (naming names) t s h = by_names x t names s h

@@ -5,7 +5,7 @@ use Rattle.term_names.specs.InScope.{IsScope, AreValuesBound}
 use Rattle.term_names.specs.Known.{KnownView}
 use Rattle.text_items.specs.Stepping.{name_in, IsSymbolAt}
 use Rattle.term_reader.specs.Layers.{IsRange, form_at, forms_at, AreBinds, names_at, AreTermAttributes}
-use Rattle.problem_text.specs.Names.{Bound, Place, Meaning, inside}
+use Rattle.problem_text.specs.Names.{Bound, Place, Meaning, place_inside}
 use Rattle.term_reader.specs.Resuming.{Waiting, arguments, bindings, body_of, naming}
 use Rattle.term_names.specs.Scope.{Scoped}
 use Rattle.problem_text.specs.TypedTerms.{Typed}
@@ -46,7 +46,7 @@ pub record HasBody (w : SymbolsAndTerms) (from first : ℕ) (values : List Value
   pub within : from ≤ length values
   pub leaves_within : first < length leaves
   pub bound_here : AreValuesBound w (drop first leaves) (drop from values) bound
-  pub same_place : p ≡ inside bound outer
+  pub same_place : p ≡ place_inside bound outer
   pub inner : List Scoped
   pub split : scope ≡ inner ++ around
   pub one_each : first + length inner ≡ length leaves

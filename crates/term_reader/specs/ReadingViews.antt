@@ -2,7 +2,7 @@
 use Rattle.std.specs.Prelude.{ℕ, Bool, List, Vec}
 use Rattle.std.specs.declared.alloc.Global.{Global}
 use Rattle.term_expansion.specs.declared.values.Value.{Value}
-use Rattle.term_names.specs.Scope.{NamesView, names_in}
+use Rattle.term_names.specs.Scope.{NamesView, all_names}
 use Rattle.term_names.specs.declared.settings.ReadSettings.{ReadSettings}
 use Rattle.term_reader.specs.declared.frames.Frame.{Frame}
 use Rattle.term_reader.specs.declared.reader.Reader.{Reader}
@@ -17,7 +17,7 @@ pub record ReadingView : Type 0 where
 abbrev pub reader_in : ReadSettings → Reader → ReadingView
 reader_in e r = record {
   replaces_lets = e.replaces_lets;
-  names = names_in e r.names;
+  names = all_names e r.names;
   values = r.values;
   leaves = r.leaves;
   frames = r.frames;

@@ -5,7 +5,7 @@ use Rattle.problem_text.specs.Forms.{Form, Forms, LetBinds}
 use Rattle.problem_text.specs.TypedTerms.{Typed}
 use Rattle.problem_text.specs.Outcomes.{Outcome, and_then}
 use Rattle.problem_text.specs.Scripts.{Script}
-use Rattle.problem_text.specs.Names.{Bound, Place, Meaning, meaning_applied, inside, let_term}
+use Rattle.problem_text.specs.Names.{Bound, Place, Meaning, meaning_applied, place_inside, let_term}
 use Rattle.problem_text.specs.Terms.{settled, with_names, term_from, terms_from, bounds_from}
 
 -- The arguments of an application: what it applies, those that were read, and those that are left. The bindings of a
@@ -24,7 +24,7 @@ bound_to n t = record { variable = record { name = n.name; sort = t.sort }; stan
 -- a let once its bindings are read
 abbrev pub body_from : ℕ → Form → Place → List Bound → Script → Outcome Script Typed
 body_from place body p bound s =
-    and_then (term_from body (inside bound p) s) (λ t last. settled p.settings.limit place (Some (let_term p bound t)) last)
+    and_then (term_from body (place_inside bound p) s) (λ t last. settled p.settings.limit place (Some (let_term p bound t)) last)
 
 -- what comes of the term that was waited for
 abbrev pub after : Waiting → Typed → Script → Outcome Script Typed

@@ -3,7 +3,7 @@ use Rattle.std.specs.Prelude.{◌≡◌, ◌≤◌, ◌<◌, ℕ, List, length, 
 use Rattle.term_pool.specs.Views.{TermsView}
 use Rattle.term_reader.specs.Frames.{WholeReading, AreFrames}
 use Rattle.problem_text.specs.Limits.{limited, most_height}
-use Rattle.term_names.specs.InScope.{IsScope, AreLow}
+use Rattle.term_names.specs.InScope.{IsScope, AreValuesLow}
 use Rattle.term_reader.specs.Layers.{form_at}
 use Rattle.problem_text.specs.Names.{Place}
 use Rattle.term_reader.specs.Resuming.{Waiting, resumed}
@@ -26,7 +26,7 @@ pub record ReaderStands (w : SymbolsAndTerms) (r : ReadingView) (sc : Script) (p
   pub script : IsScript w r.names.known sc
   pub scope : IsScope w r.names.scope p.scope
   pub settings : p.settings ≡ limited r.replaces_lets
-  pub low : AreLow r.values
+  pub low : AreValuesLow r.values
 
 -- The term that is read now is that of node k: what comes of it for all that wait is what comes of the whole term.
 pub record IsAt (items : ItemsView) (g : WholeReading) (w : SymbolsAndTerms) (r : ReadingView) (k : ℕ) : Type 0 where

@@ -9,7 +9,7 @@ use Rattle.alethe_text.specs.Anchors.{arguments_read}
 use Rattle.alethe_text.specs.Commands.{arguments_in}
 use Rattle.alethe_text.specs.ProofTerms.{place_in}
 use Rattle.alethe_text.specs.States.{ProofSettings, ProofState}
-use Rattle.alethe_reader.specs.Bound.{AreBound}
+use Rattle.alethe_reader.specs.Bound.{AreAnchorsBound}
 use Rattle.alethe_reader.proofs.ArgumentLoop.{AreLeft}
 use Rattle.alethe_reader.proofs.anchor_arguments.read_arguments.Given as goal
 use Rattle.term_expansion.specs.SymbolsAndTerms.{both}
@@ -17,7 +17,7 @@ use Rattle.term_expansion.specs.SymbolsAndTerms.{both}
 abbrev pub invariant-arguments : goal.invariant-arguments
 invariant-arguments l = record {
   there : AreArgumentsAt l.items l.k (length l.items.nodes);
-  left : (settings : ProofSettings) (p : ProofState) → IsReaderOf l.fn.symbols l.fn.terms l.fn.reader p.script (place_in settings p.scope.nesting) → AreBound (both l.fn.symbols l.fn.terms) l.fn.bound p.scope.nesting
+  left : (settings : ProofSettings) (p : ProofState) → IsReaderOf l.fn.symbols l.fn.terms l.fn.reader p.script (place_in settings p.scope.nesting) → AreAnchorsBound (both l.fn.symbols l.fn.terms) l.fn.bound p.scope.nesting
       → AreLeft settings l.symbols l.fn.terms l.terms l.reader l.bound p (arguments_in (items_at l.items l.k (length l.items.nodes))) (arguments_read settings [] (arguments_in (items_at l.items l.first (length l.items.nodes))) p);
   symbols : AddsNoSymbols l.fn.symbols l.symbols;
   keeps : KeepsTerms l.fn.terms l.terms;

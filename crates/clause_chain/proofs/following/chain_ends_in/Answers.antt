@@ -1,7 +1,7 @@
 use Rattle.std.proofs.Common.{◌≡◌, ◌-◌, length, drop, take, sym, ◌∙◌, true≢false}
 use Rattle.std.specs.Global.{Vec}
 use Rattle.std.proofs.lemmas.List.{length-map}
-use Rattle.clause_chain.specs.Chaining.{clauses_in}
+use Rattle.clause_chain.specs.Chaining.{clauses_of}
 use Rattle.clause_chain.specs.declared.signed_term.SignedTerm.{SignedTerm}
 use Rattle.clause_chain.proofs.Onwards.{all_as_many, all_from, some_there, whole_of}
 use Rattle.clause_chain.proofs.following.chain_ends_in.Goals as goal
@@ -12,7 +12,7 @@ returns-then-premises-pivots c = (
   λ all.
       absurd (c.if-premises-pivots.true
       (sym (length-map c.args.premises.now (λ (v : Vec SignedTerm). v.items))
-      ∙ all_as_many c.args.pivots.now (clauses_in c.args.premises.now) c.args.clause.now all)),
+      ∙ all_as_many c.args.pivots.now (clauses_of c.args.premises.now) c.args.clause.now all)),
 )
 
 pub returns-then-not-branch : goal.returns-then-not-branch

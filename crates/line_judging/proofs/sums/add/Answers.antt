@@ -4,7 +4,7 @@ use Rattle.std.specs.Int.{w128}
 use Rattle.std.proofs.lemmas.Int.{ints}
 use Rattle.rule_model.specs.Arith.{limit}
 use Rattle.scaled_sums.specs.declared.coefficients.Coefficient.{Coefficient}
-use Rattle.scaled_sums.specs.Coefficients.{AreApart, sizes_of}
+use Rattle.scaled_sums.specs.Coefficients.{AreOfDifferentTerms, sizes_of}
 use Rattle.linear_lines.specs.Lines.{IsFormOf, IsSumOf}
 use Rattle.line_judging.proofs.LineLists.{some_line}
 use Rattle.line_judging.proofs.WeightLemmas.{own_is, share_some, wide_terms, next_weight}
@@ -34,7 +34,7 @@ pub add_line-requires-clause-apart : goal.add_line-requires-clause-apart
 add_line-requires-clause-apart c =
     let some = rw c.in-Some.is at c.in_ok-numbers.ensures.form in
     let here = some_line c.args.symbols.now c.args.terms.now c.args.line.now c.requires.line in
-    subst AreApart (sym c.deref.ensures.value) (some here.0.comparison here.1.comparison).apart
+    subst AreOfDifferentTerms (sym c.deref.ensures.value) (some here.0.comparison here.1.comparison).apart
 
 pub add_line-requires-clause-light : goal.add_line-requires-clause-light
 add_line-requires-clause-light c =

@@ -1,5 +1,5 @@
 use Rattle.std.proofs.Common.{◌≡◌, ◌≤◌, length}
-use Rattle.rules_resolution.specs.Clause.{clauses_of}
+use Rattle.clause_chain.specs.Chaining.{clauses_of}
 use Rattle.rules_resolution.specs.Idle.{AllIdleBelow}
 use Rattle.rules_resolution.specs.Scans.{Reaches}
 use Rattle.rules_resolution.proofs.few.look_at_each.Given as goal

@@ -1,4 +1,4 @@
-use Rattle.rules_resolution.specs.Clause.{clauses_of}
+use Rattle.clause_chain.specs.Chaining.{clauses_of}
 use Rattle.rules_resolution.specs.Scans.{IsScanReached}
 use Rattle.rules_resolution.proofs.few.propagate_few.Given as goal
 

@@ -1,6 +1,6 @@
 use Rattle.std.proofs.Common.{◌-◌, ℕ, List, length, ◌∙◌, ap, arith, length-append}
 use Rattle.std.specs.Global.{Vec}
-use Rattle.rules_resolution.specs.Clause.{clauses_of}
+use Rattle.clause_chain.specs.Chaining.{clauses_of}
 use Rattle.rules_resolution.specs.Literal.{Lit}
 use Rattle.rules_resolution.specs.Renaming.{renamed_from, renamed_in, joined_clauses}
 use Rattle.rules_resolution.proofs.Renamings.{shown_before, none_before, length-renamed}

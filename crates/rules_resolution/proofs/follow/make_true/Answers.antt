@@ -2,7 +2,7 @@ use Rattle.std.proofs.Common.{◌≡◌, ℕ, ◌<◌, length, vec_len, sym, ◌
 use Rattle.std.specs.Global.{Vec}
 use Rattle.rule_model.specs.Consequence.{literal_of}
 use Rattle.rule_model.specs.Literals.{negation_of}
-use Rattle.rules_resolution.specs.Clause.{clauses_of}
+use Rattle.clause_chain.specs.Chaining.{clauses_of}
 use Rattle.rules_resolution.specs.Falsity.{is_false_in}
 use Rattle.rules_resolution.specs.Literal.{Lit}
 use Rattle.rules_resolution.specs.Standing.{places_at}

@@ -1,5 +1,5 @@
 use Rattle.std.proofs.Common.{[], ⊎_elim, arith}
-use Rattle.rules_resolution.specs.Clause.{clauses_of}
+use Rattle.clause_chain.specs.Chaining.{clauses_of}
 use Rattle.rules_resolution.proofs.Progresses.{progress_at_start, progress_popped, popped_in_range, ready_advances, nothing_more, trail_here, last_of_none}
 use Rattle.rules_resolution.proofs.follow.propagate.Goals as goal
 

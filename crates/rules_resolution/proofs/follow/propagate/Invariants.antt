@@ -1,5 +1,5 @@
 use Rattle.std.proofs.Common.{◌+◌, length}
-use Rattle.rules_resolution.specs.Clause.{clauses_of}
+use Rattle.clause_chain.specs.Chaining.{clauses_of}
 use Rattle.rules_resolution.specs.Standing.{total_of}
 use Rattle.rules_resolution.specs.Progress.{IsProgress}
 use Rattle.rules_resolution.proofs.follow.propagate.Given as goal

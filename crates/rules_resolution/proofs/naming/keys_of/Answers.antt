@@ -1,6 +1,6 @@
 use Rattle.std.proofs.Common.{length, ap, arith, length-append}
 use Rattle.std.specs.Global.{Vec}
-use Rattle.rules_resolution.specs.Clause.{clauses_of}
+use Rattle.clause_chain.specs.Chaining.{clauses_of}
 use Rattle.rules_resolution.specs.Literal.{Lit}
 use Rattle.rules_resolution.specs.Renaming.{joined_clauses}
 use Rattle.rules_resolution.proofs.Keys.{joined-le, keys_joined, joined_length, keys_all}

@@ -1,6 +1,6 @@
 use Rattle.std.proofs.Common.{rules, ◌<◌, length, sym, arith}
 use Rattle.std.proofs.lemmas.List.Sorted.{IsNonDecreasingBy-from_sort_by_key}
-use Rattle.rules_resolution.specs.Clause.{clauses_of}
+use Rattle.clause_chain.specs.Chaining.{clauses_of}
 use Rattle.rules_resolution.specs.Renaming.{all_literals}
 use Rattle.rules_resolution.specs.Naming.{key_rank}
 use Rattle.rules_resolution.proofs.Keys.{atoms_rising, numbers_small, sorted_sound, names_found}

@@ -1,7 +1,7 @@
 use Rattle.std.proofs.Common.{List, length, vec_len, refl, ap, arith, length-append}
 use Rattle.std.specs.Global.{Vec}
 use Rattle.std.proofs.lemmas.List.{take_all}
-use Rattle.rules_resolution.specs.Clause.{clauses_of}
+use Rattle.clause_chain.specs.Chaining.{clauses_of}
 use Rattle.rules_resolution.specs.Literal.{Lit}
 use Rattle.rules_resolution.specs.Renaming.{joined_clauses}
 use Rattle.rules_resolution.proofs.Keys.{joined_length}

@@ -1,5 +1,5 @@
 use Rattle.std.proofs.Common.{◌≡◌, ◌+◌, ◌*◌, ◌≤◌, length, take}
-use Rattle.rules_resolution.specs.Clause.{clauses_of}
+use Rattle.clause_chain.specs.Chaining.{clauses_of}
 use Rattle.rules_resolution.specs.Renaming.{joined_clauses}
 use Rattle.rules_resolution.proofs.renaming.literal_count.Given as goal
 

@@ -1,5 +1,5 @@
 use Rattle.std.proofs.Common.{◌≡◌, ◌<◌, ◌^◌, length, vec_len, take, All}
-use Rattle.rules_resolution.specs.Clause.{clauses_of}
+use Rattle.clause_chain.specs.Chaining.{clauses_of}
 use Rattle.rules_resolution.specs.Renaming.{renamed_in, joined_clauses}
 use Rattle.rules_resolution.proofs.renaming.rename_all.Given as goal
 

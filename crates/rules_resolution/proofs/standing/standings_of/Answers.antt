@@ -1,6 +1,6 @@
 use Rattle.std.proofs.Common.{◌+◌, ◌*◌, ◌<◌, false, length, get_or, arith}
 use Rattle.rules_resolution.specs.declared.occurrence.Occurrence.{Occurrence}
-use Rattle.rules_resolution.specs.Clause.{clauses_of}
+use Rattle.clause_chain.specs.Chaining.{clauses_of}
 use Rattle.rules_resolution.specs.Standing.{open_at, places_at}
 use Rattle.rules_resolution.proofs.Premises.{length-clauses_of}
 use Rattle.rules_resolution.proofs.Standings.{tallied_at_start, open_at-blank_le, places_at-blank, counted_more, bounded_open, bounded_places}

@@ -1,5 +1,5 @@
 use Rattle.std.proofs.Common.{ℕ, [], ◌+◌, ◌*◌, ◌≤◌, take}
-use Rattle.rules_resolution.specs.Clause.{clauses_of}
+use Rattle.clause_chain.specs.Chaining.{clauses_of}
 use Rattle.rules_resolution.specs.Standing.{IsTallied, open_at, places_at}
 use Rattle.rules_resolution.proofs.standing.standings_of.Given as goal
 

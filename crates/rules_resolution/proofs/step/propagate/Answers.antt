@@ -1,8 +1,7 @@
 use Rattle.std.proofs.lemmas.Result.{IfOk-weaker}
-use Rattle.rule_model.specs.Reading.{clause_at}
+use Rattle.rule_model.specs.Reading.{clause_at, premise_clauses}
 use Rattle.term_parts.proofs.Options.{if_some, if_none}
 use Rattle.term_pool.proofs.References.{refer_are_terms}
-use Rattle.rules_resolution.specs.Steps.{premise_clauses}
 use Rattle.rules_resolution.proofs.step.propagate.Goals as goal
 
 pub find_trail-requires-clause-premises : goal.find_trail-requires-clause-premises

@@ -4,7 +4,7 @@ use Rattle.std.proofs.lemmas.List.{take_rest}
 use Rattle.sexpr.specs.declared.causes.Cause.TheVariants.{Repeated}
 use Rattle.term_names.specs.Entries.{EntriesView}
 use Rattle.term_names.specs.Known.{base_of}
-use Rattle.term_names.specs.Scope.{names_in}
+use Rattle.term_names.specs.Scope.{all_names}
 use Rattle.term_reader.specs.ReadingViews.{reader_in}
 use Rattle.term_reader.proofs.LeavingBindings.{leaf_there, bindings_bound, more_nodes_there, body_next, binding_next, binding_faulty}
 use Rattle.term_reader.proofs.leaving_lets.leave_binding.Goals as goal
@@ -45,7 +45,7 @@ returns-then-n-body-clause-leaves c = λ v g h.
     let (inner, split, each) = c.in_ok-bind.ensures.inner in
     body_next _ _ _ _ _ _ _ _ h _
     (record (reader_in c.args.settings.now c.args.reader.now) {
-      names = names_in c.args.settings.now c.bind.new.names;
+      names = all_names c.args.settings.now c.bind.new.names;
       values = c.push.new.self;
       leaves = c.add_variable.new.leaves;
       frames = c.push-then-n-body.new.self;

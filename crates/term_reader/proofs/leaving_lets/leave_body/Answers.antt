@@ -4,7 +4,7 @@ use Rattle.std.proofs.lemmas.List.{take_rest}
 use Rattle.std.proofs.lemmas.Result.{err_from_is_err_and}
 use Rattle.term_names.specs.Entries.{EntriesView}
 use Rattle.term_names.specs.Known.{base_of}
-use Rattle.term_names.specs.Scope.{names_in}
+use Rattle.term_names.specs.Scope.{all_names}
 use Rattle.term_reader.specs.ReadingViews.{reader_in}
 use Rattle.term_reader.proofs.LeavingBodies.{body_fault, body_refused, body_settled}
 use Rattle.term_reader.proofs.leaving_lets.leave_body.Goals as goal
@@ -27,7 +27,7 @@ returns-clause-leaves c = λ items g h.
     let rest = take_rest c.deref.result.now c.args.form.now.leaves ∙ ap (drop c.args.form.now.leaves) c.deref.ensures.value in
     body_settled _ _ _ _ _ _ _ _ h
     (record (reader_in c.args.settings.now c.args.reader.now) {
-      names = names_in c.args.settings.now c.unbind.new.names;
+      names = all_names c.args.settings.now c.unbind.new.names;
       values = c.truncate.new.self;
       leaves = c.truncate-2.new.self;
     }) (

@@ -1,3 +1,0 @@
-mod PivotLemmas
-mod ReadAlike
-mod AlikeLaws
