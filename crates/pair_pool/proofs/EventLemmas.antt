@@ -1,25 +1,27 @@
 -- The events in a shared pool keep the good states, and what passes know.
-use Rattle.std.proofs.Common.{◌≡◌, ◌≢◌, ℕ, zero, suc, ◌+◌, ◌^◌, ◌<◌, ◌≤◌, ◌⊎◌, inl, inr, List, [], ◌∷◌, ◌++◌, length, map, get_or, set}
+use Rattle.std.proofs.Common.{◌≡◌, ◌≢◌, ℕ, zero, suc, ◌+◌, ◌^◌, ◌<◌, ◌≤◌, ◌⊎◌, inl, inr, List, [], ◌∷◌, ◌++◌, length, map, get_or, set, replicate}
 use Rattle.std.proofs.Common.{length-set, Contains, sum_by, slice_get, Some, ◌↔◌, refl, ap, sym, ◌∙◌, arith, get_or-set_same, get_or-set_other}
 use mathlib.Core.Option.{some}
 use lib.ListN.{get_elem?}
 use Rattle.std.proofs.lemmas.Bool.{cases_eq, eq-eqb, ne_eqb}
 use Rattle.std.proofs.Math.Nat.{pow-le-pow_right}
-use Rattle.std.proofs.lemmas.List.{set-get_or, length-append, get_or_append_left}
+use Rattle.std.proofs.lemmas.List.{set-get_or, length-replicate, length-append, get_or_append_left}
 use Rattle.std.proofs.lemmas.List.Sums.{sum_by-set, sum_by-append}
 use Rattle.std.proofs.lemmas.Option.{slice_get_within, slice_get_read, get_or_from_slice_get}
 use Rattle.atomic_table.proofs.Lists.{at_map, set_else}
 use Rattle.pair_pool.specs.declared.holder.Holder.{Holder}
 use Rattle.pair_pool.specs.Trees.{Tree}
 use Rattle.pair_pool.specs.Views.{IsListed, Knows, Grows}
-use Rattle.pair_pool.specs.GoodStates.{TellsTruth, IsGood}
-use Rattle.pair_pool.specs.Holders.{view_of, cell_of, after_empty, after_other, after_here, after_place, left_half, right_half, both_of, spent_holder}
+use Rattle.pair_pool.specs.GoodStates.{TellsTruth, AreGoodWords, IsGood}
+use Rattle.pair_pool.specs.OnlyPass.{only_holder}
+use Rattle.pair_pool.specs.Holders.{view_of, first_holder, cell_of, after_empty, after_other, after_here, after_place, left_half, right_half, both_of, spent_holder}
 use Rattle.pair_pool.specs.Sharing.{TableState}
 use Rattle.pair_pool.specs.Events.{World, Event, probe, fill, look, halve, unite, state_of_world, opening_world, IsAtWork, Learns, Unites, Happens}
-use Rattle.pair_pool.specs.Events.{Lead, heir_after, heir, steps_made}
-use Rattle.pair_pool.proofs.PassLemmas.{grows_from_cells}
-use Rattle.pair_pool.proofs.StateLemmas.{one_address}
-use Rattle.pair_pool.proofs.SharedLemmas.{at_contains, listed_more, opening_good, own_truth, empty_truth, other_truth, here_truth, stays_good, placed_good}
+use Rattle.pair_pool.specs.Events.{shared_world, IsOpening, Lead, heir_after, heir, steps_made}
+use Rattle.pair_pool.proofs.PassLemmas.{grows_from_cells, cells_of-empty}
+use Rattle.pair_pool.proofs.TableLemmas.{IsTable-empty}
+use Rattle.pair_pool.proofs.StateLemmas.{only_state_good, one_address}
+use Rattle.pair_pool.proofs.SharedLemmas.{at_contains, listed_more, own_truth, empty_truth, other_truth, here_truth, stays_good, placed_good}
 use Rattle.pair_pool.proofs.SharingLemmas.{listed_left, listed_right, splits, joins}
 
 -- ---- lists
@@ -55,8 +57,24 @@ there_before xs ys i x e =
 abbrev table_of : World → TableState
 table_of w = record { words = w.words; homes = []; views = w.passes }
 
-opens_good : (bits : ℕ) → 12 ≤ bits → bits ≤ 26 → IsGood (state_of_world (opening_world bits))
-opens_good bits least most = opening_good (2 ^ bits) (pow-le-pow_right (omega arith) least) (pow-le-pow_right (omega arith) most)
+-- a pool without a cell is one of empty words
+empty_holder : (n : ℕ) → first_holder n ≡ only_holder (replicate n 0)
+empty_holder n = rw (length-replicate {A = ℕ} n 0, cells_of-empty n) refl
+
+pub new_opens : (bits : ℕ) → 12 ≤ bits → bits ≤ 26 → IsOpening (opening_world bits)
+new_opens bits least most = record {
+  words = replicate (2 ^ bits) 0;
+  good =
+      IsTable-empty (2 ^ bits) (pow-le-pow_right {n = 2} (omega arith) least)
+      (pow-le-pow_right {n = 2} (omega arith) most);
+  is = ap (λ (h : Holder). record { words = replicate (2 ^ bits) 0; passes = h ∷ [] }) (empty_holder (2 ^ bits));
+}
+
+pub shared_opens : (words : List ℕ) → AreGoodWords words → IsOpening (shared_world words)
+shared_opens words good = record { words = words; good = good; is = refl }
+
+opens_good : (w : World) → IsOpening w → IsGood (state_of_world w)
+opens_good w opens = rw opens.is (only_state_good opens.words opens.good)
 
 module _ (w : World) (good : IsGood (state_of_world w)) (i : ℕ) (h : Holder) (at_work : IsAtWork w i h) where
   at : get_elem? w.passes i ≡ some h
@@ -100,8 +118,8 @@ pub lead_good : (events : List Event) (old new : World) → IsGood (state_of_wor
 lead_good [] old new good is = rw is good
 lead_good (event ∷ events) old new good (middle, h, rest) = lead_good events middle new (event_good event old middle good h) rest
 
-pub opening_leads_good : (bits : ℕ) → 12 ≤ bits → bits ≤ 26 → (events : List Event) (w : World) → Lead events (opening_world bits) w → IsGood (state_of_world w)
-opening_leads_good bits least most events w lead = lead_good events (opening_world bits) w (opens_good bits least most) lead
+pub opening_leads_good : (opening : World) → IsOpening opening → (events : List Event) (w : World) → Lead events opening w → IsGood (state_of_world w)
+opening_leads_good opening opens events w lead = lead_good events opening w (opens_good opening opens) lead
 
 among : (w : World) (i : ℕ) (h : Holder) → slice_get w.passes i ≡ Some h → Contains (map view_of w.passes) (view_of h)
 among w i h e = at_contains (map view_of w.passes) i (view_of h) (at_map view_of w.passes i h (elem_there w.passes i h e))

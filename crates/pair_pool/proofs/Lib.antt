@@ -9,3 +9,4 @@ pub mod SharedLemmas
 pub mod SharingLemmas
 pub mod PoolLemmas
 pub mod EventLemmas
+pub mod HeldLemmas

@@ -6,7 +6,7 @@ use Rattle.std.proofs.lemmas.List.Elements.{All-contains}
 use Rattle.pair_pool.specs.declared.holder.Holder.{Holder}
 use Rattle.pair_pool.specs.Trees.{Tree, cell}
 use Rattle.pair_pool.specs.Decoding.{HasTreesWithin}
-use Rattle.pair_pool.specs.Views.{Cell, PassView, IsListed, IsSeen, HasCell, Knows, IsKnown, Grows, AddsAtMost, IsFullFor, IsOneToOne}
+use Rattle.pair_pool.specs.Views.{Cell, PassView, IsListed, IsSeen, IsPlaced, SeesMore, HasCell, Knows, IsKnown, Grows, AddsAtMost, IsFullFor, IsOneToOne}
 use Rattle.pair_pool.specs.Views.{HasPartsOfTrees, HasListsInOrder}
 use Rattle.pair_pool.specs.Words.{probe_start, probe_place, IsCell}
 use Rattle.pair_pool.specs.GoodStates.{TellsTruth}
@@ -14,18 +14,15 @@ use Rattle.pair_pool.specs.Holders.{view_of, IsListedPart, cell_of}
 use Rattle.pair_pool.specs.Sharing.{IsInGood, Sought, Missed}
 use Rattle.pair_pool.proofs.WordLemmas.{one_cell, one_place}
 use Rattle.pair_pool.proofs.ProbeLemmas.{comes_to}
-use Rattle.pair_pool.proofs.PassLemmas.{known_is_reference, known_every_cell, known_first_part, known_second_part, known_parts, grows_from_cells, knows_cell}
+use Rattle.pair_pool.proofs.PassLemmas.{known_is_reference, known_every_cell, known_first_part, known_second_part, known_parts, grows_from_cells}
 use Rattle.pair_pool.proofs.StateLemmas.{one_to_one, parts_of_trees, whole_pass}
 use Rattle.pair_pool.proofs.DecodingLemmas.{trees_within}
 use Rattle.pair_pool.proofs.SharedLemmas.{listed_here, listed_more, listed_cases}
-use Rattle.pair_pool.proofs.SharingLemmas.{listed_left, listed_right}
+use Rattle.pair_pool.proofs.SharingLemmas.{listed_left, listed_right, listed_either}
 
 -- ---- a pass of a good state
 
 module _ (pass : PassView) (is : IsInGood pass) where
-  pub words_of : List ℕ
-  words_of = is.state.words
-
   pub good_truth : TellsTruth is.state.words pass
   good_truth = All-contains (TellsTruth is.state.words) is.state.passes pass is.good.passes is.among
 
@@ -108,12 +105,6 @@ module _ (a b place : ℕ) (old new : Holder) (h : Sought a b place old new) whe
   pub sought_known : AddsAtMost old.known new.known (2 ^ 30 + place) a b
   sought_known = more_from old.known new.known place a b h.known
 
-  pub sought_grows : Grows (view_of old) (view_of new)
-  sought_grows = grows_from_cells (view_of old) (view_of new) sought_known.kept
-
-  pub sought_stands : (s t : Tree) → Knows (view_of old) a s → Knows (view_of old) b t → Knows (view_of new) (2 ^ 30 + place) (cell s t)
-  sought_stands = knows_cell (view_of old) (view_of new) (2 ^ 30 + place) a b sought_grows sought_cell
-
   pub sought_placed : AddsAtMost old.placed new.placed (2 ^ 30 + place) a b
   sought_placed = go h.placed
     where
@@ -149,6 +140,16 @@ join_grows old other new e = (
   grows_from_cells old new (λ q c d h. rw e (listed_left old.known other.known q c d h)),
   grows_from_cells other new (λ q c d h. rw e (listed_right old.known other.known q c d h)),
 )
+
+pub join_sees : (old other new : PassView) → new.seen ≡ old.seen ++ other.seen → SeesMore old new × SeesMore other new
+join_sees old other new e = (
+  (λ r a b h. rw e (listed_left old.seen other.seen r a b h)),
+  (λ r a b h. rw e (listed_right old.seen other.seen r a b h)),
+)
+
+pub join_placed : (old other new : PassView) → new.placed ≡ old.placed ++ other.placed → (r a b : ℕ) → IsPlaced new r a b → IsPlaced old r a b ⊎
+    IsPlaced other r a b
+join_placed old other new e r a b h = listed_either old.placed other.placed r a b (rw e at h)
 
 pub some_words : (n bits : ℕ) → n ≡ 2 ^ bits → 0 < n
 some_words n bits e = rw e (pow_pos bits)

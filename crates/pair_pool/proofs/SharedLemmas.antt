@@ -1,30 +1,29 @@
 -- The steps on the table keep the good states.
 use Rattle.std.specs.Bool.{MatchBool}
-use Rattle.std.proofs.Common.{◌≡◌, ◌≢◌, ℕ, zero, suc, ◌+◌, ◌-◌, ◌^◌, ◌<◌, ◌≤◌, ◌⊎◌, inl, inr, eqb, Bool, List, [], ◌∷◌, length, replicate, map}
+use Rattle.std.proofs.Common.{◌≡◌, ◌≢◌, ℕ, zero, suc, ◌+◌, ◌-◌, ◌^◌, ◌<◌, ◌≤◌, ◌⊎◌, inl, inr, eqb, Bool, List, [], ◌∷◌, length, map}
 use Rattle.std.proofs.Common.{get_or, set, length-set, Contains, Any, sum_by, refl, ap, sym, ◌∙◌, subst, arith, below_more, ◌*◌, get_or-set_same}
 use Rattle.std.proofs.Common.{get_or-set_other}
 use mathlib.Core.Option.{none, some, some-injective, some-ne-none}
 use lib.ListN.{get_elem?}
 use prog.Atomic.{either}
 use Rattle.std.proofs.lemmas.Bool.{cases_eq, eq-eqb, ne_eqb}
-use Rattle.std.proofs.lemmas.List.{set-get_or, map-set, length-replicate}
+use Rattle.std.proofs.lemmas.List.{set-get_or, map-set}
 use Rattle.std.proofs.lemmas.List.Sums.{sum_by-set}
-use Rattle.std.proofs.lemmas.List.Elements.{All-set, All-weaker, All-contains, All-cons, All-nil}
+use Rattle.std.proofs.lemmas.List.Elements.{All-set, All-weaker, All-contains}
 use Rattle.std.proofs.lemmas.List.Quantifiers.{any-set}
 use Rattle.atomic_table.specs.Table as Atomic
 use Rattle.atomic_table.proofs.Lists.{at_map, exchanged}
-use Rattle.atomic_table.specs.declared.shared.Seat.{Seat}
 use Rattle.pair_pool.specs.declared.holder.Holder.{Holder}
 use Rattle.pair_pool.specs.Views.{Cell, PassView, IsListed}
 use Rattle.pair_pool.specs.Words.{cell_word, probe_start, probe_place, IsCell, IsOther, IsProbed}
 use Rattle.pair_pool.specs.GoodStates.{AreGoodWords, IsReference, TellsTruth, IsSpentIfShareless, IsGood}
-use Rattle.pair_pool.specs.Holders.{first_holder, view_of, IsListedPart, cell_of, after_empty, after_other, after_here, after_place, HasSeenOthers}
-use Rattle.pair_pool.specs.Sharing.{TableState, Me, state_of, IsShared, IsInGood, IsLive, Probed, Placed, probed, placing, Finds, Passes, MayLook}
+use Rattle.pair_pool.specs.Holders.{view_of, IsListedPart, cell_of, after_empty, after_other, after_here, after_place, HasSeenOthers}
+use Rattle.pair_pool.specs.Sharing.{TableState, Me, state_of, IsShared, IsInGood, Probed, Placed, probed, placing, Finds, Passes, MayLook}
 use Rattle.pair_pool.specs.Sharing.{Sought, IsSeeking}
 use Rattle.pair_pool.proofs.ProbeLemmas.{mod_next, mod_round}
 use Rattle.pair_pool.proofs.WordLemmas.{same_parts, word_of-nonzero}
-use Rattle.pair_pool.proofs.TableLemmas.{cell_occupied, keeps_cell, old_or_new, new_cell, IsTable-set, IsTable-empty, not_there, reference_fits}
-use Rattle.pair_pool.proofs.PassLemmas.{Contains-cons, Contains-head, Contains-cons_cases, cells_of-empty, listed_from_cell}
+use Rattle.pair_pool.proofs.TableLemmas.{cell_occupied, keeps_cell, old_or_new, new_cell, IsTable-set, not_there, reference_fits}
+use Rattle.pair_pool.proofs.PassLemmas.{Contains-cons, Contains-head, Contains-cons_cases}
 
 -- ---- lists
 
@@ -500,31 +499,6 @@ module _ (a b place : ℕ) where
         other = (is.first, is.second, listed_here old.0.seen place is.first is.second, is.differs);
       })
 
--- ---- the first state
-
-none_listed : (r a b : ℕ) → IsListed [] r a b → ⊥
-unfolding IsListed
-none_listed r a b (k, below, _) = absurd (omega arith)
-
-pub opening_good : (n : ℕ) → 2 ^ 12 ≤ n → n ≤ 2 ^ 26 → IsShared (Atomic.opening {S = Unit {0}} (replicate n 0) [] (first_holder n))
-opening_good n least most = record {
-  table = IsTable-empty n least most;
-  passes = All-cons (TellsTruth (replicate n 0)) (view_of (first_holder n)) [] truth (All-nil (TellsTruth (replicate n 0)));
-  filled = λ r a b h. absurd (none_listed r a b (rw (cells_of-empty n) at (listed_from_cell (replicate n 0) r a b h)));
-  total = refl;
-  spent = All-cons IsSpentIfShareless (view_of (first_holder n)) [] (λ no_share. (refl, refl, refl)) (All-nil IsSpentIfShareless);
-}
-  where
-    truth : TellsTruth (replicate n 0) (view_of (first_holder n))
-    truth = record {
-      places = sym (length-replicate {A = ℕ} n 0);
-      seen = λ r a b h. absurd (none_listed r a b h);
-      known = λ r a b h. h;
-      placed = λ r a b h. h;
-      first_part = λ r a b h. absurd (none_listed r a b h);
-      second_part = λ r a b h. absurd (none_listed r a b h);
-    }
-
 -- ---- for answers
 
 -- a look that ended with the word `found`
@@ -539,18 +513,10 @@ module _ (a b place word : ℕ) (old mid new : Me) (found : ℕ) (spelled : word
       go (inl e) = subst Ends (sym (eq-eqb found word e)) (yes' e)
       go (inr e) = subst Ends (sym (ne_eqb found word e)) (no' e)
 
-  pub looked_once : Probed a b place old found new → found ≢ 0 → Ends (eqb found word)
-  looked_once h full = by_word
-      (λ e. finds_more a b place old.0 new.0 (finds_probed a b place old new found h (e ∙ spelled)))
-      (λ e. passes_more a b place old.0 new.0 (passes_probed a b place old new found h full (λ is. e (is ∙ sym spelled))))
-
   pub looked_twice : Probed a b place old 0 mid → placing a b (Atomic.step 0 place 0 word none) mid found new → found ≢ 0 → Ends (eqb found word)
   looked_twice first h full = by_word
       (λ e. finds_later a b place old.0 mid.0 new.0 (first.empty refl) (finds_probed a b place mid new found (h.1 full) (e ∙ spelled)))
       (λ e. passes_later a b place old.0 mid.0 new.0 (first.empty refl) (passes_probed a b place mid new found (h.1 full) full (λ is. e (is ∙ sym spelled))))
-
-  pub looked_placed : Probed a b place old 0 mid → placing a b (Atomic.step 0 place 0 word none) mid found new → found ≡ 0 → Finds a b place 2 old.0 new.0
-  looked_placed first h free = finds_later a b place old.0 mid.0 new.0 (first.empty refl) (finds_placed a b place mid new (h.0 free))
 
 -- a step that found a place empty leaves the pass as it was, but for the count
 pub empty_may : (a b place word : ℕ) (old mid : Holder) → mid ≡ after_empty old → 0 < old.shares → MayLook a b place word old → (0 < mid.shares) ×
@@ -568,17 +534,6 @@ empty_may a b place word old mid e share may = rw e (
     others = may.others;
   },
 )
-
-pub opening_live : (n : ℕ) → 2 ^ 12 ≤ n → n ≤ 2 ^ 26 → (seat : Seat (Unit {0}) Holder) → seat.me ≡ (first_holder n, []) → IsLive seat
-opening_live n least most seat e = record {
-  good = rw e (record {
-    state = state_of (Atomic.opening {S = Unit {0}} (replicate n 0) [] (first_holder n));
-    good = opening_good n least most;
-    among = (0, omega arith, refl);
-  });
-  some = rw e (omega arith);
-  slots = rw e refl;
-}
 
 -- ---- the whole probe
 

@@ -4,7 +4,8 @@ use Rattle.std.specs.Prelude.{◌≡◌, ℕ, ◌+◌, ◌<◌, ◌^◌, ◌==�
 use Rattle.std.specs.Prelude.{slice_set, Some, sum_by}
 use Rattle.pair_pool.specs.declared.holder.Holder.{Holder}
 use Rattle.pair_pool.specs.Words.{cell_word, probe_start, probe_place, IsCell}
-use Rattle.pair_pool.specs.GoodStates.{State}
+use Rattle.pair_pool.specs.GoodStates.{State, AreGoodWords}
+use Rattle.pair_pool.specs.OnlyPass.{only_holder}
 use Rattle.pair_pool.specs.Holders.{view_of, first_holder, IsListedPart, after_empty, after_other, after_here, after_place, HasSeenOthers, left_half}
 use Rattle.pair_pool.specs.Holders.{right_half, both_of, spent_holder}
 
@@ -18,6 +19,17 @@ state_of_world w = record { words = w.words; passes = map view_of w.passes }
 -- the world of a pool of 2^bits places that was just made: no cell, and one pass with all 65 shares
 abbrev pub opening_world : ℕ → World
 opening_world bits = record { words = replicate (2 ^ bits) 0; passes = first_holder (2 ^ bits) ∷ [] }
+
+-- the world of a pool of these words when it comes to be shared: one pass has seen, knows and placed every cell of the words,
+-- and holds all 65 shares
+abbrev pub shared_world : List ℕ → World
+shared_world words = record { words = words; passes = only_holder words ∷ [] }
+
+-- a world in which events begin
+pub record IsOpening (w : World) : Type 0 where
+  pub words : List ℕ
+  pub good : AreGoodWords words
+  pub is : w ≡ shared_world words
 
 -- pass i looks at a place for the cell (a, b); places it there; looks at a place and learns nothing; is split; takes in pass j
 pub data Event : Type 0 where
@@ -73,6 +85,7 @@ pub record Fills (i place a b : ℕ) (old new : World) : Type 0 where
 pub record Looks (i place : ℕ) (old new : World) : Type 0 where
   pub pass : Holder
   pub at_work : IsAtWork old i pass
+  pub inside : place < length old.words
   pub words : new.words ≡ old.words
   pub passes : new.passes ≡ slice_set old.passes i (after_empty pass)
 

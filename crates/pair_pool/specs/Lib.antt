@@ -8,3 +8,4 @@ pub mod Decoding
 pub mod Holders
 pub mod Events
 pub mod Sharing
+pub mod Held

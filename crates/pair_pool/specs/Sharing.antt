@@ -1,5 +1,5 @@
 -- Private. The table of a pool under atomic steps: its rule, and what each kind of step tells.
-use Rattle.std.specs.Prelude.{◌≡◌, ◌≢◌, ℕ, ◌+◌, ◌*◌, ◌<◌, ◌≤◌, ◌^◌, ◌⊎◌, [], ◌∷◌, map, Contains}
+use Rattle.std.specs.Prelude.{◌≡◌, ◌≢◌, ℕ, ◌+◌, ◌*◌, ◌<◌, ◌≤◌, ◌^◌, ◌⊎◌, [], ◌∷◌, map, Contains, Some}
 use Rattle.atomic_table.specs.Table as Atomic
 use Rattle.atomic_table.specs.declared.shared.Seat.{Seat}
 use Rattle.pair_pool.specs.declared.holder.Holder.{Holder}
@@ -32,7 +32,7 @@ pub record IsInGood (pass : PassView) : Type 0 where
 
 -- what contracts see of a pass
 abbrev pub holding_of : Seat (Unit {0}) Holder → Holding
-holding_of seat = record { view = view_of seat.me.0; steps = seat.me.0.steps; table = seat.table_id }
+holding_of seat = record { view = view_of seat.me.0; steps = seat.me.0.steps; table = Some seat.table_id }
 
 -- what holds of a pass between its steps: it is one of a good state, has at least one share, and no slot is out with it
 pub record IsLive (seat : Seat (Unit {0}) Holder) : Type 0 where

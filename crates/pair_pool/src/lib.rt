@@ -8,6 +8,7 @@
 //! about 1.5 words where half of them are taken and 2.2 at 70 per cent, and `parts` one load. Neither takes memory.
 #![tactic(auto)]
 
+mod hold;
 mod holder;
 mod laws;
 mod plays;
@@ -17,6 +18,7 @@ mod stops;
 mod table;
 #[cfg(test)]
 mod tests;
+mod words;
 
 pub use laws::{
     all_shares_all_cells, events_lead_to_good_states, leaves_are_known, one_address_one_term,

@@ -7,16 +7,16 @@ use crate::holder::Holder;
 use atomic_table::{Join, Play, Split, TableRule};
 use std::marker::{Brand, PhantomData};
 
-/// The good states. The key is the number of places.
+/// The good states. The key is the words that the table begins with.
 pub(crate) struct Good;
 
-impl TableRule<(), Holder, u64> for Good {
-    ghost use Rattle.pair_pool.specs.Holders.{first_holder};
+impl TableRule<(), Holder, Vec<u64>> for Good {
     ghost use Rattle.pair_pool.specs.Sharing.{IsShared};
+    ghost use Rattle.pair_pool.specs.OnlyPass.{only_holder};
 
     ghost holds = { λ _. IsShared };
 
-    ghost first = { first_holder };
+    ghost first = { λ words. only_holder words.items };
 }
 
 /// The cell that a probe is for.

@@ -22,14 +22,6 @@ pub(crate) fn new_words(alloc: Global, bits: u32) -> Result<Vec<u64>, Memory>
     Ok(vec![in alloc; 0u64; 1 << bits]?)
 }
 
-/// How many places a pool of so many bits has.
-pub(crate) fn places_of(bits: u32) -> u64
-    requires { bits ≤ 26 }
-    ensures value { result ≡ 2 ^ bits }
-{
-    1 << bits
-}
-
 /// Where the probe for a cell starts.
 pub(crate) fn start_of(bits: u32, first: u32, second: u32) -> usize
     requires bits { bits ≤ 26 }
@@ -51,7 +43,7 @@ pub(crate) fn word_of(first: u32, second: u32) -> u64
 
 /// Looks at a place for the wanted cell, and places it there where the place is empty. False where another cell is there.
 fn look<W: Wanted>(
-    words: &Shared<(), Holder, u64, Good>,
+    words: &Shared<(), Holder, Vec<u64>, Good>,
     seat: &mut Seat<(), Holder>,
     at: usize,
     wanted: u64,
@@ -77,7 +69,7 @@ fn look<W: Wanted>(
 
 /// The place of the wanted cell, which is placed where it does not stand yet. None where each place has another cell.
 pub(crate) fn seek<W: Wanted>(
-    words: &Shared<(), Holder, u64, Good>,
+    words: &Shared<(), Holder, Vec<u64>, Good>,
     seat: &mut Seat<(), Holder>,
     places: usize,
     start: usize,
@@ -105,8 +97,9 @@ pub(crate) fn seek<W: Wanted>(
 }
 
 /// The same for the cell (`first`, `second`), from where its probe starts.
+#[inline(never)]
 pub(crate) fn place_of<W: Wanted>(
-    words: &Shared<(), Holder, u64, Good>,
+    words: &Shared<(), Holder, Vec<u64>, Good>,
     seat: &mut Seat<(), Holder>,
     bits: u32,
     first: u32,
@@ -131,7 +124,7 @@ pub(crate) fn place_of<W: Wanted>(
 }
 
 /// The parts that a word spells.
-fn parts_of(word: u64) -> (u32, u32)
+pub(crate) fn parts_of(word: u64) -> (u32, u32)
     requires { (a : ℕ) × (b : ℕ) × (a < 2 ^ 31) × (b < 2 ^ 31) × (word ≡ cell_word a b) }
     ensures { (result.0 < 2 ^ 31) × (result.1 < 2 ^ 31) × (word ≡ cell_word result.0 result.1) }
 {
@@ -143,7 +136,7 @@ fn parts_of(word: u64) -> (u32, u32)
 
 /// The parts of the cell with the reference `number`, by one load.
 pub(crate) fn parts_at(
-    words: &Shared<(), Holder, u64, Good>,
+    words: &Shared<(), Holder, Vec<u64>, Good>,
     seat: &mut Seat<(), Holder>,
     number: u32,
 ) -> (u32, u32)
@@ -162,7 +155,7 @@ pub(crate) fn parts_at(
 
 /// A second seat with one share.
 pub(crate) fn split_off(
-    words: &Shared<(), Holder, u64, Good>,
+    words: &Shared<(), Holder, Vec<u64>, Good>,
     seat: &mut Seat<(), Holder>,
 ) -> Seat<(), Holder>
     requires table { (seat.old.table_id ≡ words.now.table_id) × (0 < words.now.table_id.words) }
@@ -177,7 +170,7 @@ pub(crate) fn split_off(
 
 /// One seat of two. A join tells nothing, so a load follows it, which tells that the joined view is one of a good state.
 pub(crate) fn join_all<W: Extent>(
-    words: &Shared<(), Holder, u64, Good>,
+    words: &Shared<(), Holder, Vec<u64>, Good>,
     seat: &mut Seat<(), Holder>,
     other: Seat<(), Holder>,
 )

@@ -3,7 +3,7 @@
 //! A test that owns a pool and a pass gives them up on each way out, which is dear to prove: so it lends them to a function
 //! that looks at them.
 ghost use Rattle.std.specs.Prelude.{◌≡◌, ◌+◌, ◌-◌, ◌<◌, ◌≤◌};
-ghost use Rattle.pair_pool.specs.Views.{IsPassOf};
+ghost use Rattle.pair_pool.specs.Views.{IsForMany, IsPassOf};
 
 use super::*;
 use std::process::Abort;
@@ -64,6 +64,7 @@ fn places_and_parts(rt: HostRuntime) -> Result<(), Fail> {
 
 fn place_cells(rt: &impl Abort, pool: &Pool, pass: &mut Pass) -> Result<(), PoolFull>
     requires { IsPassOf pool.now pass.old }
+    ensures { IsPassOf pool.now pass.new }
 {
     let (zero, one) = (Ref::leaf(0), Ref::leaf(1));
     let first = pool.intern(pass, one, zero)?;
@@ -84,10 +85,29 @@ fn leaves_are_in_order(rt: HostRuntime) {
     assert!(rt; zero.is_leaf() && zero < one && one.number() == 1);
 }
 
+/// What stands in a pool has the same references once passes share it, and has the places of its parts.
+#[test]
+fn shares_what_stands(rt: HostRuntime) -> Result<(), Fail> {
+    let (mut pool, mut pass) = Pool::new(rt.alloc(), 12)?;
+    let found = place_cells(&rt, &pool, &mut pass);
+    let shared = pool.share(rt.alloc(), &mut pass);
+    let again = place_cells(&rt, &pool, &mut pass);
+    let shared_again = pool.share(rt.alloc(), &mut pass);
+    drop(pass);
+    shared?;
+    shared_again?;
+    found?;
+    Ok(again?)
+}
+
 /// Four passes on four threads intern the same 1,000 pairs, each in an order of its own.
 #[test]
 fn four_threads_place_each_pair_once(rt: HostRuntime) -> Result<(), Fail> {
-    let (pool, pass) = Pool::new(rt.alloc(), 12)?;
+    let (mut pool, mut pass) = Pool::new(rt.alloc(), 12)?;
+    if let Err(memory) = pool.share(rt.alloc(), &mut pass) {
+        drop(pass);
+        return Err(memory.into());
+    }
     let (mut pass, sums) = four(&rt, &pool, pass);
     let found = sums_agree(&rt, &pool, &mut pass, sums);
     drop(pass);
@@ -97,7 +117,7 @@ fn four_threads_place_each_pair_once(rt: HostRuntime) -> Result<(), Fail> {
 type Sums = Result<(u64, u64), PoolFull>;
 
 fn four<R: Threads + Sync>(rt: &R, pool: &Pool, mut pass: Pass) -> (Pass, (Sums, Sums))
-    requires of_pool { IsPassOf pool.now pass }
+    requires of_pool { IsForMany pool.now × IsPassOf pool.now pass }
     requires shares { pass.view.shares ≡ 65 }
     ensures of_pool { IsPassOf pool.now result.0 }
     ensures shares { result.0.view.shares ≡ 65 }
@@ -108,12 +128,12 @@ fn four<R: Threads + Sync>(rt: &R, pool: &Pool, mut pass: Pass) -> (Pass, (Sums,
     let ((mut pass, first), (other, last)) = join(
         rt,
         || -> (Pass, Sums)
-            requires { IsPassOf pool.now pass × IsPassOf pool.now second }
+            requires { IsForMany pool.now × IsPassOf pool.now pass × IsPassOf pool.now second }
             ensures of_pool { IsPassOf pool.entry.now result.0 }
             ensures shares { result.0.view.shares ≡ pass.view.shares + second.view.shares }
         { two(rt, pool, pass, second, (1, 7)) },
         || -> (Pass, Sums)
-            requires { IsPassOf pool.now third × IsPassOf pool.now fourth }
+            requires { IsForMany pool.now × IsPassOf pool.now third × IsPassOf pool.now fourth }
             ensures of_pool { IsPassOf pool.entry.now result.0 }
             ensures shares { result.0.view.shares ≡ third.view.shares + fourth.view.shares }
         { two(rt, pool, third, fourth, (993, 999)) },
@@ -129,7 +149,7 @@ fn two<R: Threads + Sync>(
     other: Pass,
     strides: (u32, u32),
 ) -> (Pass, Sums)
-    requires of_pool { IsPassOf pool.now one × IsPassOf pool.now other }
+    requires of_pool { IsForMany pool.now × IsPassOf pool.now one × IsPassOf pool.now other }
     requires strides { (strides.0 < 1000) × (strides.1 < 1000) }
     ensures of_pool { IsPassOf pool.now result.0 }
     ensures shares { result.0.view.shares ≡ one.view.shares + other.view.shares }
@@ -208,7 +228,11 @@ fn sums_agree(
 /// are refused.
 #[test]
 fn two_threads_fill_a_pool(rt: HostRuntime) -> Result<(), Fail> {
-    let (pool, pass) = Pool::new(rt.alloc(), 12)?;
+    let (mut pool, mut pass) = Pool::new(rt.alloc(), 12)?;
+    if let Err(memory) = pool.share(rt.alloc(), &mut pass) {
+        drop(pass);
+        return Err(memory.into());
+    }
     let (pass, counts) = fill_by_two(&rt, &pool, pass);
     drop(pass);
     assert_eq!(rt; counts.0 + counts.1, 4096);
@@ -216,7 +240,7 @@ fn two_threads_fill_a_pool(rt: HostRuntime) -> Result<(), Fail> {
 }
 
 fn fill_by_two<R: Threads + Sync>(rt: &R, pool: &Pool, mut pass: Pass) -> (Pass, (u32, u32))
-    requires of_pool { IsPassOf pool.now pass }
+    requires of_pool { IsForMany pool.now × IsPassOf pool.now pass }
     requires shares { pass.view.shares ≡ 65 }
     ensures counts { (result.1.0 ≤ 4097) × (result.1.1 ≤ 4097) }
 {

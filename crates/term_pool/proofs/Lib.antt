@@ -25,3 +25,4 @@ pub mod FlipLemmas
 pub mod Leaves
 pub mod References
 pub mod PlacedCells
+pub mod HalfLemmas

@@ -2,6 +2,7 @@ pub mod StandsFor
 pub mod NotTrees
 pub mod Trees
 pub mod Views
+pub mod Halves
 pub mod Bindings
 pub mod TreeLists
 pub mod ReadingOnly

@@ -6,6 +6,7 @@ ghost use Rattle.sym_table.specs.Table.{Table, IsTable, Keeps};
 ghost use Rattle.term_model.specs.Terms.{Var, Term, Bindings, let_in};
 ghost use Rattle.term_model.specs.Heights.{height};
 ghost use Rattle.term_pool.specs.Building.{IsAppliedLeaf};
+ghost use Rattle.term_pool.specs.Halves.{AreHalves, IsJoined};
 ghost use Rattle.term_pool.specs.Reading.{arguments_of, bindings_of};
 ghost use Rattle.term_pool.specs.StandsFor.{StandsFor, StandForAll, StandForValues};
 ghost use Rattle.term_pool.specs.Trees.{app_tree, let_term_tree};
@@ -40,4 +41,11 @@ pub fn parts_are_less_high()
     ensures argument { (t a : Term) (i : ℕ) → slice_get (arguments_of t) i ≡ Some a → height a < height t }
     ensures value { (t u : Term) (x : Var) (i : ℕ) → slice_get (bindings_of t) i ≡ Some (x, u) → height u < height t }
     ensures body { (bs : Bindings) (u : Term) → height u < height (let_in bs u) }
+{}
+
+/// A law: where a value is split, both halves work, and one takes the other in again, what it knew and had seen stays, and it
+/// has its shares again. The call does nothing; its contract is the law.
+pub fn halves_are_joined()
+    ensures { (old left right one other new : TermsView) → AreHalves old left right → IsJoined one other new → KeepsTerms left one →
+        KeepsTerms right other → KeepsTerms old new }
 {}

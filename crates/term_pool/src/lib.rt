@@ -23,7 +23,10 @@ mod shape;
 mod stop;
 mod terms;
 
-pub use laws::{parts_are_less_high, references_stay, trees_are_built_of_parts, trees_of_terms};
+pub use laws::{
+    halves_are_joined, parts_are_less_high, references_stay, trees_are_built_of_parts,
+    trees_of_terms,
+};
 pub use putting::Image;
 pub use shape::Shape;
 pub use stop::TermStop;

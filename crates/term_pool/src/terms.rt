@@ -1,10 +1,11 @@
 //! A pool with one pass on it.
 
 ghost use Rattle.std.specs.Prelude.{◌≡◌, ◌↔◌, ◌+◌, ◌-◌, ◌<◌, ◌++◌, [], ℕ};
-ghost use Rattle.pair_pool.specs.Views.{IsPassOf, Grows, IsOneToOne, HasPartsOfTrees, HasListsInOrder};
+ghost use Rattle.pair_pool.specs.Views.{IsForMany, IsPassOf, Grows, IsOneToOne, HasPartsOfTrees, HasListsInOrder};
 ghost use Rattle.sym_table.specs.Table.{Table, IsTable};
 ghost use Rattle.term_model.specs.Terms.{Term};
 ghost use Rattle.term_pool.specs.Decoding.{HasTermsAt};
+ghost use Rattle.term_pool.specs.Halves.{AreHalves, IsJoined};
 ghost use Rattle.term_pool.specs.Views.{RefersTo};
 
 mod building;
@@ -54,14 +55,18 @@ impl<'a> Terms<'a> {
         self.pass
     }
 
-    /// A second one on the same pool, which knows what this one knows, with one share of this one's pass.
+    /// A second one on the same pool, which knows what this one knows, with one share of this one's pass. The pool is one that
+    /// passes may share (`Pool::share`).
     pub fn split(&mut self) -> Terms<'a>
-        requires { 1 < self.old.pass.shares }
+        requires for_many { IsForMany self.old.pool }
+        requires shares { 1 < self.old.pass.shares }
         ensures pool { (self.new.pool ≡ self.old.pool) × (result.pool ≡ self.old.pool) }
         ensures shares { (self.new.pass.shares ≡ self.old.pass.shares - 1) × (result.pass.shares ≡ 1) }
         ensures lists { (self.new.pass.known ≡ self.old.pass.known) × (self.new.pass.placed ≡ self.old.pass.placed) ×
             (result.pass.known ≡ self.old.pass.known) × (result.pass.placed ≡ []) }
+        ensures seen { (self.new.pass.seen ≡ self.old.pass.seen) × (result.pass.seen ≡ self.old.pass.seen) }
         ensures grows { Grows self.old.pass self.new.pass × Grows self.old.pass result.pass }
+        ensures halves { AreHalves self.old self.new result }
     {
         let pass = self.pool.split(&mut self.pass);
         Terms {
@@ -72,11 +77,15 @@ impl<'a> Terms<'a> {
 
     /// All that another one on the same pool knew, with its shares, goes to this one.
     pub fn join(&mut self, other: Terms<'a>)
-        requires { other.pool ≡ self.old.pool }
+        requires for_many { IsForMany self.old.pool }
+        requires pool { other.pool ≡ self.old.pool }
         ensures pool { self.new.pool ≡ self.old.pool }
         ensures shares { self.new.pass.shares ≡ self.old.pass.shares + other.entry.pass.shares }
+        ensures seen { self.new.pass.seen ≡ self.old.pass.seen ++ other.entry.pass.seen }
+        ensures known { self.new.pass.known ≡ self.old.pass.known ++ other.entry.pass.known }
         ensures placed { self.new.pass.placed ≡ self.old.pass.placed ++ other.entry.pass.placed }
         ensures grows { Grows self.old.pass self.new.pass × Grows other.entry.pass self.new.pass }
+        ensures joined { IsJoined self.old other.entry self.new }
     {
         self.pool.join(&mut self.pass, other.pass);
     }
