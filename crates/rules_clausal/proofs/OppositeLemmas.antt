@@ -11,8 +11,7 @@ use Rattle.term_pool.proofs.References.{AreOne}
 use Rattle.rule_model.specs.Clausal.{IsTautology}
 use Rattle.schema_match.specs.declared.signs.Sign.TheVariants.{Negation}
 use Rattle.rules_clausal.specs.Changes.{HasOpposites, NegatesOne}
-use Rattle.term_parts.specs.Parts.{IsOver}
-use Rattle.schema_match.specs.Signs.{IsSigned}
+use Rattle.term_parts.specs.Parts.{IsOver, StandsUnder}
 use Rattle.rules_clausal.specs.Sorting.{IsInOrder}
 use Rattle.schema_match.proofs.ArgumentLemmas.{one_term}
 use Rattle.schema_match.proofs.Counts.{none}
@@ -24,12 +23,12 @@ some_term = numeral 0
 
 module _ (s : Table) (v : TermsView) (one : AreOne s v) where
   -- the term under a `not` is searched
-  pub negates_searched : (sorted : List ℕ) (a : ℕ) (t : Term) (b : Bool) → IsSigned s v Negation a t → IsTrue b ↔ Contains sorted a → IsTrue b ↔ NegatesOne s v sorted t
-  negates_searched sorted a t b signed test = (
-    λ e. record { reference = a; among = test.0 e; means = signed.means; refers = signed.refers; is = signed.is },
+  pub negates_searched : (sorted : List ℕ) (a : ℕ) (t : Term) (b : Bool) → StandsUnder s v a t → IsTrue b ↔ Contains sorted a → IsTrue b ↔ NegatesOne s v sorted t
+  negates_searched sorted a t b under test = (
+    λ e. record { reference = a; among = test.0 e; means = under.inner; refers = under.refers; is = under.is },
     λ h.
-        (let same = one_term Negation signed.means h.means (sym signed.is ∙ h.is) in
-        test.1 (subst (Contains sorted) (sym ((one a h.reference signed.means h.means signed.refers h.refers).1 same)) h.among)),
+        (let same = one_term Negation under.inner h.means (sym under.is ∙ h.is) in
+        test.1 (subst (Contains sorted) (sym ((one a h.reference under.inner h.means under.refers h.refers).1 same)) h.among)),
   )
 
   pub negates_none : (sorted : List ℕ) (t : Term) → ((u : Term) → t ≢ not_of u) → IsTrue false ↔ NegatesOne s v sorted t

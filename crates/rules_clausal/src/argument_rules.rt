@@ -1,18 +1,23 @@
 //! The rules over the arguments of `and` and `or`.
 
-ghost use Rattle.std.specs.Prelude.{◌≡◌, ◌↔◌, List, All, IsTrue, IfOk, map, Some};
+ghost use Rattle.std.specs.Prelude.{◌≡◌, ◌↔◌, List, All, IsTrue, IfNone, IfOk, IfSome, length, map, Some};
+ghost use Rattle.known_args.specs.Rows.{AreRight};
 ghost use Rattle.term_model.specs.Terms.{Term};
+ghost use Rattle.term_pool.specs.Reading.{arguments_of};
 ghost use Rattle.term_pool.specs.Views.{IsTerm, RefersTo, ReferToAll};
 ghost use Rattle.rules_clausal.specs.ArgumentRules.{Asks, Gives, HasCondition, IsOneOf};
-ghost use Rattle.schema_match.specs.Signs.{sign_of};
+ghost use Rattle.schema_match.specs.Arguments.{HasNoArguments};
+ghost use Rattle.schema_match.specs.Signs.{sign_of, IsSigned};
+ghost use Rattle.term_parts.specs.Parts.{IsOver};
 ghost use Rattle.term_parts.specs.Judging.{ReferToClauses};
 
 use crate::argument_rules::Place::{Begins, Given};
 use crate::argument_rules::Which::{All, One};
+use known_args::{KnownArgs, Row};
 use pair_pool::{Memory, Ref};
 use rule_model::Rule;
 use schema_match::Sign::{self, Itself, Negation};
-use schema_match::{Scratch, Slot, load_arguments, slot_of, unit, unsigned};
+use schema_match::{unit, unsigned};
 use sym_table::Symbols;
 use term_model::Op;
 use term_pool::Terms;
@@ -62,11 +67,11 @@ fn is_one(
     symbols: &Symbols,
     terms: &mut Terms<'_>,
     sign: Sign,
-    arguments: &[Slot],
+    arguments: &Row,
     literals: &[Ref],
 ) -> bool
     requires { All (IsTerm symbols.now terms.old) literals.now }
-    ensures one { (us ts : List Term) → ReferToAll symbols.now terms.old arguments.now us → ReferToAll symbols.now terms.old literals.now ts →
+    ensures one { (us ts : List Term) → ReferToAll symbols.now terms.old arguments.now.1 us → ReferToAll symbols.now terms.old literals.now ts →
         IsTrue result ↔ IsOneOf sign us ts }
     ensures same { terms.new ≡ terms.old }
 {
@@ -76,7 +81,7 @@ fn is_one(
         return false;
     };
     match unsigned(symbols, terms, sign, *literal) {
-        Some(term) => arguments.contains(&slot_of(term)),
+        Some(term) => arguments.has(term),
         None => false,
     }
 }
@@ -86,7 +91,7 @@ fn are_all(
     symbols: &Symbols,
     terms: &mut Terms<'_>,
     sign: Sign,
-    arguments: &[Slot],
+    arguments: &[Ref],
     literals: &[Ref],
 ) -> bool
     requires { All (IsTerm symbols.now terms.old) literals.now }
@@ -100,51 +105,81 @@ fn are_all(
         return false;
     }
     for (place, literal) in literals.iter().enumerate() {
-        if unsigned(symbols, terms, sign, *literal) != Some(arguments[place].get()) {
+        if unsigned(symbols, terms, sign, *literal) != Some(arguments[place]) {
             return false;
         }
     }
     true
 }
 
+/// The term for which a literal stands with a sign, where its head is an operator.
+fn headed(symbols: &Symbols, terms: &mut Terms<'_>, op: Op, sign: Sign, literal: Ref) -> Option<Ref>
+    requires { IsTerm symbols.now terms.old literal }
+    ensures signed { IfSome result (λ a. (t : Term) → RefersTo symbols.now terms.old literal t → IsSigned symbols.now terms.old sign a t) }
+    ensures headed { IfSome result (λ a. (t : Term) → RefersTo symbols.now terms.old a t → IsOver op (length (arguments_of t)) t) }
+    ensures other { IfNone result ((t : Term) → RefersTo symbols.now terms.old literal t → HasNoArguments op sign t) }
+    ensures same { terms.new ≡ terms.old }
+{
+    symbols.leaves_differ();
+    let Some(term) = unsigned(symbols, terms, sign, literal) else {
+        return None;
+    };
+    let Some(head) = terms.head(term) else {
+        return None;
+    };
+    if head != symbols.operator(op) {
+        return None;
+    }
+    Some(term)
+}
+
 /// Whether an application and other literals are what a rule over arguments asks.
 fn gives(
+    known: &mut KnownArgs,
     symbols: &Symbols,
     terms: &mut Terms<'_>,
     row: ArgumentRule,
     whole: Ref,
     literals: &[Ref],
-    arguments: &mut Scratch,
 ) -> Result<bool, Memory>
+    requires right { AreRight terms.old known.old }
     requires whole { IsTerm symbols.now terms.old whole }
     requires literals { All (IsTerm symbols.now terms.old) literals.now }
     ensures gives { IfOk result (λ yes. (t : Term) (ts : List Term) → RefersTo symbols.now terms.old whole t →
         ReferToAll symbols.now terms.old literals.now ts → IsTrue yes ↔ Gives row.1 row.2 row.3 row.4 t ts) }
+    ensures right { AreRight terms.old known.new }
     ensures same { terms.new ≡ terms.old }
 {
     let ArgumentRule(_, which, op, sign, each) = row;
-    if !load_arguments(symbols, terms, op, sign, whole, arguments)? {
+    let Some(term) = headed(symbols, terms, op, sign, whole) else {
+        return Ok(false);
+    };
+    let place = known.place(terms, term)?;
+    let arguments = known.row(place);
+    if arguments.items().is_empty() {
         return Ok(false);
     }
     match which {
         One => Ok(is_one(symbols, terms, each, arguments, literals)),
-        All => Ok(are_all(symbols, terms, each, arguments, literals)),
+        All => Ok(are_all(symbols, terms, each, arguments.items(), literals)),
     }
 }
 
-/// Whether a step is what a rule over arguments asks. Walks the arguments of the application twice. The list is scratch.
+/// Whether a step is what a rule over arguments asks. The arguments of the application are read where they are not known.
 pub(crate) fn meets_argument_rule(
+    known: &mut KnownArgs,
     symbols: &Symbols,
     terms: &mut Terms<'_>,
     row: ArgumentRule,
     premises: &[&[Ref]],
     clause: &[Ref],
-    arguments: &mut Scratch,
 ) -> Result<bool, Memory>
+    requires right { AreRight terms.old known.old }
     requires premises { All (λ p. All (IsTerm symbols.now terms.old) p.now) premises.now }
     requires clause { All (IsTerm symbols.now terms.old) clause.now }
     ensures meets { IfOk result (λ yes. (ps : List (List Term)) (ts : List Term) → ReferToClauses symbols.now terms.old premises.now ps →
         ReferToAll symbols.now terms.old clause.now ts → IsTrue yes ↔ Asks row ps ts) }
+    ensures right { AreRight terms.old known.new }
     ensures same { terms.new ≡ terms.old }
 {
     match row.0 {
@@ -155,13 +190,13 @@ pub(crate) fn meets_argument_rule(
             if !premises.is_empty() {
                 return Ok(false);
             }
-            gives(symbols, terms, row, *whole, literals, arguments)
+            gives(known, symbols, terms, row, *whole, literals)
         }
         Given => {
             let Some(whole) = unit(premises) else {
                 return Ok(false);
             };
-            gives(symbols, terms, row, whole, clause, arguments)
+            gives(known, symbols, terms, row, whole, clause)
         }
     }
 }

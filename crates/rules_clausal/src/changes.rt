@@ -12,10 +12,11 @@ ghost use Rattle.term_parts.specs.Judging.{ReferToClauses};
 use crate::sorting::{has, has_each, has_no_repeat, sorted};
 use pair_pool::{Memory, Ref};
 use rule_model::Rule;
-use schema_match::{Slot, over, under_not};
+use schema_match::{Slot, over};
 use std::alloc::Global;
 use sym_table::Symbols;
 use term_model::Op;
+use term_parts::under_not;
 use term_pool::Terms;
 
 /// How the clause of a step has to stand to that of its one premise.

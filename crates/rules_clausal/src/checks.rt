@@ -1,6 +1,7 @@
 //! Whether a step meets the condition of its rule.
 
 ghost use Rattle.std.specs.Prelude.{◌≡◌, All, IfOk};
+ghost use Rattle.known_args.specs.Rows.{AreRight};
 ghost use Rattle.rule_model.specs.RuleSchemas.{MeetsClausal};
 ghost use Rattle.rule_model.specs.RuleNames.{kind_of};
 ghost use Rattle.rule_model.specs.declared.kinds.Family.{Family};
@@ -11,6 +12,7 @@ ghost use Rattle.term_pool.specs.Views.{IsTerm};
 use crate::argument_rules::{argument_rule, meets_argument_rule};
 use crate::changes::{change_of, meets_change};
 use crate::schemas::schema;
+use known_args::KnownArgs;
 use pair_pool::Memory;
 use rule_model::laws::conditions::{clausal_rules_ask_by_rows, conditions_keep_truth};
 use schema_match::{Scratch, is_instance};
@@ -23,23 +25,26 @@ use term_pool::Terms;
 /// Whether the clauses of premises and of a step are what its rule asks.
 fn meets_clausal(
     alloc: Global,
+    known: &mut KnownArgs,
     symbols: &Symbols,
     terms: &mut Terms<'_>,
     step: Step<'_>,
 ) -> Result<bool, Memory>
+    requires right { AreRight terms.old known.old }
     requires premises { All (λ p. All (IsTerm symbols.now terms.old) p.now) step.premises.now }
     requires clause { All (IsTerm symbols.now terms.old) step.clause.now }
     ensures meets { IfOk result (TestsClauses symbols.now terms.old step.entry (MeetsClausal step.entry.rule)) }
+    ensures right { AreRight terms.old known.new }
     ensures same { terms.new ≡ terms.old }
 {
     let premises = step.premises;
     let clause = step.clause;
-    let mut scratch: Scratch = SmallVec::new(alloc);
     if let Some(parts) = schema(step.rule) {
+        let mut scratch: Scratch = SmallVec::new(alloc);
         return is_instance(symbols, terms, parts, premises, clause, &mut scratch);
     }
     if let Some(row) = argument_rule(step.rule) {
-        return meets_argument_rule(symbols, terms, row, premises, clause, &mut scratch);
+        return meets_argument_rule(known, symbols, terms, row, premises, clause);
     }
     match change_of(step.rule) {
         Some(change) => meets_change(alloc, symbols, terms, change, premises, clause),
@@ -51,8 +56,8 @@ fn meets_clausal(
 /// connective, one that takes a premise apart, or contraction, reordering, weakening or tautology; those over `ite` are of
 /// another family. Both modes ask the same.
 ///
-/// Lists of up to 16 references take no memory, so a step of few literals takes none. Places no cell, and refuses out of
-/// memory alone.
+/// Lists of up to 16 references take no memory. The arguments of applications are read anew in each call: `meets_knowing`
+/// reads them once. Places no cell, and refuses out of memory alone.
 pub fn meets(
     alloc: Global,
     symbols: &Symbols,
@@ -66,8 +71,28 @@ pub fn meets(
     ensures sound { IfOk result (KeepsTruthOfEach (StandsForStep symbols.now terms.old step.entry)) }
     ensures same { terms.new ≡ terms.old }
 {
+    let mut known = KnownArgs::new(alloc);
+    meets_knowing(alloc, &mut known, symbols, terms, step)
+}
+
+/// The same, with the arguments of applications that are kept from step to step. What is kept stays right.
+pub fn meets_knowing(
+    alloc: Global,
+    known: &mut KnownArgs,
+    symbols: &Symbols,
+    terms: &mut Terms<'_>,
+    step: Step<'_>,
+) -> Result<Answer, Memory>
+    requires family { kind_of step.rule ≡ Kind.Judged Family.Clausal }
+    requires step { IsStepOf symbols.now terms.old step }
+    requires right { AreRight terms.old known.old }
+    ensures met { IfOk result (TellsEach (StandsForStep symbols.now terms.old step.entry)) }
+    ensures sound { IfOk result (KeepsTruthOfEach (StandsForStep symbols.now terms.old step.entry)) }
+    ensures right { AreRight terms.old known.new }
+    ensures same { terms.new ≡ terms.old }
+{
     conditions_keep_truth();
     clausal_rules_ask_by_rows();
-    let met = meets_clausal(alloc, symbols, terms, step)?;
+    let met = meets_clausal(alloc, known, symbols, terms, step)?;
     Ok(answer_of(met))
 }

@@ -10,4 +10,4 @@ mod checks;
 mod schemas;
 mod sorting;
 
-pub use checks::meets;
+pub use checks::{meets, meets_knowing};

@@ -1,15 +1,14 @@
 -- Two applications of one head.
-use Rattle.std.proofs.Common.{◌≡◌, ◌≢◌, ℕ, List, [], ◌∷◌, length, refl, sym, ap, ◌∙◌, subst, arith}
+use Rattle.std.proofs.Common.{◌≡◌, ◌≢◌, ℕ, List, [], refl, sym, ap, ◌∙◌, subst}
 use Rattle.rule_model.specs.Congruence.{Head, operator, function, applied}
-use Rattle.schema_match.specs.Arguments.{HasSoMany}
 use Rattle.sym_table.specs.Table.{Table, IsTable, IsLeaf}
 use Rattle.sym_table.proofs.Tables.{one_symbol}
 use Rattle.term_model.specs.Terms.{Fun, Term, numeral, variable, operation, call, let_in}
 use Rattle.term_model.proofs.Lists.{list_of-terms_of, terms_of-list_of}
 use Rattle.term_pool.specs.Reading.{arguments_of, IsLet}
-use Rattle.term_pool.specs.Views.{TermsView, RefersTo, ReferToAll, IsTerm}
-use Rattle.rules_congruence.specs.Applications.{leaf_of, HasHead, IsNoLetTerm, AreApplied}
-use Rattle.rules_congruence.proofs.Referring.{zip_none, none_zip}
+use Rattle.term_pool.specs.Views.{TermsView}
+use Rattle.rules_congruence.specs.Applications.{leaf_of, HasHead, AreCut, AreApplied}
+use Rattle.rules_congruence.specs.declared.uses.Uses.{Uses}
 
 pub no_let : (head : Head) (ts : List Term) (t : Term) → t ≡ applied head ts → IsLet t → ⊥
 no_let (operator op) ts t e is = subst IsLet e is
@@ -65,25 +64,6 @@ same_head s k (function g) (call f ts) leaf h =
     same_fun n m a b t u e f g = rw (e, f, g) refl
 same_head s k (function g) (let_in bs u) leaf h = absurd h
 
-pub refer_all : (s : Table) (v : TermsView) (rs : List ℕ) (ts : List Term) → ReferToAll s v rs ts → ReferToAll s v rs ts
-refer_all s v [] [] h = tt
-refer_all s v [] (t ∷ ts) h = absurd h
-refer_all s v (r ∷ rs) [] h = absurd h
-refer_all s v (r ∷ rs) (t ∷ ts) h = (h.0, refer_all s v rs ts h.1)
-
-pub refer_none : (s : Table) (v : TermsView) (rs : List ℕ) (ts : List Term) → rs ≡ [] → length ts ≡ 0 → ReferToAll s v rs ts
-refer_none s v rs [] empty none = rw empty tt
-refer_none s v rs (t ∷ ts) empty none = absurd (omega (arith, none))
-
--- a term that is no let has as many arguments as are counted
-pub so_many : (s : Table) (v : TermsView) (r n : ℕ) → IsNoLetTerm s v r → ((z : Table) (t : Term) → RefersTo z v r t → (IsLet t → ⊥) → n ≡ length (arguments_of t)) → HasSoMany v r n
-so_many s v r n is count = record {
-  symbols = s;
-  means = is.means;
-  refers = is.refers;
-  many = sym (count s is.means is.refers is.no_let);
-}
-
 pub head_is_no_let : (s : Table) (k : ℕ) (t : Term) → HasHead s k t → IsLet t → ⊥
 head_is_no_let s k (numeral n) h is = is
 head_is_no_let s k (variable x) h is = is
@@ -91,27 +71,18 @@ head_is_no_let s k (operation op ts) h is = is
 head_is_no_let s k (call f ts) h is = is
 head_is_no_let s k (let_in bs u) h is = h
 
-pub no_let_term : (s : Table) (v : TermsView) (r k : ℕ) → (is : IsTerm s v r) → HasHead s k is.means → IsNoLetTerm s v r
-no_let_term s v r k is head = record { means = is.means; refers = is.refers; no_let = head_is_no_let s k is.means head }
-
-pub no_argument : (s : Table) (v : TermsView) (rs : List ℕ) (head : Head) (ts : List Term) (t : Term) → length rs ≡ 0 → t ≡ applied head ts → ReferToAll s v rs (arguments_of t) → ts ≡ []
-no_argument s v [] head ts t empty e refer = sym (arguments_are head ts t e) ∙ none_zip (RefersTo s v) (arguments_of t) refer
-no_argument s v (r ∷ rs) head ts t empty e refer = absurd (omega (arith, empty))
-
-pub are_applied : (s : Table) (v : TermsView) (k : ℕ) (ps qs : List ℕ) (t u : Term) → ¬ (length ps ≡ 0) → HasHead s k t → HasHead s k u → ReferToAll s v ps (arguments_of t) → ReferToAll s v qs (arguments_of u) → AreApplied s v k ps qs t u
-are_applied s v k ps qs t u some left right lefts rights =
-    let arguments : arguments_of t ≢ [] = λ e. some (ap length (zip_none (RefersTo s v) ps (subst (ReferToAll s v ps) e lefts))) in
-    let is = has_applied s k t left arguments in
+pub are_applied : (s : Table) (v : TermsView) (uses : Uses) (k : ℕ) (ps qs : List ℕ) (t u : Term) → arguments_of t ≢ [] → HasHead s k t → HasHead s k u → AreCut s v uses ps qs (arguments_of t) (arguments_of u) → AreApplied s v uses k ps qs t u
+are_applied s v uses k ps qs t u some left right cut =
+    let is = has_applied s k t left some in
     record {
       head = is.head;
       ts = arguments_of t;
       us = arguments_of u;
       leaf = is.leaf;
-      some = arguments;
+      some = some;
       left_is = is.is;
       right_is = same_head s k is.head u is.leaf right;
-      left = lefts;
-      right = rights;
+      cut = cut;
     }
 
 pub one_head : (s : Table) (j k : ℕ) (head : Head) (ts us : List Term) (t u : Term) → IsTable s → t ≡ applied head ts → u ≡ applied head us → HasHead s j t → HasHead s k u → j ≢ k → ⊥

@@ -12,6 +12,8 @@ use Rattle.term_pool.specs.Views.{TermsView, RefersTo, IsTerm, ReferToAll}
 use Rattle.rules_congruence.specs.Applications.{leaf_of, AreApplied}
 use Rattle.rules_congruence.specs.Steps.{AreTerms}
 use Rattle.rules_congruence.specs.Uses.{ArePairs}
+use Rattle.rules_congruence.specs.declared.uses.Uses.{Uses}
+use Rattle.rules_congruence.proofs.TailLemmas.{uncut_of_two, uncut_to_two}
 use Rattle.term_model.proofs.Zips.{zip_at, zip_length}
 
 pub not_as_long : (s : Table) (v : TermsView) (P : Term → Term → Type 0) (ls rs : List ℕ) (ts us : List Term) → length ls ≢ length rs → ReferToAll s v ls ts → ReferToAll s v rs us → ¬ AllZip P ts us
@@ -80,17 +82,19 @@ two_references s v (p ∷ []) a b h = absurd h.1
 two_references s v (p ∷ (q ∷ [])) a b h = (p, q, refl)
 two_references s v (p ∷ (q ∷ (r ∷ rs))) a b h = absurd h.1.1
 
-pub not_crossed : (s : Table) (v : TermsView) (k : ℕ) (ls rs : List ℕ) (t u : Term) (ps : List (List Term)) (a : AreApplied s v k ls rs t u) → ((pairs : (ℕ × ℕ) × (ℕ × ℕ)) → ¬ ArePairs s k ls rs pairs) → ¬ AreCrossed a.head ps a.ts a.us
-not_crossed s v k ls rs t u ps a none h =
-    let left = two_references s v ls h.a h.b (subst (ReferToAll s v ls) h.one a.left) in
-    let right = two_references s v rs h.c h.d (subst (ReferToAll s v rs) h.other a.right) in
+pub not_crossed : (s : Table) (v : TermsView) (uses : Uses) (k : ℕ) (ls rs : List ℕ) (t u : Term) (ps : List (List Term)) (a : AreApplied s v uses k ls rs t u) → ((pairs : (ℕ × ℕ) × (ℕ × ℕ)) → ¬ ArePairs s k ls rs pairs) → ¬ AreCrossed a.head ps a.ts a.us
+not_crossed s v uses k ls rs t u ps a none h =
+    let whole = uncut_to_two s v uses ls rs a.ts a.us a.cut (ap length h.one) in
+    let left = two_references s v ls h.a h.b (subst (ReferToAll s v ls) h.one whole.0) in
+    let right = two_references s v rs h.c h.d (subst (ReferToAll s v rs) h.other whole.1) in
     none ((left.0, left.1), (right.0, right.1))
     (record { equal = subst (λ x. IsLeaf s k (leaf_of x)) h.equal a.leaf; left = left.2; right = right.2 })
 
-pub crossed_by : {P : Type 0} (s : Table) (v : TermsView) (k : ℕ) (ls rs : List ℕ) (t u : Term) (ps : List (List Term)) (a : AreApplied s v k ls rs t u) (pairs : (ℕ × ℕ) × (ℕ × ℕ)) → ArePairs s k ls rs pairs → ((x y z w : Term) → RefersTo s v pairs.0.0 x → RefersTo s v pairs.0.1 y → RefersTo s v pairs.1.0 z → RefersTo s v pairs.1.1 w → P ↔ (IsLinked ps x w × IsLinked ps y z)) → P ↔ AreCrossed a.head ps a.ts a.us
-crossed_by s v k ls rs t u ps a pairs are linked =
-    let left = two_terms s v ls pairs.0 a.ts are.left a.left in
-    let right = two_terms s v rs pairs.1 a.us are.right a.right in
+pub crossed_by : {P : Type 0} (s : Table) (v : TermsView) (uses : Uses) (k : ℕ) (ls rs : List ℕ) (t u : Term) (ps : List (List Term)) (a : AreApplied s v uses k ls rs t u) (pairs : (ℕ × ℕ) × (ℕ × ℕ)) → ArePairs s k ls rs pairs → ((x y z w : Term) → RefersTo s v pairs.0.0 x → RefersTo s v pairs.0.1 y → RefersTo s v pairs.1.0 z → RefersTo s v pairs.1.1 w → P ↔ (IsLinked ps x w × IsLinked ps y z)) → P ↔ AreCrossed a.head ps a.ts a.us
+crossed_by s v uses k ls rs t u ps a pairs are linked =
+    let whole = uncut_of_two s v uses ls rs a.ts a.us a.cut (ap length are.left) in
+    let left = two_terms s v ls pairs.0 a.ts are.left whole.0 in
+    let right = two_terms s v rs pairs.1 a.us are.right whole.1 in
     let by = linked left.one left.two right.one right.two left.one_refers left.two_refers right.one_refers right.two_refers in (
       λ h. record {
         a = left.one;

@@ -8,7 +8,9 @@ pub mod WayLemmas
 pub mod Carrying
 pub mod Literals
 pub mod ApplicationLemmas
+pub mod CutLemmas
 pub mod UseLemmas
+pub mod TailLemmas
 pub mod CongruenceLemmas
 pub mod TogetherLemmas
 pub mod PredicateLemmas

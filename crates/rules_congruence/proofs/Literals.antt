@@ -8,7 +8,7 @@ use Rattle.sym_table.specs.Table.{Table}
 use Rattle.term_model.specs.Flips.{equality}
 use Rattle.term_model.specs.Terms.{Term, not_of}
 use Rattle.term_pool.specs.Views.{TermsView, RefersTo, IsTerm, ReferToAll}
-use Rattle.rules_congruence.specs.Clauses.{clauses_of}
+use Rattle.rules_congruence.specs.Clauses.{lists_of}
 use Rattle.term_parts.specs.Parts.{AreSidesOf}
 use Rattle.rules_congruence.specs.Sides.{AreEqualitiesOf, nothing, one, IsGiven, AreDenied}
 use Rattle.rules_congruence.specs.Steps.{AreTerms}
@@ -113,7 +113,7 @@ denies_none condition of_one ps ts front t is fails h =
     fails h.sides (same_last front (denials h.sides) t last.0 e).0
 
 -- a step that has a premise or no literal
-pub not_denying : (s : Table) (v : TermsView) (condition : List (List Term) → List Term → Type 0) → IsOfOne condition → (premises : List (Bor (List ℕ))) (clause : List ℕ) (ps : List (List Term)) (ts : List Term) → ((front : List ℕ) (r : ℕ) → clauses_of premises ≡ [] → clause ≢ front ++ r ∷ []) → ReferToClauses s v premises ps → ReferToAll s v clause ts → ¬ Denies condition ps ts
+pub not_denying : (s : Table) (v : TermsView) (condition : List (List Term) → List Term → Type 0) → IsOfOne condition → (premises : List (Bor (List ℕ))) (clause : List ℕ) (ps : List (List Term)) (ts : List Term) → ((front : List ℕ) (r : ℕ) → lists_of premises ≡ [] → clause ≢ front ++ r ∷ []) → ReferToClauses s v premises ps → ReferToAll s v clause ts → ¬ Denies condition ps ts
 not_denying s v condition of_one premises clause ps ts fails refer_ps refer_ts h =
     let last = of_one (units h.sides) h.rest h.given in
     let e : ts ≡ denials h.sides ++ last.0 ∷ [] = h.literals ∙ ap (λ xs. denials h.sides ++ xs) last.1 in

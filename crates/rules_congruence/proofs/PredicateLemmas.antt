@@ -16,7 +16,7 @@ use Rattle.term_model.proofs.Sorting.{one_sort, when-same}
 use Rattle.term_parts.specs.Parts.{AreSidesOf}
 use Rattle.term_pool.specs.Views.{TermsView, RefersTo, IsTerm, ReferToAll}
 use Rattle.term_pool.proofs.References.{AreOne}
-use Rattle.rules_congruence.specs.Clauses.{clauses_of}
+use Rattle.rules_congruence.specs.Clauses.{lists_of}
 use Rattle.rules_congruence.specs.Predicates.{GivesOther, GivesPredicate}
 use Rattle.rules_congruence.specs.declared.uses.Uses.{Uses}
 use Rattle.rules_congruence.specs.Sides.{IsGiven, AreDenied}
@@ -199,7 +199,7 @@ denies_two_none condition of_two ps ts before t u is fails h =
     let second = same_last (before ++ t ∷ []) (denials h.sides ++ last.0 ∷ []) u last.1 (sym is ∙ last.3) in
     fails h.sides (same_last before (denials h.sides) t last.0 second.0).0
 
-pub not_denying_two : (s : Table) (v : TermsView) (condition : List (List Term) → List Term → Type 0) → IsOfTwo condition → (premises : List (Bor (List ℕ))) (clause : List ℕ) (ps : List (List Term)) (ts : List Term) → ((front : List ℕ) (q r : ℕ) → clauses_of premises ≡ [] → clause ≢ (front ++ q ∷ []) ++ r ∷ []) → ReferToClauses s v premises ps → ReferToAll s v clause ts → ¬ Denies condition ps ts
+pub not_denying_two : (s : Table) (v : TermsView) (condition : List (List Term) → List Term → Type 0) → IsOfTwo condition → (premises : List (Bor (List ℕ))) (clause : List ℕ) (ps : List (List Term)) (ts : List Term) → ((front : List ℕ) (q r : ℕ) → lists_of premises ≡ [] → clause ≢ (front ++ q ∷ []) ++ r ∷ []) → ReferToClauses s v premises ps → ReferToAll s v clause ts → ¬ Denies condition ps ts
 not_denying_two s v condition of_two premises clause ps ts fails refer_ps refer_ts h =
     let last = rest_of condition of_two ps ts h in
     let second = last_of clause (denials h.sides ++ last.0 ∷ []) last.1 (subst (ReferToAll s v clause) last.3 refer_ts) in

@@ -1,5 +1,5 @@
 -- Arguments that hang together, over references and over terms.
-use Rattle.std.proofs.Common.{◌≡◌, ◌≢◌, ◌↔◌, ◌⊎◌, inl, inr, ℕ, Bool, true, false, List, [], ◌∷◌, refl, sym, ap, ◌∙◌, subst}
+use Rattle.std.proofs.Common.{◌≡◌, ◌≢◌, ◌↔◌, ◌⊎◌, inl, inr, ℕ, Bool, true, false, List, [], ◌∷◌, length, refl, sym, ap, ◌∙◌, subst}
 use Rattle.std.specs.List.{AllZip}
 use Rattle.std.proofs.lemmas.List.Elements.{All-nil, All-cons}
 use Rattle.rule_model.specs.Congruence.{Head, operator, function, applied, AreDifferences, ArePlaces, AreCongruent}
@@ -14,8 +14,11 @@ use Rattle.rules_congruence.specs.declared.links.Link.{Link}
 use Rattle.rules_congruence.specs.Pairs.{AreUsed}
 use Rattle.rules_congruence.specs.Sides.{ReferToPair, ReferToPairs, AreEqualitiesOf, nothing, one, other, IsGiven}
 use Rattle.rules_congruence.specs.Steps.{AreTerms}
+use Rattle.rules_congruence.specs.Uses.{Together}
+use Rattle.rules_congruence.specs.declared.uses.Uses.{Uses}
 use Rattle.rules_congruence.proofs.ApplicationLemmas.{arguments_are}
 use Rattle.rules_congruence.proofs.Carrying.{sides_both, ends_told}
+use Rattle.rules_congruence.proofs.TailLemmas.{together_length}
 use Rattle.rules_congruence.proofs.TurningLemmas.{iff_trans}
 
 -- the table tells the sides of the premises
@@ -177,8 +180,8 @@ same_head (operator o) (function g) ts us e = absurd (cc)
 same_head (function f) (operator p) ts us e = absurd (cc)
 same_head (function f) (function g) ts us e = let h : f ≡ g = cc in ap function h
 
-pub congruent_by : {P : Type 0} (s : Table) (v : TermsView) (k : ℕ) (ls rs : List ℕ) (t u : Term) (ps : List (List Term)) (how : Head → List (List Term) → List Term → List Term → Type 0) (a : AreApplied s v k ls rs t u) → P ↔ how a.head ps a.ts a.us → P ↔ AreCongruent how ps t u
-congruent_by s v k ls rs t u ps how a by = (
+pub congruent_by : {P : Type 0} (s : Table) (v : TermsView) (uses : Uses) (k : ℕ) (ls rs : List ℕ) (t u : Term) (ps : List (List Term)) (how : Head → List (List Term) → List Term → List Term → Type 0) (a : AreApplied s v uses k ls rs t u) → P ↔ how a.head ps a.ts a.us → P ↔ AreCongruent how ps t u
+congruent_by s v uses k ls rs t u ps how a by = (
   λ h. record { head = a.head; ts = a.ts; us = a.us; some = a.some; left_is = a.left_is; right_is = a.right_is; arguments = by.0 h },
   λ h.
       let head : h.head ≡ a.head = same_head h.head a.head h.ts a.ts (sym h.left_is ∙ a.left_is) in
@@ -187,5 +190,6 @@ congruent_by s v k ls rs t u ps how a by = (
       by.1 (subst (λ x. how x ps a.ts a.us) head (subst (λ x. how h.head ps x a.us) ts (subst (λ x. how h.head ps h.ts x) us h.arguments))),
 )
 
-pub not_congruent : (t u : Term) (ps : List (List Term)) (how : Head → List (List Term) → List Term → List Term → Type 0) → ((head : Head) (ts us : List Term) → ts ≢ [] → t ≡ applied head ts → u ≢ applied head us) → ¬ AreCongruent how ps t u
-not_congruent t u ps how fails h = fails h.head h.ts h.us h.some h.left_is h.right_is
+pub not_congruent : (t u : Term) (ps : List (List Term)) (uses : Uses) → ((head : Head) (ts us : List Term) → ts ≢ [] → t ≡ applied head ts → u ≡ applied head us → length ts ≢ length us) → ¬ AreCongruent (Together uses) ps t u
+not_congruent t u ps uses fails h =
+    fails h.head h.ts h.us h.some h.left_is h.right_is (together_length uses h.head ps h.ts h.us h.arguments)

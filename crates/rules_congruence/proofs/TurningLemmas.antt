@@ -10,7 +10,7 @@ use Rattle.term_pool.specs.Views.{TermsView, RefersTo, IsTerm, ReferToAll}
 use Rattle.term_pool.proofs.References.{AreOne}
 use Rattle.rule_model.specs.Clausal.{as_it_stands}
 use Rattle.rule_model.specs.Congruence.{TurnsRound, IsReflexive, IsSymmetric}
-use Rattle.rules_congruence.specs.Clauses.{IsOneUnit, IsLone, clauses_of}
+use Rattle.rules_congruence.specs.Clauses.{IsOneUnit, IsLone, lists_of}
 use Rattle.rules_congruence.specs.Signs.{sign_of}
 use Rattle.term_parts.specs.Parts.{AreSidesOf}
 use Rattle.rules_congruence.specs.Steps.{AreTerms, AreClauses}
@@ -65,7 +65,7 @@ turned_sides_by s v p b t sides turned = (
 )
 
 -- the clauses of the premises, in both forms
-pub clauses_refer : (s : Table) (v : TermsView) (premises : List (Bor (List ℕ))) (ps : List (List Term)) → ReferToClauses s v premises ps → AllZip (ReferToAll s v) (clauses_of premises) ps
+pub clauses_refer : (s : Table) (v : TermsView) (premises : List (Bor (List ℕ))) (ps : List (List Term)) → ReferToClauses s v premises ps → AllZip (ReferToAll s v) (lists_of premises) ps
 clauses_refer s v [] [] h = tt
 clauses_refer s v [] (p ∷ ps) h = absurd h
 clauses_refer s v (r ∷ premises) [] h = absurd h
@@ -90,11 +90,11 @@ no_literal_term s v rs ts t none refer e =
 pub literal_term : (s : Table) (v : TermsView) (rs : List ℕ) (r : ℕ) (ts : List Term) → rs ≡ r ∷ [] → ReferToAll s v rs ts → IsBeside (RefersTo s v) r ts
 literal_term s v rs r ts is refer = one_zip (RefersTo s v) r ts (rw is at refer)
 
-pub none_premised : (s : Table) (v : TermsView) (premises : List (Bor (List ℕ))) (ps : List (List Term)) → clauses_of premises ≡ [] → ReferToClauses s v premises ps → ps ≡ []
+pub none_premised : (s : Table) (v : TermsView) (premises : List (Bor (List ℕ))) (ps : List (List Term)) → lists_of premises ≡ [] → ReferToClauses s v premises ps → ps ≡ []
 none_premised s v premises ps e refer = none_zip (ReferToAll s v) ps (rw e at (clauses_refer s v premises ps refer))
 
-pub premised_none : (s : Table) (v : TermsView) (premises : List (Bor (List ℕ))) (ps : List (List Term)) → ps ≡ [] → ReferToClauses s v premises ps → clauses_of premises ≡ []
-premised_none s v premises ps e refer = zip_none (ReferToAll s v) (clauses_of premises) (rw e at (clauses_refer s v premises ps refer))
+pub premised_none : (s : Table) (v : TermsView) (premises : List (Bor (List ℕ))) (ps : List (List Term)) → ps ≡ [] → ReferToClauses s v premises ps → lists_of premises ≡ []
+premised_none s v premises ps e refer = zip_none (ReferToAll s v) (lists_of premises) (rw e at (clauses_refer s v premises ps refer))
 
 -- symm and not_symm
 pub turns_by : (s : Table) (v : TermsView) (denied b : Bool) (premises : List (Bor (List ℕ))) (clause : List ℕ) (old new : ℕ) (ps : List (List Term)) (ts : List Term) → IsOneUnit premises old → clause ≡ new ∷ [] → ReferToClauses s v premises ps → ReferToAll s v clause ts → ((t u : Term) → RefersTo s v old t → RefersTo s v new u → IsTrue b ↔ AreTurned (sign_of denied) t u) → IsTrue b ↔ TurnsRound (sign_of denied) ps ts

@@ -1,15 +1,20 @@
-//! Two applications of one head, and their arguments.
+//! Two applications of one head, and their arguments up to those that both end with.
 
-ghost use Rattle.std.specs.Prelude.{◌≡◌, ◌≢◌, [], List, IfOk, OnOk, IfSome, IfNone};
+ghost use Rattle.std.specs.Prelude.{◌≡◌, ◌≢◌, ◌<◌, [], List, length, IsTrue, IfOk, IfSome, IfNone};
 ghost use Rattle.std.specs.Bool.{OnTrue, OnFalse};
+ghost use Rattle.pair_pool.specs.Views.{IsKnown};
 ghost use Rattle.rule_model.specs.Congruence.{Head, applied};
+ghost use Rattle.schema_match.specs.ArgumentCells.{IsListOf};
+ghost use Rattle.sym_table.specs.Table.{Table, IsTable};
 ghost use Rattle.term_model.specs.Terms.{Term};
-ghost use Rattle.term_pool.specs.Views.{IsTerm, RefersTo, ReferToAll};
+ghost use Rattle.term_pool.specs.Views.{IsTerm, RefersTo};
 ghost use Rattle.term_pool.specs.Reading.{arguments_of, IsLet};
-ghost use Rattle.rules_congruence.specs.Applications.{AreApplied, HasHead, IsNoLetTerm};
+ghost use Rattle.rules_congruence.specs.Applications.{AreApplied, AreCut, AreLists, HasHead};
+ghost use Rattle.rules_congruence.specs.declared.uses.Uses.TheVariants as Uses;
 
+use crate::uses::Uses;
 use pair_pool::{Memory, Ref};
-use schema_match::{Scratch, read_arguments};
+use schema_match::{Scratch, push};
 use smallvec::SmallVec;
 use std::alloc::Global;
 use sym_table::Symbols;
@@ -47,20 +52,69 @@ fn common_head(symbols: &Symbols, terms: &mut Terms<'_>, left: Ref, right: Ref) 
     Some(head)
 }
 
-/// Puts the arguments of an application alone in a list, in order.
-fn load(symbols: &Symbols, terms: &mut Terms<'_>, r: Ref, into: &mut Scratch) -> Result<(), Memory>
-    requires { IsNoLetTerm symbols.now terms.old r }
-    ensures arguments { OnOk result ((t : Term) → RefersTo symbols.now terms.old r t → (IsLet t → ⊥) →
-        ReferToAll symbols.now terms.old into.new.items (arguments_of t)) }
+/// The list of the arguments of an application, where it has some.
+fn list_of(terms: &mut Terms<'_>, r: Ref) -> Option<Ref>
+    requires { IsKnown terms.old.pass r }
+    ensures list { IfSome result (λ list. (s : Table) (t : Term) → RefersTo s terms.old r t → (IsLet t → ⊥) →
+        IsListOf s terms.old list (arguments_of t)) }
+    ensures some { IfSome result (λ list. (s : Table) (t : Term) → RefersTo s terms.old r t → (IsLet t → ⊥) → arguments_of t ≢ []) }
+    ensures none { IfNone result ((s : Table) (t : Term) → RefersTo s terms.old r t → (IsLet t → ⊥) → arguments_of t ≡ []) }
     ensures same { terms.new ≡ terms.old }
 {
-    symbols.leaves_differ();
-    let count = terms.arg_count(r);
-    if count == 0 {
-        into.clear();
-        return Ok(());
+    terms.one_to_one();
+    terms.parts_of_trees();
+    if r.is_leaf() {
+        return None;
     }
-    read_arguments(terms, r, count, into)
+    Some(terms.cell_parts(r).1)
+}
+
+/// Whether what two lists have in common at their ends may be left out after so many items.
+fn may_stop(uses: Uses, count: usize) -> bool
+    ensures { IsTrue result → (uses ≢ Uses.Each) × (2 < count) }
+{
+    match uses {
+        Uses::Each => false,
+        Uses::Any | Uses::Differing => 2 < count,
+    }
+}
+
+/// Reads two lists in step, up to what they have in common at their ends, and returns whether they are as long as one
+/// another. Lists that are equal from some place on are one reference from there on.
+fn read_both(
+    terms: &mut Terms<'_>,
+    uses: Uses,
+    lists: (Ref, Ref),
+    left: &mut Scratch,
+    right: &mut Scratch,
+) -> Result<bool, Memory>
+    requires { AreLists terms.old lists.0 lists.1 }
+    ensures cut { IfOk result (λ yes. OnTrue yes ((s : Table) (ts us : List Term) → IsTable s → IsListOf s terms.old lists.0 ts →
+        IsListOf s terms.old lists.1 us → AreCut s terms.old uses left.new.items right.new.items ts us)) }
+    ensures other { IfOk result (λ yes. OnFalse yes ((s : Table) (ts us : List Term) → IsListOf s terms.old lists.0 ts →
+        IsListOf s terms.old lists.1 us → length ts ≢ length us)) }
+    ensures same { terms.new ≡ terms.old }
+{
+    terms.one_to_one();
+    terms.terms_at();
+    left.clear();
+    right.clear();
+    let (mut first, mut second) = lists;
+    'places: while !first.is_leaf() {
+        if second.is_leaf() {
+            return Ok(false);
+        }
+        if first.number() == second.number() && may_stop(uses, left.len()) {
+            return Ok(true);
+        }
+        let (one, rest) = terms.cell_parts(first);
+        let (other, end) = terms.cell_parts(second);
+        push(left, one)?;
+        push(right, other)?;
+        first = rest;
+        second = end;
+    }
+    Ok(second.is_leaf())
 }
 
 impl Applications {
@@ -73,10 +127,11 @@ impl Applications {
         }
     }
 
-    /// Reads two terms as applications of one head to one argument or more, and returns whether they are. They are read in
-    /// place, since lists with room of their own are dear to move.
+    /// Reads two terms as applications of one head to one argument or more, as many on each side, and returns whether they
+    /// are. They are read in place, since lists with room of their own are dear to move.
     pub(crate) fn read(
         &mut self,
+        uses: Uses,
         symbols: &Symbols,
         terms: &mut Terms<'_>,
         left: Ref,
@@ -85,9 +140,9 @@ impl Applications {
         requires left { IsTerm symbols.now terms.old left }
         requires right { IsTerm symbols.now terms.old right }
         ensures applied { IfOk result (λ yes. OnTrue yes ((t u : Term) → RefersTo symbols.now terms.old left t → RefersTo symbols.now terms.old right u →
-            AreApplied symbols.now terms.old self.new.head self.new.left.items self.new.right.items t u)) }
+            AreApplied symbols.now terms.old uses self.new.head self.new.left.items self.new.right.items t u)) }
         ensures other { IfOk result (λ yes. OnFalse yes ((t u : Term) → RefersTo symbols.now terms.old left t → RefersTo symbols.now terms.old right u →
-            (head : Head) (ts us : List Term) → ts ≢ [] → t ≡ applied head ts → u ≢ applied head us)) }
+            (head : Head) (ts us : List Term) → ts ≢ [] → t ≡ applied head ts → u ≡ applied head us → length ts ≢ length us)) }
         ensures same { terms.new ≡ terms.old }
     {
         symbols.leaves_differ();
@@ -95,11 +150,18 @@ impl Applications {
             return Ok(false);
         };
         self.head = head;
-        load(symbols, terms, left, &mut self.left)?;
-        if self.left.is_empty() {
+        let Some(first) = list_of(terms, left) else {
             return Ok(false);
-        }
-        load(symbols, terms, right, &mut self.right)?;
-        Ok(true)
+        };
+        let Some(second) = list_of(terms, right) else {
+            return Ok(false);
+        };
+        read_both(
+            terms,
+            uses,
+            (first, second),
+            &mut self.left,
+            &mut self.right,
+        )
     }
 }

@@ -1,7 +1,7 @@
 //! Clauses of one literal, and steps of one premise or none.
 
 ghost use Rattle.std.specs.Prelude.{◌≡◌, ◌≢◌, ◌++◌, ◌<◌, ℕ, List, [], ◌∷◌, length, slice_index_or, IfSome, IfNone};
-ghost use Rattle.rules_congruence.specs.Clauses.{IsOneUnit, IsNoUnit, IsLone, clauses_of};
+ghost use Rattle.rules_congruence.specs.Clauses.{IsOneUnit, IsNoUnit, IsLone, lists_of};
 
 use pair_pool::Ref;
 use schema_match::Slot;
@@ -41,8 +41,8 @@ pub(crate) fn lone(premises: &[&[Ref]], clause: &[Ref]) -> Option<Ref>
 
 /// The literals of a step that has no premise: those before the last, and the last one.
 pub(crate) fn denying<'a>(premises: &[&[Ref]], clause: &'a [Ref]) -> Option<(&'a [Ref], Ref)>
-    ensures split { IfSome result (λ p. (clauses_of premises.now ≡ []) × (clause.now ≡ p.0.now ++ p.1 ∷ [])) }
-    ensures other { IfNone result ((front : List ℕ) (r : ℕ) → clauses_of premises.now ≡ [] → clause.now ≢ front ++ r ∷ []) }
+    ensures split { IfSome result (λ p. (lists_of premises.now ≡ []) × (clause.now ≡ p.0.now ++ p.1 ∷ [])) }
+    ensures other { IfNone result ((front : List ℕ) (r : ℕ) → lists_of premises.now ≡ [] → clause.now ≢ front ++ r ∷ []) }
 {
     if !premises.is_empty() {
         return None;
@@ -58,8 +58,8 @@ pub(crate) fn denying_two<'a>(
     premises: &[&[Ref]],
     clause: &'a [Ref],
 ) -> Option<(&'a [Ref], Ref, Ref)>
-    ensures split { IfSome result (λ p. (clauses_of premises.now ≡ []) × (clause.now ≡ (p.0.now ++ p.1 ∷ []) ++ p.2 ∷ [])) }
-    ensures other { IfNone result ((front : List ℕ) (q r : ℕ) → clauses_of premises.now ≡ [] → clause.now ≢ (front ++ q ∷ []) ++ r ∷ []) }
+    ensures split { IfSome result (λ p. (lists_of premises.now ≡ []) × (clause.now ≡ (p.0.now ++ p.1 ∷ []) ++ p.2 ∷ [])) }
+    ensures other { IfNone result ((front : List ℕ) (q r : ℕ) → lists_of premises.now ≡ [] → clause.now ≢ (front ++ q ∷ []) ++ r ∷ []) }
 {
     let Some(split) = denying(premises, clause) else {
         return None;

@@ -10,6 +10,7 @@ ghost use Rattle.rules_congruence.specs.Applications.{AreApplied};
 ghost use Rattle.rules_congruence.specs.Links.{link_rank, AreSmall, TellsSides};
 ghost use Rattle.rules_congruence.specs.Steps.{AreTerms};
 ghost use Rattle.rules_congruence.specs.Uses.{ArePairs};
+ghost use Rattle.rules_congruence.specs.declared.uses.Uses.TheVariants as Uses;
 
 use crate::applications::Applications;
 use crate::clauses::item;
@@ -145,7 +146,8 @@ pub(crate) fn hang(
     requires lefts { AreTerms symbols.now terms.old both.now.left.items }
     requires rights { AreTerms symbols.now terms.old both.now.right.items }
     ensures linked { IfOk result (λ yes. (ps : List (List Term)) (t u : Term) → TellsSides symbols.now terms.old links.now ps →
-        (a : AreApplied symbols.now terms.old both.now.head both.now.left.items both.now.right.items t u) → IsTrue yes ↔ AreLinked a.head ps a.ts a.us) }
+        (a : AreApplied symbols.now terms.old Uses.Any both.now.head both.now.left.items both.now.right.items t u) →
+        IsTrue yes ↔ AreLinked a.head ps a.ts a.us) }
     ensures same { terms.new ≡ terms.old }
 {
     if are_linked(alloc, symbols, terms, links, &both.left, &both.right)? {

@@ -46,7 +46,7 @@ fn hang_by(
     requires lefts { AreTerms symbols.now terms.old both.now.left.items }
     requires rights { AreTerms symbols.now terms.old both.now.right.items }
     ensures together { IfOk result (λ yes. (ps : List (List Term)) (t u : Term) → IsGiven symbols.now terms.old given.now.pairs.items given.now.only ps →
-        (a : AreApplied symbols.now terms.old both.now.head both.now.left.items both.now.right.items t u) →
+        (a : AreApplied symbols.now terms.old Uses.Any both.now.head both.now.left.items both.now.right.items t u) →
         IsTrue yes ↔ Together Uses.Any a.head ps a.ts a.us) }
     ensures same { terms.new ≡ terms.old }
 {
@@ -72,7 +72,8 @@ fn together(
     requires lefts { AreTerms symbols.now terms.old both.now.left.items }
     requires rights { AreTerms symbols.now terms.old both.now.right.items }
     ensures together { IfOk result (λ yes. (ps : List (List Term)) (t u : Term) → IsGiven symbols.now terms.old given.now.pairs.items given.now.only ps →
-        (a : AreApplied symbols.now terms.old both.now.head both.now.left.items both.now.right.items t u) → IsTrue yes ↔ Together uses a.head ps a.ts a.us) }
+        (a : AreApplied symbols.now terms.old uses both.now.head both.now.left.items both.now.right.items t u) →
+        IsTrue yes ↔ Together uses a.head ps a.ts a.us) }
     ensures same { terms.new ≡ terms.old }
 {
     symbols.leaves_differ();
@@ -100,7 +101,7 @@ pub(crate) fn are_congruent(
     ensures same { terms.new ≡ terms.old }
 {
     let mut both = Applications::none(alloc);
-    if !both.read(symbols, terms, sides.0, sides.1)? {
+    if !both.read(uses, symbols, terms, sides.0, sides.1)? {
         return Ok(false);
     }
     together(alloc, uses, symbols, terms, given, &both)

@@ -1,4 +1,4 @@
--- The arguments of an application, read from the cells of their list.
+-- Cited by crates above. The arguments of an application, read from the cells of their list.
 use Rattle.std.proofs.Common.{◌≡◌, ℕ, ◌+◌, ◌<◌, ◌≤◌, List, [], ◌∷◌, ◌++◌, length, take, drop, get_or, sym, subst, arith, add-one, drop-cons}
 use Rattle.std.proofs.lemmas.List.{take_more, take_all}
 use Rattle.pair_pool.specs.Trees.{Tree, leaf, cell}

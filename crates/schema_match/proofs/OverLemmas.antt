@@ -1,19 +1,17 @@
 -- Cited by crates above. What a term is an application of.
-use Rattle.std.proofs.Common.{◌≡◌, ◌<◌, ℕ, suc, length, Bool, true, false, not, nat_eq, Option, Some, None, refl, ◌∙◌, ap, subst, arith}
-use Rattle.std.specs.List.{slice_get}
+use Rattle.std.proofs.Common.{◌≡◌, ℕ, length, Bool, true, false, not, nat_eq, Option, Some, None, refl, ◌∙◌, ap, subst}
 use Rattle.std.specs.Option.{IfSome, IfNone, option_eq}
 use Rattle.std.proofs.lemmas.Bool.{eqb-true, eq-eqb}
 use Rattle.sym_table.specs.Table.{Table}
 use Rattle.term_model.specs.declared.symbols.Op.{Op}
-use Rattle.term_model.specs.Terms.{Term, Terms, numeral, variable, operation, call, let_in, list_of, not_of}
-use Rattle.term_pool.specs.Reading.{arguments_of, IsLet, HasArgument}
+use Rattle.term_model.specs.Terms.{Term, Terms, numeral, variable, operation, call, let_in, list_of}
+use Rattle.term_pool.specs.Reading.{arguments_of, IsLet}
 use Rattle.term_pool.specs.Views.{TermsView, RefersTo, IsTerm}
 use Rattle.schema_match.specs.declared.signs.Sign.TheVariants.{Negation}
 use Rattle.schema_match.specs.Arguments.{HasSoMany}
-use Rattle.term_parts.specs.Parts.{IsOver}
+use Rattle.term_parts.specs.Parts.{IsOver, StandsUnder}
 use Rattle.term_parts.proofs.PartLemmas.{one_count}
 use Rattle.schema_match.specs.Signs.{IsSigned}
-use Rattle.schema_match.proofs.Counts.{one}
 
 -- an application to so many arguments
 pub over_term : (op : Op) (n : ℕ) (t : Term) → IsOver op n t → (us : Terms) × (t ≡ operation op us) × (length (list_of us) ≡ n) × (arguments_of t ≡ list_of us) × (IsLet t → ⊥)
@@ -40,31 +38,6 @@ so_many s v r n op (Some m) some same t refers =
     double true e = refl
     double false e = absurd cc
 
--- a negation
-pub over_not : (t : Term) → IsOver Op.Not 1 t → (u : Term) × (t ≡ not_of u)
-over_not (operation o ts) h =
-    (let is = one ts h.1 in
-    (is.0, ap (λ o. operation o ts) h.0 ∙ ap (operation Op.Not) is.1))
-over_not (numeral z) h = absurd h
-over_not (variable x) h = absurd h
-over_not (call f ts) h = absurd h
-over_not (let_in bs u) h = absurd h
-
--- a term with so many arguments has a first one
-pub has_first : (s : Table) (v w : TermsView) (r n : ℕ) (op : Op) → w ≡ v → IsTerm s v r → ((t : Term) → RefersTo s v r t → IsOver op (suc n) t) → HasArgument w r 0
-has_first s v w r n op same is over =
-    rw same
-    (let argument : HasArgument v r 0 = record {
-      symbols = s;
-      means = is.means;
-      refers = is.refers;
-      there = at_least (over_term op (suc n) is.means (over is.means is.refers));
-    } in
-    argument)
-  where
-    at_least : ((us : Terms) × (is.means ≡ operation op us) × (length (list_of us) ≡ suc n) × (arguments_of is.means ≡ list_of us) × (IsLet is.means → ⊥)) → 0 < length (arguments_of is.means)
-    at_least (us, e, count, arguments, no_let) = rw arguments (omega arith)
-
 -- a term that has so many arguments
 pub has_so_many : (s : Table) (v w : TermsView) (r n : ℕ) (op : Op) → w ≡ v → IsTerm s v r → ((t : Term) → RefersTo s v r t → IsOver op n t) → HasSoMany w r n
 has_so_many s v w r n op same is over =
@@ -73,15 +46,11 @@ has_so_many s v w r n op same is over =
     let many : HasSoMany v r n = record { symbols = s; means = is.means; refers = is.refers; many = ap length here.3 ∙ here.2 } in
     many)
 
-first_of : (t u : Term) → t ≡ not_of u → slice_get (arguments_of t) 0 ≡ Some u
-first_of t u e = rw e refl
-
--- the argument of a negation is what it negates
-pub negated_is : (s : Table) (v w : TermsView) (r a : ℕ) (t : Term) → w ≡ v → IsOver Op.Not 1 t → RefersTo s v r t → ((x b : Term) → RefersTo s w r x → slice_get (arguments_of x) 0 ≡ Some b → RefersTo s w a b) → IsSigned s v Negation a t
-negated_is s v w r a t same is refers argument =
-    let inner = over_not t is in
-    record {
-      means = inner.0;
-      refers = (rw same at argument) t inner.0 refers (first_of t inner.0 inner.1);
-      is = inner.1;
-    }
+-- what a negation negates is what a literal stands for with that sign
+pub under_is_signed : (s : Table) (v : TermsView) (r : ℕ) (found : Option ℕ) → IfSome found (λ a. (t : Term) → RefersTo s v r t → StandsUnder s v a t)
+    → IfSome found (λ a. (t : Term) → RefersTo s v r t → IsSigned s v Negation a t)
+under_is_signed s v r None under = under
+under_is_signed s v r (Some a) under =
+    λ t refers. (let u = under t refers in
+    let signed : IsSigned s v Negation a t = record { means = u.inner; refers = u.refers; is = u.is } in
+    signed)

@@ -2,7 +2,7 @@
 use Rattle.std.proofs.Common.{◌≡◌, List, [], ◌∷◌, map, refl, sym, ◌∙◌, ap}
 use Rattle.term_model.specs.Terms.{Term, no_terms, term, operation}
 use Rattle.rule_model.specs.declared.letter.Letter.{Letter}
-use Rattle.rule_model.specs.Schemas.{Pattern, letter, constant, unary, binary, ternary, fill}
+use Rattle.rule_model.specs.Schemas.{Pattern, letter, nullary, unary, binary, ternary, fill}
 use Rattle.schema_match.specs.declared.part.Part.{Part}
 use Rattle.schema_match.specs.Matching.{prefix, parts_of}
 use Rattle.schema_match.specs.Reads.{Reads}
@@ -29,8 +29,8 @@ module _ (f : Letter → Term) where
   pub read_prefix : (p : Pattern) (rest : List Part) (ts : List Term) → Reads f (prefix p rest) ts → Begins (fill f p) rest ts
   read_prefix (letter l) rest [] h = absurd h
   read_prefix (letter l) rest (t ∷ ts) h = begins t (f l) rest ts (sym h.0) h.1
-  read_prefix (constant op) rest [] h = absurd h
-  read_prefix (constant op) rest (t ∷ ts) h =
+  read_prefix (nullary op) rest [] h = absurd h
+  read_prefix (nullary op) rest (t ∷ ts) h =
       let is = none h.0 h.2 in
       begins t (operation op no_terms) rest ts (h.1 ∙ ap (operation op) is) (rw is at h.3)
   read_prefix (unary op p) rest [] h = absurd h
@@ -57,7 +57,7 @@ module _ (f : Letter → Term) where
 
   pub filled_prefix : (p : Pattern) (rest : List Part) (ts : List Term) → Reads f rest ts → Reads f (prefix p rest) (fill f p ∷ ts)
   filled_prefix (letter l) rest ts h = (refl, h)
-  filled_prefix (constant op) rest ts h = (no_terms, refl, refl, h)
+  filled_prefix (nullary op) rest ts h = (no_terms, refl, refl, h)
   filled_prefix (unary op p) rest ts h = (term (fill f p) no_terms, refl, refl, filled_prefix p rest ts h)
   filled_prefix (binary op p q) rest ts h =
       (term (fill f p) (term (fill f q) no_terms), refl, refl, filled_prefix p (prefix q rest) (fill f q ∷ ts) (filled_prefix q rest ts h))

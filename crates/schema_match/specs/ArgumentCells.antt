@@ -1,4 +1,4 @@
--- Private. The list of the cells of arguments.
+-- Public. The list of the cells of arguments.
 use Rattle.std.specs.Prelude.{ℕ, List, ◌∷◌}
 use Rattle.pair_pool.specs.Trees.{Tree}
 use Rattle.pair_pool.specs.Views.{Knows}

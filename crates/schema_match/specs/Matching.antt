@@ -4,7 +4,7 @@ use Rattle.sym_table.specs.Table.{Table}
 use Rattle.term_model.specs.Terms.{Term}
 use Rattle.term_pool.specs.Views.{TermsView}
 use Rattle.rule_model.specs.declared.letter.Letter.{Letter}
-use Rattle.rule_model.specs.Schemas.{Pattern, letter, constant, unary, binary, ternary, fill}
+use Rattle.rule_model.specs.Schemas.{Pattern, letter, nullary, unary, binary, ternary, fill}
 use Rattle.schema_match.specs.declared.letters.Letters.{Letters}
 use Rattle.schema_match.specs.declared.part.Part.{Part}
 use Rattle.schema_match.specs.declared.part.Part.TheVariants.{Any, Apply}
@@ -13,7 +13,7 @@ use Rattle.schema_match.specs.Letters.{Agrees}
 -- the parts of a pattern, and then others
 abbrev pub prefix : Pattern → List Part → List Part
 prefix (letter l) rest = Any l ∷ rest
-prefix (constant op) rest = Apply op 0 ∷ rest
+prefix (nullary op) rest = Apply op 0 ∷ rest
 prefix (unary op p) rest = Apply op 1 ∷ prefix p rest
 prefix (binary op p q) rest = Apply op 2 ∷ prefix p (prefix q rest)
 prefix (ternary op p q r) rest = Apply op 3 ∷ prefix p (prefix q (prefix r rest))

@@ -26,4 +26,4 @@ pub use matching::{fits, fits_with};
 pub use part::Part;
 pub use premises::unit;
 pub use scratch::{Scratch, Slot, pop, push, slot_of};
-pub use signs::{Sign, under_not, unsigned};
+pub use signs::{Sign, unsigned};

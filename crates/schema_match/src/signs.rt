@@ -1,15 +1,13 @@
 //! Literals with and without `not`.
 
 ghost use Rattle.std.specs.Prelude.{◌≡◌, ◌≢◌, IfNone, IfSome};
-ghost use Rattle.term_model.specs.Terms.{Term, not_of};
+ghost use Rattle.term_model.specs.Terms.{Term};
 ghost use Rattle.term_pool.specs.Views.{IsTerm, RefersTo};
 ghost use Rattle.schema_match.specs.Signs.{sign_of, IsSigned};
-ghost use Rattle.schema_match.specs.declared.signs.Sign.TheVariants as Sign;
 
-use crate::applications::over;
 use pair_pool::Ref;
 use sym_table::Symbols;
-use term_model::Op;
+use term_parts::under_not;
 use term_pool::Terms;
 
 /// How a literal stands for a term.
@@ -19,19 +17,6 @@ pub enum Sign {
     Itself,
     /// As its negation.
     Negation,
-}
-
-/// The term that a negation negates.
-pub fn under_not(symbols: &Symbols, terms: &mut Terms<'_>, r: Ref) -> Option<Ref>
-    requires { IsTerm symbols.now terms.old r }
-    ensures under { IfSome result (λ a. (t : Term) → RefersTo symbols.now terms.old r t → IsSigned symbols.now terms.old Sign.Negation a t) }
-    ensures other { IfNone result ((t u : Term) → RefersTo symbols.now terms.old r t → t ≢ not_of u) }
-    ensures same { terms.new ≡ terms.old }
-{
-    if over(symbols, terms, Op::Not, r) != Some(1) {
-        return None;
-    }
-    Some(terms.nth_arg(r, 0))
 }
 
 /// The term for which a literal stands with a sign.

@@ -1,6 +1,7 @@
 //! The statuses of the commands of a proof.
 
 ghost use Rattle.std.specs.Prelude.{◌≡◌, ◌++◌, [], ◌∷◌, ℕ, IfErr, IfOk, OnOk};
+ghost use Rattle.known_args.specs.Rows.{AreRight};
 ghost use Rattle.proof_store.specs.Checks.{StandForSome};
 ghost use Rattle.term_parts.specs.declared.answers.RuleStop.TheVariants as RuleStop;
 ghost use Rattle.proof_store.specs.Meaning.{StandForItems};
@@ -53,6 +54,7 @@ fn add_all<'a>(
     requires none { list.old.items ≡ [] }
     requires kept { AreKept subject.now.symbols.now terms.old subject.now.proof.now kept.old.scopes }
     requires ready { AreAssertionsReady terms.old kept.old.asserted }
+    requires right { AreRight terms.old kept.old.rules.scratches.known }
     requires short { IsShort subject.now.proof.now }
     requires sorted { (of : ProofItems Var Term) (i : ℕ) → StandForItems subject.now.symbols.now terms.old subject.now.proof.now of →
         IsClauseOfTruths (clause_at of i) }

@@ -12,7 +12,7 @@ returns-then-ne-clause-all c us ts arguments literals =
     let same = c.loop-place.invariant.same in
     other_there s c.args.terms.now c.args.sign c.args.arguments.now c.args.literals.now us ts arguments literals
     c.loop-place.place c.index-literals-place.result c.index-arguments-place.result c.loop-place-test.true c.if-arguments-literals.false c.index-literals-place.is c.index-arguments-place.is
-    c.unsigned.result (c.equal_exactly_where_terms_are.ensures s c.leaves_differ.ensures.table) (rw same at c.unsigned.ensures.signed) (rw same at c.unsigned.ensures.other) (rw c.get.ensures at c.if-ne.ensures)
+    c.unsigned.result (c.equal_exactly_where_terms_are.ensures s c.leaves_differ.ensures.table) (rw same at c.unsigned.ensures.signed) (rw same at c.unsigned.ensures.other) c.if-ne.ensures
 
 pub loop-place-preserved : goal.loop-place-preserved
 loop-place-preserved c = record {
@@ -22,7 +22,7 @@ loop-place-preserved c = record {
       let same = c.loop-place.invariant.same in
       same_there s c.args.terms.now c.args.sign c.args.arguments.now c.args.literals.now us ts arguments literals
       c.loop-place.place c.index-literals-place.result c.index-arguments-place.result c.loop-place-test.true c.if-arguments-literals.false c.index-literals-place.is c.index-arguments-place.is
-      c.unsigned.result (c.equal_exactly_where_terms_are.ensures s c.leaves_differ.ensures.table) (rw same at c.unsigned.ensures.signed) (rw c.get.ensures at c.if-ne.ensures)
+      c.unsigned.result (c.equal_exactly_where_terms_are.ensures s c.leaves_differ.ensures.table) (rw same at c.unsigned.ensures.signed) c.if-ne.ensures
       (c.loop-place.invariant.so_far us ts arguments literals));
 }
 

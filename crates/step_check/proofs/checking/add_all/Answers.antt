@@ -13,6 +13,7 @@ commands-init c = record {
   references = refl;
   ready = c.requires.ready;
   kept = c.requires.kept;
+  right = c.requires.right;
   long = ap length c.requires.none;
   each = each_none _ _ c.requires.none;
 }
@@ -47,6 +48,7 @@ commands-preserved c = record {
   references = c.status_at.ensures.references ∙ c.commands.invariant.references;
   ready = c.in-Ok.ensures.ready;
   kept = c.status_at.ensures.kept;
+  right = c.status_at.ensures.right;
   long = rw c.in_ok-add.ensures (length_push c.commands.list.items c.in-Ok.status c.commands.i c.commands.invariant.long);
   each = λ k status e.
       each_push (IsStatusOf c.args.subject.now.flags c.args.subject.now.symbols.now c.args.terms.now (references_of c.args.kept.now.asserted) c.args.subject.now.proof.now)

@@ -21,6 +21,9 @@ add_all-requires-clause-kept c = kept_same_terms _ _ _ _ _ c.new-2.ensures.same 
 pub add_all-requires-clause-sorted : goal.add_all-requires-clause-sorted
 add_all-requires-clause-sorted c of i stand = c.requires.sorted of i (rw c.new-2.ensures.same at stand)
 
+pub add_all-requires-clause-right : goal.add_all-requires-clause-right
+add_all-requires-clause-right c = c.new-4.ensures c.new-2.new.terms
+
 pub returns-in-Ok-clause-statuses : goal.returns-in-Ok-clause-statuses
 returns-in-Ok-clause-statuses c =
     rw (c.new-2.ensures.same, c.in_ok-asserted.ensures.references, c.assertions_of.ensures) at c.in-Ok.ensures.statuses

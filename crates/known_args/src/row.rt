@@ -1,0 +1,156 @@
+//! The arguments of one application.
+
+ghost use Rattle.std.specs.Prelude.{◌≡◌, ◌↔◌, ◌<◌, ℕ, [], None, Some, IsTrue, IfOk, OnOk, Contains, length};
+ghost use Rattle.pair_pool.specs.Views.{IsKnown};
+ghost use Rattle.known_args.specs.Rows.{IsRowOf};
+ghost use Rattle.known_args.specs.Tables.{AddsNumber, HasTable};
+
+use indexmap::IndexSet;
+use pair_pool::{Memory, Ref};
+use std::alloc::Global;
+use std::marker::Model;
+use term_pool::Terms;
+
+// Up to so many arguments are looked through without a table.
+const FEW: usize = 32;
+
+/// The arguments of an application, in order. Contracts see the reference of the application, where there is one, and those
+/// of the arguments.
+#[derive(Drop)]
+pub struct Row {
+    of: Option<Ref>,
+    items: Vec<Ref>,
+    // where there are many, their numbers
+    table: IndexSet<u32>,
+}
+
+impl Model for Row {
+    ghost use Rattle.std.specs.Prelude.{ℕ, List, Option};
+    ghost use Rattle.known_args.specs.Tables.{HasTable};
+
+    ghost Value = { Option ℕ × List ℕ };
+
+    ghost view = { λ r. (r.of, r.items.items) };
+
+    ghost invariant = { λ r. HasTable r.items.items r.table.keys };
+}
+
+/// Adds a reference to a table.
+fn add(table: &mut IndexSet<u32>, r: Ref) -> Result<(), Memory>
+    ensures { OnOk result (AddsNumber table.old.keys table.new.keys r) }
+{
+    table.insert(r.number())?;
+    Ok(())
+}
+
+/// The table of some references.
+fn table_of(alloc: Global, items: &[Ref]) -> Result<IndexSet<u32>, Memory>
+    ensures { IfOk result (λ table. (k : ℕ) → Contains table.keys k ↔ Contains items.now k) }
+{
+    let mut table = IndexSet::new(alloc);
+    'items: for place in 0..items.len() {
+        add(&mut table, items[place])?;
+    }
+    Ok(table)
+}
+
+/// The table of some references where they are many, and else an empty one.
+fn table_of_many(alloc: Global, items: &[Ref]) -> Result<IndexSet<u32>, Memory>
+    ensures { IfOk result (λ table. HasTable items.now table.keys) }
+{
+    if items.len() <= FEW {
+        return Ok(IndexSet::new(alloc));
+    }
+    table_of(alloc, items)
+}
+
+/// Whether a reference is in a table.
+fn is_in(table: &IndexSet<u32>, x: Ref) -> bool
+    ensures { IsTrue result ↔ Contains table.now.keys x }
+{
+    table.contains(&x.number())
+}
+
+/// Whether a reference is in a list.
+fn is_among(items: &[Ref], x: Ref) -> bool
+    ensures { IsTrue result ↔ Contains items.now x }
+{
+    items.contains(&x)
+}
+
+impl Row {
+    /// Those of no application.
+    pub(crate) fn none(alloc: Global) -> Row
+        ensures { result ≡ (None, []) }
+    {
+        Row {
+            of: None,
+            items: Vec::new(alloc),
+            table: IndexSet::new(alloc),
+        }
+    }
+
+    /// Reads the arguments of an application, into a list that is used again.
+    pub(crate) fn read(
+        alloc: Global,
+        terms: &mut Terms<'_>,
+        r: Ref,
+        list: Vec<Ref>,
+    ) -> Result<Row, Memory>
+        requires { IsKnown terms.old.pass r }
+        ensures of { IfOk result (λ row. row.0 ≡ Some r) }
+        ensures row { IfOk result (λ row. IsRowOf terms.old r row.1) }
+        ensures same { terms.new ≡ terms.old }
+    {
+        let mut items = list;
+        items.clear();
+        terms.arguments(r, &mut items)?;
+        let table = table_of_many(alloc, &items)?;
+        Ok(Row {
+            of: Some(r),
+            items,
+            table,
+        })
+    }
+
+    /// Whether they are those of an application.
+    pub(crate) fn is_of(&self, r: Ref) -> bool
+        ensures { IsTrue result ↔ (self.now.0 ≡ Some r) }
+    {
+        match self.of {
+            Some(of) => of.number() == r.number(),
+            None => false,
+        }
+    }
+
+    /// Whether there are many.
+    pub(crate) fn is_large(&self) -> bool
+        ensures { IsTrue result ↔ (32 < length self.now.1) }
+    {
+        self.items.len() > FEW
+    }
+
+    /// The list alone.
+    pub(crate) fn into_list(self) -> Vec<Ref>
+        ensures { result.items ≡ self.1 }
+    {
+        self.items
+    }
+
+    /// The arguments, in order.
+    pub fn items(&self) -> &[Ref]
+        ensures { result.now ≡ self.now.1 }
+    {
+        &self.items
+    }
+
+    /// Whether a term is one of them. One look-up, or a look at each of few.
+    pub fn has(&self, x: Ref) -> bool
+        ensures { IsTrue result ↔ Contains self.now.1 x }
+    {
+        if self.items.len() > FEW {
+            return is_in(&self.table, x);
+        }
+        is_among(&self.items, x)
+    }
+}
