@@ -2,3 +2,11 @@ mod PrintedIds
 mod NumberedScopes
 mod NumberedCommands
 mod PrintedArguments
+mod PrintedCoefficients
+mod SharedStates
+mod SharedTerms
+mod ReadableParts
+mod WholeProofs
+pub mod PartByPart
+pub mod InFileOrder
+pub mod EventItems

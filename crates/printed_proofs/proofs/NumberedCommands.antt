@@ -1,5 +1,5 @@
 -- A printed command adds itself to what is written, with its number as its id.
-use Rattle.std.proofs.Common.{◌≡◌, ◌⊎◌, inl, inr, ℕ, ◌+◌, ◌<◌, ◌≤◌, ◌^◌, Bool, true, false, not, ◌&&◌, ◌==◌, List, [], ◌∷◌, map, Contains, All}
+use Rattle.std.proofs.Common.{◌≡◌, inl, inr, ℕ, ◌+◌, ◌<◌, ◌≤◌, ◌^◌, Bool, true, false, ◌==◌, List, [], ◌∷◌, map, Contains, All}
 use Rattle.std.proofs.Common.{bytes_eq, eqb-true, refl, sym, ap, ◌∙◌, subst, arith}
 use Rattle.std.specs.List.{AllByRecursion, AllZip, list_all}
 use Rattle.std.proofs.lemmas.List.Sums.{AllPass-from_list_all}
@@ -14,13 +14,13 @@ use Rattle.term_model.proofs.Lists.{contains_head, contains_later}
 use Rattle.rule_model.specs.Proofs.{Step, ProofItems, with_subproof}
 use Rattle.rule_model.specs.RuleNames.{IsSymbolName, left_out_rules}
 use Rattle.rule_model.specs.Scopes.{Anchor, Nesting, outermost, inside, inner, Scope, at, first_index, commands_in, next_index}
-use Rattle.rule_model.specs.Visibility.{Sight, seen, visible, assumes_in}
+use Rattle.rule_model.specs.Visibility.{Sight, seen, visible, assumes_in, direct_assumes}
 use Rattle.rule_model.specs.WellFormed.{MayStand, MayClose}
-use Rattle.rule_model.specs.Writing.{unwritten, is_open_id, add_assume, add_step, close_scope, take_step, open_anchor}
+use Rattle.rule_model.specs.Writing.{unwritten, add_assume, add_step, close_scope, take_step, open_anchor}
 use Rattle.problem_text.specs.Scripts.{Script}
 use Rattle.problem_text.specs.Words.{is_among}
-use Rattle.alethe_text.specs.Ids.{stands_in, closes_scope, assumes_seen}
-use Rattle.alethe_text.specs.PrintedCommands.{assume_item, step_item, anchor_item, ArgumentItems, argument_items, Written, Leads, LeadAll}
+use Rattle.alethe_text.specs.Ids.{stands_in, closes_scope}
+use Rattle.alethe_text.specs.PrintedCommands.{assume_item, step_item, anchor_item, ArgumentItems, printed_arguments, Written, ItemLeads, LeadAll}
 use Rattle.alethe_text.specs.PrintedCommands.{BeginsAsProof, IsFormulaItem, IsStepRead, IsSeenAs, AreArgumentItems}
 use Rattle.alethe_text.specs.ProofTexts.{StandsForProof}
 use Rattle.alethe_text.specs.States.{ProofSettings}
@@ -51,7 +51,7 @@ all_between (b ∷ bs) h =
     let rest = all_between bs h.1 in
     rw (bar, slash, rest) refl
 
-rule_symbol : (name : List ℕ) → IsSymbolName name → IsSymbolItem name
+pub rule_symbol : (name : List ℕ) → IsSymbolName name → IsSymbolItem name
 rule_symbol name is =
     symbol_is name (AllPass-from_list_all is_between_bars name (all_between name (by_recursion (λ b. (b ≡ 124 → ⊥) × (b ≡ 92 → ⊥)) name is)))
 
@@ -73,9 +73,9 @@ symbols [] h = tt
 symbols (j ∷ js) h = (id_symbol j h.0, symbols js h.1)
 
 -- what is seen at indices is found by printed ids
-record AreFoundAt (sights : List Sight) (js : List ℕ) : Type 0 where
-  found : AllZip (IsSeenAs sights) (map printed_id js) js
-  symbols_are : AllByRecursion IsSymbolItem (map printed_id js)
+pub record AreFoundAt (sights : List Sight) (js : List ℕ) : Type 0 where
+  pub found : AllZip (IsSeenAs sights) (map printed_id js) js
+  pub symbols_are : AllByRecursion IsSymbolItem (map printed_id js)
 
 low_indices : (sights : List Sight) (end : ℕ) (js : List ℕ) → end ≤ 2 ^ 32
     → AllByRecursion (λ c. (c.id ≡ printed_id c.index) × (c.index < end)) sights
@@ -87,7 +87,7 @@ low_indices sights end (j ∷ js) few numbered there =
 there_too : (xs ys : List ℕ) (js : List ℕ) → xs ≡ ys → AllByRecursion (λ j. Contains ys j) js → AllByRecursion (λ j. Contains xs j) js
 there_too xs ys js e h = subst (λ zs. AllByRecursion (λ j. Contains zs j) js) (sym e) h
 
-found_at : (sights : List Sight) (end : ℕ) (ys js : List ℕ) → end ≤ 2 ^ 32
+pub found_at : (sights : List Sight) (end : ℕ) (ys js : List ℕ) → end ≤ 2 ^ 32
     → AllByRecursion (λ c. (c.id ≡ printed_id c.index) × (c.index < end)) sights → map (λ c. c.index) sights ≡ ys → All (Contains ys) js
     → AreFoundAt sights js
 found_at sights end ys js few numbered e all =
@@ -97,13 +97,13 @@ found_at sights end ys js few numbered e all =
       symbols_are = symbols js (low_indices sights end js few numbered there);
     }
 
-none_found : (sights : List Sight) (js : List ℕ) → js ≡ [] → AreFoundAt sights js
+pub none_found : (sights : List Sight) (js : List ℕ) → js ≡ [] → AreFoundAt sights js
 none_found sights js e = subst (λ is. AreFoundAt sights is) (sym e) (record { found = tt; symbols_are = tt })
 
 pub assume_printed : (settings : ProofSettings) (closings : List ℕ) (scope : Scope Var Term) (id : List ℕ) (t : Term) (i : Item)
     (before after : Script) → CloseEach closings scope.nesting → AreBehind (next_index scope) closings → next_index scope < 2 ^ 32
     → IsFormulaItem settings (numbered_nesting closings scope.nesting) i before t after
-    → Leads settings (assume_item (printed_id (next_index scope)) i) (written before closings scope)
+    → ItemLeads settings (assume_item (printed_id (next_index scope)) i) (written before closings scope)
     (written after closings (add_assume scope id t))
 assume_printed settings closings scope id t i before after each behind few read =
     assume_leads settings (printed_id (next_index scope)) i (written before closings scope) t after (id_symbol (next_index scope) few)
@@ -113,7 +113,7 @@ pub step_printed : (settings : ProofSettings) (closings : List ℕ) (scope : Sco
     (before after : Script) → CloseEach closings scope.nesting → AreBehind (next_index scope) closings → next_index scope < 2 ^ 32
     → MayStand scope.nesting scope.items s
     → HasParts settings (numbered_nesting closings scope.nesting) (next_index scope) s literals arguments before after
-    → Leads settings (step_item (printed_step (next_index scope) s literals arguments)) (written before closings scope)
+    → ItemLeads settings (step_item (printed_step (next_index scope) s literals arguments)) (written before closings scope)
     (written after closings (add_step scope s))
 step_printed settings closings scope s literals arguments before after each behind few may parts =
     let k : ℕ = next_index scope in
@@ -143,7 +143,7 @@ step_printed settings closings scope s literals arguments before after each behi
     let leads = step_leads settings (printed_step k s literals arguments) start made after read (id_symbol k few)
     (rule_symbol s.rule_name may.rule.symbol) premises.symbols_are discharged.symbols_are in
     let added : take_step n made ≡ add_step n made = rw plain refl in
-    subst (λ sc. Leads settings (step_item (printed_step k s literals arguments)) start (record { script = after; scope = sc })) added leads
+    subst (λ sc. ItemLeads settings (step_item (printed_step k s literals arguments)) start (record { script = after; scope = sc })) added leads
 
 pub closing_printed : (settings : ProofSettings) (closings : List ℕ) (around : Nesting Var Term) (items_before : ProofItems Var Term)
     (bindings : List (Var × Term)) (items : ProofItems Var Term) (s : Step Term) (literals arguments : Items) (before after : Script)
@@ -152,7 +152,7 @@ pub closing_printed : (settings : ProofSettings) (closings : List ℕ) (around :
     → MayClose around items_before (inner around items_before bindings s) items s
     → HasParts settings (numbered_nesting closings around) (next_index (at (inner around items_before bindings s) items)) s literals arguments
     before after
-    → Leads settings (step_item (printed_step (next_index (at (inner around items_before bindings s) items)) s literals arguments))
+    → ItemLeads settings (step_item (printed_step (next_index (at (inner around items_before bindings s) items)) s literals arguments))
     (written before (next_index (at (inner around items_before bindings s) items) ∷ closings) (at (inner around items_before bindings s) items))
     (written after closings (at around (with_subproof items_before bindings items s)))
 closing_printed settings closings around items_before bindings items s literals arguments before after each behind few may parts =
@@ -165,7 +165,7 @@ closing_printed settings closings around items_before bindings items s literals 
     let premises = found_at (seen (numbered_nesting closings around) (numbered around items_before)) (first_index around + commands_in items_before)
     (visible around items_before) s.premises low (seen_numbered closings around items_before each) (seen_indices closings around items_before each)
     may.premises in
-    let discharged = found_at (assumes_seen n.nesting n.items) k (assumes_in here items) s.discharged (omega (arith, few))
+    let discharged = found_at (direct_assumes n.nesting n.items) k (assumes_in here items) s.discharged (omega (arith, few))
     (assumes_numbered (k ∷ closings) here items) (assumes_indices (k ∷ closings) here items) may.discharged in
     let read : IsStepRead settings (printed_step k s literals arguments) start made after = record {
       at = closes_scope n.nesting n.items;
@@ -192,14 +192,14 @@ closing_printed settings closings around items_before bindings items s literals 
     ≡ numbered_scope closings (at around (with_subproof items_before bindings items s)) =
     ap (λ j. at (numbered_nesting closings around)
     (with_subproof (numbered around items_before) bindings (numbered here items) (numbered_step j s))) index in
-    subst (λ sc. Leads settings (step_item (printed_step k s literals arguments)) start (record { script = after; scope = sc })) (closed ∙ renumbered)
+    subst (λ sc. ItemLeads settings (step_item (printed_step k s literals arguments)) start (record { script = after; scope = sc })) (closed ∙ renumbered)
     leads
 
 pub anchor_printed : (settings : ProofSettings) (closings : List ℕ) (scope : Scope Var Term) (anchor : Anchor Var Term) (closing : ℕ)
     (xs : List ArgumentItems) (before after : Script) → CloseEach closings scope.nesting → next_index scope ≤ closing → closing < 2 ^ 32
     → AreBehind closing closings → AllByRecursion (λ x. IsSymbolItem x.name) xs
     → AreArgumentItems settings (numbered_scope closings scope) [] xs before anchor.bindings after
-    → Leads settings (anchor_item (printed_id closing) (argument_items xs)) (written before closings scope)
+    → ItemLeads settings (anchor_item (printed_id closing) (printed_arguments xs)) (written before closings scope)
     (written after (closing ∷ closings) (open_anchor scope anchor))
 anchor_printed settings closings scope anchor closing xs before after each later few behind named read =
     anchor_leads settings (printed_id closing) xs (written before closings scope) anchor.bindings after (id_symbol closing few)

@@ -1,20 +1,17 @@
 -- What is seen, and what is free, in a scope whose ids are numbered.
-use Rattle.std.proofs.Common.{◌≡◌, ◌⊎◌, inl, inr, ℕ, ◌+◌, ◌<◌, ◌≤◌, ◌^◌, suc, Bool, true, false, ◌||◌, Option, Some, None, List, [], ◌∷◌, ◌++◌, map, Contains}
-use Rattle.std.proofs.Common.{find, cond, bytes_eq, ◌==◌, eqb-true, refl, sym, ap, ◌∙◌, subst, arith}
+use Rattle.std.proofs.Common.{◌≡◌, ◌⊎◌, inl, inr, ℕ, ◌+◌, ◌<◌, ◌≤◌, ◌^◌, suc, Bool, true, false, List, [], ◌∷◌, ◌++◌, map, Contains}
+use Rattle.std.proofs.Common.{find, bytes_eq, ◌==◌, eqb-true, refl, sym, ap, ◌∙◌, subst, arith}
 use Rattle.std.proofs.lemmas.Bool.{or_parts}
 use Rattle.std.proofs.lemmas.Bool.Decides.{nat_tests}
-use Rattle.std.specs.Prelude.{⊤}
-use Rattle.std.specs.List.{AllByRecursion, AllZip, list_any}
+use Rattle.std.specs.List.{AllByRecursion, AllZip}
 use Rattle.std.proofs.lemmas.List.{map-append}
-use Rattle.std.proofs.lemmas.Slice.Eq.{bytes_eq-Decides}
 use Rattle.term_model.proofs.Lists.{all_at_end, all_joined, contains_cases, contains_none}
 use Rattle.rule_model.specs.Proofs.{Step, ProofItems, no_items, with_assume, with_step, with_subproof}
 use Rattle.rule_model.specs.Scopes.{Anchor, Nesting, outermost, inside, inner, Scope, first_index, commands_in, next_index}
-use Rattle.rule_model.specs.Visibility.{Sight, direct, seen_around, seen, visible, visible_ids, open_ids, assumes_in}
+use Rattle.rule_model.specs.Visibility.{Sight, direct, seen_around, seen, visible, visible_ids, open_ids, assumes_in, direct_assumes}
 use Rattle.rule_model.specs.Writing.{is_open_id}
 use Rattle.problem_text.specs.Words.{is_among}
 use Rattle.term_model.specs.Terms.{Var, Term}
-use Rattle.alethe_text.specs.Ids.{assumes_seen}
 use Rattle.alethe_text.specs.PrintedCommands.{IsIdFree, IsSeenAs}
 use Rattle.printed_proofs.specs.Numbered.{printed_id, numbered, numbered_nesting, numbered_scope, CloseEach, AreBehind}
 use Rattle.printed_proofs.proofs.PrintedIds.{id_same, id_other}
@@ -120,12 +117,12 @@ module _ {V T : Type 0} (closings : List ℕ) where
 
   -- the assumes that stand directly in a scope
   pub assumes_numbered : (nesting : Nesting V T) (items : ProofItems V T)
-      → AreNumbered (first_index nesting + commands_in items) (assumes_seen (numbered_nesting closings nesting) (numbered nesting items))
+      → AreNumbered (first_index nesting + commands_in items) (direct_assumes (numbered_nesting closings nesting) (numbered nesting items))
   assumes_numbered nesting no_items = tt
   assumes_numbered nesting (with_assume items id t) =
       let here : ℕ = first_index nesting + commands_in items in
       let end : ℕ = first_index nesting + suc (commands_in items) in
-      all_at_end (IsNumbered end) (assumes_seen (numbered_nesting closings nesting) (numbered nesting items)) _
+      all_at_end (IsNumbered end) (direct_assumes (numbered_nesting closings nesting) (numbered nesting items)) _
       (later here end _ (omega arith) (assumes_numbered nesting items)) (one_seen _ here end (places_same nesting items) (omega arith))
   assumes_numbered nesting (with_step items s) =
       later (first_index nesting + commands_in items) (first_index nesting + suc (commands_in items)) _ (omega arith) (assumes_numbered nesting items)
@@ -134,14 +131,11 @@ module _ {V T : Type 0} (closings : List ℕ) where
       (assumes_numbered nesting items)
 
   pub assumes_indices : (nesting : Nesting V T) (items : ProofItems V T)
-      → map (λ c. c.index) (assumes_seen (numbered_nesting closings nesting) (numbered nesting items)) ≡ assumes_in nesting items
+      → map (λ c. c.index) (direct_assumes (numbered_nesting closings nesting) (numbered nesting items)) ≡ assumes_in nesting items
   assumes_indices nesting no_items = refl
   assumes_indices nesting (with_assume items id t) =
-      let xs = assumes_seen (numbered_nesting closings nesting) (numbered nesting items) in
-      let place : ℕ = first_index (numbered_nesting closings nesting) + commands_in (numbered nesting items) in
-      let index : ℕ = first_index nesting + commands_in items in
-      map-append (λ c. c.index) xs (record { index = place; id = printed_id index } ∷ [])
-      ∙ (ap (λ l. l ++ place ∷ []) (assumes_indices nesting items) ∙ ap (λ k. assumes_in nesting items ++ k ∷ []) (places_same nesting items))
+      indices_more (direct_assumes (numbered_nesting closings nesting) (numbered nesting items)) (direct_assumes nesting items) _ _
+      (assumes_indices nesting items) (places_same nesting items)
   assumes_indices nesting (with_step items s) = assumes_indices nesting items
   assumes_indices nesting (with_subproof items bindings proof s) = assumes_indices nesting items
 

@@ -1,32 +1,29 @@
 -- Printed pivots and variables of anchors are read back, and a step without arguments is what it is by its clause and premises.
-use Rattle.std.proofs.Common.{◌≡◌, ℕ, ◌+◌, length, Bool, true, false, not, ◌&&◌, ◌||◌, if◌then◌else◌, Option, Some, None, Result, Ok, Err, List, [], ◌∷◌, map}
+use Rattle.std.proofs.Common.{◌≡◌, ℕ, ◌+◌, length, Bool, true, false, ◌&&◌, if◌then◌else◌, Some, None, Result, Ok, Err, List, [], ◌∷◌, map}
 use Rattle.std.proofs.Common.{refl, sym, ap, ◌∙◌, subst}
-use Rattle.std.specs.Prelude.{⊤, unwrap_or}
-use Rattle.sexpr.specs.declared.causes.Cause.TheVariants.{SortMismatch, TooHigh}
+use Rattle.std.specs.Prelude.{unwrap_or}
 use Rattle.sexpr.specs.declared.causes.Refusal.{Refusal}
-use Rattle.sexpr.specs.Items.{Item, word, Items, no_items, item}
+use Rattle.sexpr.specs.Items.{Item, word, Items, no_items}
 use Rattle.sexpr.specs.Printed.{placed, placed_all, printed}
 use Rattle.term_model.specs.declared.symbols.Sort.{Sort}
-use Rattle.term_model.specs.Terms.{Var, Term, sort_eq}
+use Rattle.term_model.specs.Terms.{Var, Term}
 use Rattle.term_model.proofs.Tests.{sort_eq_decides}
 use Rattle.rule_model.specs.declared.rules.Rule.{Rule}
-use Rattle.rule_model.specs.Proofs.{Fraction, Step}
+use Rattle.rule_model.specs.Proofs.{Step}
 use Rattle.rule_model.specs.RuleNames.{rule_named}
 use Rattle.rule_model.specs.Scopes.{Nesting, Scope}
-use Rattle.text_items.specs.ItemShapes.{Name}
-use Rattle.problem_text.specs.Outcomes.{Outcome, done}
+use Rattle.problem_text.specs.Outcomes.{done}
 use Rattle.problem_text.specs.Scripts.{Script, with_term, with_let_name}
 use Rattle.problem_text.specs.Terms.{read_term}
 use Rattle.problem_text.specs.TypedTerms.{Typed}
 use Rattle.alethe_text.specs.Anchors.{argument_read, sort_given, image_of}
-use Rattle.alethe_text.specs.Arguments.{takes_coefficients, takes_pivots, truth_of, with_pivot, pivots_from, arguments_from, named_in, named_among}
+use Rattle.alethe_text.specs.Arguments.{takes_coefficients, takes_pivots, truth_of, pivots_from, arguments_from, named_in, named_among}
 use Rattle.alethe_text.specs.Coefficients.{coefficients_from}
-use Rattle.alethe_text.specs.Commands.{assigned}
 use Rattle.alethe_text.specs.PrintedCommands.{ArgumentItems, AreFormulaItems, ArgumentsLead, IsArgumentItem}
 use Rattle.alethe_text.specs.ProofTerms.{place_in, term_in}
 use Rattle.alethe_text.specs.States.{ProofSettings, ProofState, Reading, ◌>>=◌, give, given}
 use Rattle.alethe_text.specs.Steps.{bare_step}
-use Rattle.printed_proofs.specs.Arguments.{IsTermItem, PivotItem, truth_word, pivot_items, ArePivotItems, BindsAs}
+use Rattle.printed_proofs.specs.Arguments.{PivotItem, truth_word, pivot_items, ArePivotItems, BindsAs}
 use Rattle.printed_proofs.specs.Numbered.{printed_id, numbered_step}
 use Rattle.printed_proofs.specs.Printing.{HasParts}
 

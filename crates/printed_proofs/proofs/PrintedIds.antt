@@ -1,7 +1,7 @@
 -- Printed ids are symbols, and differ.
-use Rattle.std.proofs.Common.{◌≡◌, ℕ, ◌+◌, ◌<◌, ◌^◌, Bool, true, false, List, [], ◌∷◌, ◌++◌, codes, decimal, bytes_eq, refl, sym, ap, ◌∙◌}
+use Rattle.std.proofs.Common.{◌≡◌, ℕ, ◌+◌, ◌<◌, ◌^◌, Bool, true, false, List, [], ◌∷◌, decimal, bytes_eq, refl, sym, ap, ◌∙◌}
 use Rattle.std.proofs.Common.{subst, arith, drop, ◌==◌, eqb-true}
-use Rattle.std.specs.List.{AllPass, list_all}
+use Rattle.std.specs.List.{list_all}
 use Rattle.std.specs.Char.{is_ascii_digit}
 use Rattle.std.proofs.lemmas.Bool.{and_parts}
 use Rattle.std.proofs.lemmas.List.Sums.{AllPass-from_list_all}
@@ -31,7 +31,7 @@ id_other a b few many differs = go (bytes_eq (printed_id a) (printed_id b)) refl
     go true e = absurd (differs (one_index a b few many ((bytes_eq-Decides (printed_id a) (printed_id b)).0 e)))
     go false e = refl
 
-no_digit : (b c : ℕ) → is_ascii_digit c ≡ false → is_ascii_digit b ≡ true → (b == c) ≡ false
+pub no_digit : (b c : ℕ) → is_ascii_digit c ≡ false → is_ascii_digit b ≡ true → (b == c) ≡ false
 no_digit b c none is = go (b == c) refl
   where
     go : (test : Bool) → (b == c) ≡ test → test ≡ false

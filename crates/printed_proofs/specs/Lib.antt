@@ -1,3 +1,10 @@
 pub mod Numbered
 pub mod Printing
 pub mod Arguments
+pub mod Coefficients
+pub mod Shared
+pub mod Naming
+pub mod PrintedProof
+pub mod Readable
+pub mod Parts
+pub mod FileOrder

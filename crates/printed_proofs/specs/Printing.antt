@@ -1,5 +1,5 @@
 -- Public. What has to be known of the items of a step, so that the step is read back.
-use Rattle.std.specs.Prelude.{◌≡◌, ℕ, List, [], map}
+use Rattle.std.specs.Prelude.{ℕ, List, [], map}
 use Rattle.sexpr.specs.Items.{Items}
 use Rattle.term_model.specs.Terms.{Var, Term}
 use Rattle.rule_model.specs.Proofs.{Step}

@@ -1,0 +1,26 @@
+-- Public. How coefficients are printed: n, (- n), (/ n d), or (- (/ n d)).
+use Rattle.std.specs.Prelude.{ℕ, suc, pos, negsuc, unsigned_abs, ◌==◌, if◌then◌else◌, List, [], ◌∷◌, codes, decimal}
+use Rattle.sexpr.specs.Items.{Item, word, list, Items, no_items, item}
+use Rattle.rule_model.specs.Proofs.{Fraction}
+
+abbrev pub numeral_item : ℕ → Item
+numeral_item n = word 0 (decimal n)
+
+abbrev pub quotient_item : ℕ → ℕ → Item
+quotient_item n d = list 0 (item (word 0 (codes "/")) (item (numeral_item n) (item (numeral_item d) no_items)))
+
+abbrev pub amount_item : ℕ → ℕ → Item
+amount_item n d = if d == 1 then numeral_item n else quotient_item n d
+
+abbrev pub opposite_item : Item → Item
+opposite_item i = list 0 (item (word 0 (codes "-")) (item i no_items))
+
+abbrev pub coefficient_item : Fraction → Item
+coefficient_item q = elim q.num [
+  | pos n ↦ amount_item n (unsigned_abs q.den)
+  | negsuc n ↦ opposite_item (amount_item (suc n) (unsigned_abs q.den))
+]
+
+abbrev pub coefficient_items : List Fraction → Items
+coefficient_items [] = no_items
+coefficient_items (q ∷ qs) = item (coefficient_item q) (coefficient_items qs)

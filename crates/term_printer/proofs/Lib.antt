@@ -1,0 +1,2 @@
+mod TermCells
+mod Turns

@@ -1,0 +1,215 @@
+//! One task of a term.
+ghost use Rattle.std.specs.Prelude.{◌≡◌, ◌<◌, ◌≤◌, ◌^◌, ◌++◌, ℕ, List, [], ◌∷◌, length, false, OnOk, IfOk};
+ghost use Rattle.sym_table.specs.Table.{Table, LeafMeets};
+ghost use Rattle.term_model.specs.Terms.{Term, Terms as ModelTerms, Bindings};
+ghost use Rattle.term_pool.specs.Views.{TermsView, IsTerm, IsKnownCell, RefersTo};
+ghost use Rattle.printed_proofs.specs.Parts.{Part, whole, arguments, pairs};
+ghost use Rattle.term_printer.specs.declared.page.Task.TheVariants as Task;
+ghost use Rattle.term_printer.specs.Pages.{leaf_text, IsListOf, IsSomeList, ArePairsOf, AreSomePairs, BeginsLet, IsTask};
+ghost use Rattle.term_printer.specs.Pages.{IsSomeTask, Performs, ComesTo, ComesToSome};
+ghost use Rattle.printed_proofs.specs.Shared.{shared_item, behind_term};
+ghost use Rattle.problem_text.specs.Scripts.{Script};
+ghost use Rattle.sexpr.specs.Printed.{printed};
+
+use crate::page::{Page, Task};
+use crate::symbols::{push_leaf_symbol, push_number};
+use pair_pool::Ref;
+use std::alloc::{AllocError, Global};
+use sym_table::{Kind, Symbols};
+use term_pool::Terms;
+
+/// The leaf of the head of a let.
+const LET: u32 = 1;
+
+/// The symbol or the number of a leaf.
+fn print_leaf(
+    alloc: Global,
+    symbols: &Symbols,
+    page: &mut Page,
+    leaf: u32,
+) -> Result<(), AllocError>
+    requires { leaf < length symbols.now.leaves }
+    ensures text { OnOk result (LeafMeets symbols.now leaf (λ l. page.new.text.items ≡ page.old.text.items ++ leaf_text l)) }
+    ensures tasks { page.new.tasks.items ≡ page.old.tasks.items }
+{
+    match symbols.kind(leaf) {
+        Kind::Num(n) => push_number(alloc, n.unsigned_abs(), &mut page.text),
+        _ => push_leaf_symbol(symbols, leaf, &mut page.text),
+    }
+}
+
+/// A term: a leaf, or the beginning of what a cell is.
+fn print_term(
+    alloc: Global,
+    symbols: &Symbols,
+    terms: &mut Terms<'_>,
+    page: &mut Page,
+    r: Ref,
+) -> Result<(), AllocError>
+    requires { IsTerm symbols.now terms.old r }
+    ensures performs { OnOk result ((t : Term) → RefersTo symbols.now terms.old r t → Performs symbols.now terms.old page.old page.new (whole t)) }
+    ensures same { terms.new ≡ terms.old }
+{
+    terms.one_to_one();
+    terms.parts_of_trees();
+    symbols.leaves_differ();
+    if r.is_leaf() {
+        let leaf = r.number();
+        return print_leaf(alloc, symbols, page, leaf);
+    }
+    print_cell(symbols, terms, page, r)
+}
+
+/// The beginning of a term that is a cell.
+fn print_cell(
+    symbols: &Symbols,
+    terms: &mut Terms<'_>,
+    page: &mut Page,
+    r: Ref,
+) -> Result<(), AllocError>
+    requires term { IsTerm symbols.now terms.old r }
+    requires cell { 2 ^ 30 ≤ r }
+    ensures performs { OnOk result ((t : Term) → RefersTo symbols.now terms.old r t → Performs symbols.now terms.old page.old page.new (whole t)) }
+    ensures same { terms.new ≡ terms.old }
+{
+    terms.one_to_one();
+    terms.parts_of_trees();
+    symbols.leaves_differ();
+    let (head, rest) = terms.cell_parts(r);
+    let leaf = head.number();
+    if leaf == LET {
+        return print_let(terms, page, rest);
+    }
+    page.then(Task::Close)?;
+    page.then(Task::Arguments(rest))?;
+    page.put(b"(")?;
+    page.put_symbol(symbols, leaf)
+}
+
+/// The beginning of a let, by what stands behind its head.
+fn print_let(terms: &mut Terms<'_>, page: &mut Page, rest: Ref) -> Result<(), AllocError>
+    requires { IsKnownCell terms.old.pass rest }
+    ensures performs { OnOk result (BeginsLet terms.old page.old page.new rest) }
+    ensures same { terms.new ≡ terms.old }
+{
+    let (list, body) = terms.cell_parts(rest);
+    page.then(Task::Close)?;
+    page.then(Task::Body(body))?;
+    page.then(Task::FirstBindings(list))?;
+    page.put(b"(let (")
+}
+
+/// The next argument of a list, and the others as a task.
+fn print_arguments(
+    symbols: &Symbols,
+    terms: &mut Terms<'_>,
+    page: &mut Page,
+    list: Ref,
+) -> Result<(), AllocError>
+    requires { IsSomeList symbols.now terms.old list }
+    ensures performs { OnOk result ((ts : ModelTerms) → IsListOf symbols.now terms.old list ts →
+        Performs symbols.now terms.old page.old page.new (arguments ts)) }
+    ensures same { terms.new ≡ terms.old }
+{
+    terms.one_to_one();
+    terms.parts_of_trees();
+    if list.is_leaf() {
+        return Ok(());
+    }
+    let (first, rest) = terms.cell_parts(list);
+    page.then(Task::Arguments(rest))?;
+    page.then(Task::Term(first))?;
+    page.put(b" ")
+}
+
+/// The next binding of a list behind these bytes, and the others as a task.
+fn print_bindings(
+    before: &[u8],
+    symbols: &Symbols,
+    terms: &mut Terms<'_>,
+    page: &mut Page,
+    list: Ref,
+) -> Result<(), AllocError>
+    requires { AreSomePairs symbols.now terms.old list }
+    ensures performs { OnOk result ((bs : Bindings) → ArePairsOf symbols.now terms.old list bs →
+        Performs symbols.now terms.old page.old page.new (pairs before.now bs)) }
+    ensures same { terms.new ≡ terms.old }
+{
+    terms.one_to_one();
+    terms.parts_of_trees();
+    if list.is_leaf() {
+        return Ok(());
+    }
+    let (pair, rest) = terms.cell_parts(list);
+    let (variable, value) = terms.cell_parts(pair);
+    page.then(Task::Bindings(rest))?;
+    page.then(Task::Close)?;
+    page.then(Task::Term(value))?;
+    page.put(before)?;
+    page.put(b"(")?;
+    page.put_symbol(symbols, variable.number())?;
+    page.put(b" ")
+}
+
+/// Begins to print a term behind what is printed, where nothing is left to be printed.
+pub fn begin_term(page: &mut Page, r: Ref) -> Result<(), AllocError>
+    requires { page.old.tasks.items ≡ [] }
+    ensures begun { OnOk result ((s : Table) (v : TermsView) (t : Term) (u : Script) → RefersTo s v r t →
+        ComesTo s v page.new (page.old.text.items ++ printed (shared_item [] u t)) (behind_term [] u t)) }
+    ensures text { page.new.text.items ≡ page.old.text.items }
+{
+    page.then(Task::Term(r))
+}
+
+/// Prints a part more of what is left, and returns whether there was one. What is printed in the end stays the same, and where
+/// there was none it is printed.
+pub fn print_more(
+    alloc: Global,
+    symbols: &Symbols,
+    terms: &mut Terms<'_>,
+    page: &mut Page,
+) -> Result<bool, AllocError>
+    requires { ComesToSome symbols.now terms.old page.old }
+    ensures left { IfOk result (λ found. (bytes : List ℕ) (end : Script) → ComesTo symbols.now terms.old page.old bytes end →
+        ComesTo symbols.now terms.new page.new bytes end) }
+    ensures whole { IfOk result (λ found. found ≡ false → (bytes : List ℕ) (end : Script) → ComesTo symbols.now terms.old page.old bytes end →
+        page.new.text.items ≡ bytes) }
+    ensures same { terms.new ≡ terms.old }
+{
+    let Some(task) = page.tasks.pop() else {
+        return Ok(false);
+    };
+    perform(alloc, symbols, terms, page, task)?;
+    Ok(true)
+}
+
+/// One task.
+pub(crate) fn perform(
+    alloc: Global,
+    symbols: &Symbols,
+    terms: &mut Terms<'_>,
+    page: &mut Page,
+    task: Task,
+) -> Result<(), AllocError>
+    requires { IsSomeTask symbols.now terms.old task }
+    ensures performs { OnOk result ((p : Part) → IsTask symbols.now terms.old task p → Performs symbols.now terms.old page.old page.new p) }
+    ensures same { terms.new ≡ terms.old }
+{
+    match task {
+        Task::Term(r) => print_term(alloc, symbols, terms, page, r),
+        Task::Arguments(list) => print_arguments(symbols, terms, page, list),
+        Task::FirstBindings(list) => print_bindings(b"", symbols, terms, page, list),
+        Task::Bindings(list) => print_bindings(b" ", symbols, terms, page, list),
+        Task::Body(body) => print_body(page, body),
+        Task::Close => page.put(b")"),
+    }
+}
+
+/// The bracket behind the bindings of a let, and its body as a task.
+fn print_body(page: &mut Page, body: Ref) -> Result<(), AllocError>
+    ensures { OnOk result ((page.new.text.items ≡ page.old.text.items ++ 41 ∷ 32 ∷ [])
+        × (page.new.tasks.items ≡ page.old.tasks.items ++ Task.Term body ∷ [])) }
+{
+    page.then(Task::Term(body))?;
+    page.put(b") ")
+}
