@@ -1,0 +1,11 @@
+pub mod Joining
+pub mod Towers
+pub mod Going
+pub mod Bridging
+pub mod Resolving
+pub mod Literals
+pub mod Trails
+pub mod LastSteps
+pub mod Contradictions
+pub mod Begins
+pub mod Starting
