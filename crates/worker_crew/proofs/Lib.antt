@@ -1,0 +1,4 @@
+pub mod Parts
+pub mod Doing
+pub mod Ordering
+pub mod Shares
