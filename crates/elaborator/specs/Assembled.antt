@@ -1,0 +1,15 @@
+-- Public. What an assembled proof is.
+use Rattle.std.specs.Prelude.{◌≡◌, ℕ, List}
+use Rattle.proof_store.specs.AddedSteps.{AddedStep}
+use Rattle.rule_model.specs.Elaboration.{Keeps}
+use Rattle.rule_model.specs.Proofs.{ProofItems}
+use Rattle.rule_model.specs.Scopes.{outermost, commands_in}
+use Rattle.rule_model.specs.Statuses.{Checking}
+use Rattle.rule_model.specs.WellFormed.{IsWellFormed}
+use Rattle.elaborator.specs.Blocks.{commands_needed}
+
+-- It is well formed, keeps each command of the proof as an elaboration does, and has as many commands as these and what is added.
+pub record IsAssembled (proof : ProofItems ℕ ℕ) (blocks : List (List AddedStep)) (new : ProofItems ℕ ℕ) : Type 0 where
+  pub formed : IsWellFormed new
+  pub kept : (c : Checking) → Keeps c outermost proof outermost new
+  pub count : commands_in new ≡ commands_needed blocks
