@@ -1,5 +1,5 @@
 -- Private. What the judgement of a proof that was read comes to.
-use Rattle.std.specs.Prelude.{◌≡◌, ℕ, List}
+use Rattle.std.specs.Prelude.{◌≡◌, ◌≤◌, ◌^◌, ℕ, List}
 use Rattle.std.specs.List.{AllZip}
 use Rattle.sym_table.specs.Table.{Table}
 use Rattle.term_model.specs.Terms.{Var, Term}
@@ -18,7 +18,11 @@ use Rattle.command_words.specs.declared.request.Options.{Options}
 use Rattle.step_check.specs.Statuses.{AreStatusesOf}
 use Rattle.carcara_cli.specs.declared.judgement.Judgement.{Judgement}
 use Rattle.carcara_cli.specs.Answering.{NamesIds}
-use Rattle.carcara_cli.specs.Reading.{settings_of}
+use Rattle.carcara_cli.specs.declared.judging.Read.{Read}
+use Rattle.carcara_cli.specs.declared.judging.Read.TheVariants as Read
+use Rattle.carcara_cli.specs.Judgement.{IsJudgement}
+use Rattle.carcara_cli.specs.Pools.{HoldsOnly}
+use Rattle.carcara_cli.specs.Reading.{settings_of, IsReadOf}
 
 -- the flags by which the code reads and checks
 abbrev pub flags_of : Options → Flags
@@ -52,3 +56,13 @@ pub record IsJudgedProof (flags : Flags) (s : Table) (v : TermsView) (asserted :
   pub are : AreStatusesOf flags s v asserted refs statuses
   pub verdict : IsVerdict statuses refs of
   pub named : NamesIds statuses refs of j
+
+-- so many may check a proof
+abbrev pub IsNumberOfWorkers : ℕ → Type 0
+IsNumberOfWorkers count = (1 ≤ count) × (count ≤ 64)
+
+-- Both texts were read, and what stands in the pool are cells of terms that are read; or this is what they come to.
+abbrev pub IsRead : List ℕ → Options → List ℕ → Table → TermsView → Read → Type 0
+IsRead problem options text s v (Read.Whole both) =
+    IsReadProof problem options text s v both.problem.assertions both.proof × HoldsOnly s v.pass (IsReadOf problem options text)
+IsRead problem options text s v (Read.Not judgement) = (bits : ℕ) → v.pass.places ≡ 2 ^ bits → IsJudgement problem options text bits judgement

@@ -1,40 +1,41 @@
 //! The judgement of the two texts.
-ghost use Rattle.std.specs.Prelude.{◌≡◌, ◌≤◌, ◌+◌, ◌^◌, ℕ, [], length, IfErr, IfOk};
-ghost use Rattle.proof_store.specs.Checks.{StandForSome};
+ghost use Rattle.std.specs.Prelude.{◌≡◌, ◌<◌, ◌≤◌, ◌+◌, ◌^◌, ℕ, [], length, IfErr, IfOk};
+ghost use Rattle.pair_pool.specs.Views.{IsForMany, IsPassOf};
 ghost use Rattle.proof_store.specs.Meaning.{StandForItems};
 ghost use Rattle.term_parts.specs.declared.answers.RuleStop.TheVariants as RuleStop;
 ghost use Rattle.sym_table.specs.Table.{Table};
 ghost use Rattle.term_model.specs.Terms.{Var, Term};
 ghost use Rattle.term_pool.specs.Views.{KeepsTerms, TermsView};
-ghost use Rattle.rule_model.specs.Conditions.{IsClauseOfTruths};
 ghost use Rattle.rule_model.specs.Proofs.{ProofItems};
-ghost use Rattle.rule_model.specs.Reading.{clause_at};
-ghost use Rattle.rules_resolution.specs.Steps.{IsShort};
 ghost use Rattle.term_reader.specs.ProblemViews.{IsNewTable};
-ghost use Rattle.step_check.specs.Statuses.{AreAsserted, LacksRoomForPlaced, PlacesOnly};
+ghost use Rattle.step_check.specs.Chunks.{statuses_in, CanBeChecked};
+ghost use Rattle.step_check.specs.Statuses.{LacksRoomForPlaced, PlacesOnly};
 ghost use Rattle.carcara_cli.specs.Reading.{IsReadOf};
 ghost use Rattle.carcara_cli.specs.Pools.{HoldsOnly, IsReadProblem};
 ghost use Rattle.carcara_cli.specs.Judgement.{IsJudgement};
-ghost use Rattle.carcara_cli.specs.Judging.{flags_of, Corresponds, IsJudgedProof, IsReadProof};
+ghost use Rattle.carcara_cli.specs.Judging.{flags_of, Corresponds, IsJudgedProof, IsNumberOfWorkers, IsRead, IsReadProof};
 ghost use Rattle.carcara_cli.specs.TopCall.{most_bytes};
 
 use crate::judgement::Judgement;
 use crate::laws::proofs_have_scoped_terms;
 use crate::naming::named;
-use crate::pools::{LEAST_BITS, MOST_BITS, pool_bits, pool_full};
+use crate::pools::{LEAST_BITS, MOST_BITS, pool_bits, pool_full, share_among};
 use alethe_reader::read_proof;
 use alethe_text::laws::proofs_are_short;
 use command_words::Options;
-use pair_pool::{Memory, Pool};
+use file_ports::Gate;
+use pair_pool::{Memory, Pass, Pool};
 use problem_text::laws::{scripts_are_closed, scripts_are_well_sorted};
-use proof_store::{Proof, RuleStop, commands_correspond, proofs_stand_for_one, terms_correspond};
+use proof_store::{Proof, RuleStop, Status, commands_correspond, terms_correspond};
 use smtlib_reader::{Flags, Problem, ReadFault, read_problem};
 use std::alloc::Global;
-use step_check::statuses;
+use std::thread::Threads;
+use step_check::{StepJob, chunks_make_a_check, job};
 use sym_table::Symbols;
 use term_pool::Terms;
 use term_reader::view_laws::problems_stay;
 use verdict_merge::merge;
+use worker_crew::run;
 
 /// The text of a problem and that of a proof.
 #[derive(Drop)]
@@ -42,6 +43,13 @@ struct Texts<'a> {
     problem: &'a [u8],
     proof: &'a [u8],
     options: Options,
+}
+
+/// Those who check a proof: how many, the gate before each chunk, and what threads are started by.
+pub struct Workers<'a, R, G> {
+    pub rt: &'a R,
+    pub gate: &'a G,
+    pub count: u32,
 }
 
 /// How the texts are read and checked.
@@ -55,33 +63,48 @@ fn flags_of(options: Options) -> Flags
     }
 }
 
+/// The statuses of the pieces, one behind the other.
+fn joined(alloc: Global, pieces: &[Vec<Status>]) -> Result<Vec<Status>, Memory>
+    ensures { IfOk result (λ list. list.items ≡ statuses_in pieces.now) }
+{
+    let mut list = Vec::new(alloc);
+    'pieces: for piece in pieces {
+        list.extend_from_slice(piece)?;
+    }
+    Ok(list)
+}
+
 /// The judgement of a proof that was read, behind a problem that was read. Refuses where the pool had no room for a cell that
 /// the check places, and where it is out of memory.
-fn judge_commands(
+fn judge_commands<R: Threads + Sync, G: Gate>(
+    workers: &Workers<'_, R, G>,
     alloc: Global,
-    flags: Flags,
-    problem: &Problem,
-    proof: &Proof,
-    symbols: &Symbols,
+    job: &StepJob<'_>,
     terms: &mut Terms<'_>,
 ) -> Result<Judgement, RuleStop>
-    requires stand { StandForSome symbols.now terms.old proof.now }
-    requires asserted { AreAsserted symbols.now terms.old problem.now.assertions }
-    requires short { IsShort proof.now }
-    requires sorted { (of : ProofItems Var Term) (i : ℕ) → StandForItems symbols.now terms.old proof.now of → IsClauseOfTruths (clause_at of i) }
-    ensures judged { IfOk result (IsJudgedProof flags symbols.now terms.old problem.now.assertions proof.now) }
-    ensures placed { PlacesOnly symbols.now terms.old terms.new proof.now }
-    ensures full { IfErr result (λ stop. stop ≡ RuleStop.PoolFull → LacksRoomForPlaced symbols.now terms.old terms.new proof.now) }
+    requires workers { IsNumberOfWorkers workers.now.count }
+    requires for_many { 1 < workers.now.count → IsForMany terms.old.pool }
+    requires shares { terms.old.pass.shares ≡ 65 }
+    requires can { CanBeChecked job.now.symbols.now terms.old job.now.problem.now.assertions job.now.proof.now }
+    ensures judged { IfOk result (IsJudgedProof job.now.flags job.now.symbols.now terms.old job.now.problem.now.assertions job.now.proof.now) }
+    ensures placed { PlacesOnly job.now.symbols.now terms.old terms.new job.now.proof.now }
+    ensures full { IfErr result (λ stop. stop ≡ RuleStop.PoolFull → LacksRoomForPlaced job.now.symbols.now terms.old terms.new job.now.proof.now) }
     ensures keeps { KeepsTerms terms.old terms.new }
 {
+    job.symbols.leaves_differ();
     commands_correspond();
-    let list = match statuses(alloc, proof, problem, symbols, flags, terms) {
-        Ok(list) => list,
+    chunks_make_a_check();
+    let made = run(workers.rt, alloc, job, terms, workers.count, workers.gate);
+    terms.one_to_one();
+    let pieces = match made {
+        Ok(pieces) => pieces,
         Err(stop) => return Err(stop),
     };
-    let pieces = [list];
-    let verdict = merge(&pieces, proof);
-    let Ok(judgement) = named(alloc, verdict, &pieces[0], proof) else {
+    let Ok(list) = joined(alloc, &pieces) else {
+        return Err(RuleStop::Memory);
+    };
+    let verdict = merge(&pieces, job.proof);
+    let Ok(judgement) = named(alloc, verdict, &list, job.proof) else {
         return Err(RuleStop::Memory);
     };
     Ok(judgement)
@@ -95,17 +118,33 @@ fn proofs_correspond()
     terms_correspond();
 }
 
+/// A problem and a proof behind it, as they were read.
+#[derive(Drop)]
+struct Both {
+    problem: Problem,
+    proof: Proof,
+}
+
+/// Both texts as they were read, or what they come to where one of them was not.
+#[derive(Drop)]
+enum Read {
+    Whole(Both),
+    Not(Judgement),
+}
+
 /// What the texts come to where both were read.
-fn judge_read(
+fn judge_read<R: Threads + Sync, G: Gate>(
+    workers: &Workers<'_, R, G>,
     alloc: Global,
     texts: &Texts<'_>,
-    problem: &Problem,
-    proof: &Proof,
+    both: &Both,
     symbols: &Symbols,
     mut terms: Terms<'_>,
 ) -> Result<Judgement, Memory>
+    requires workers { IsNumberOfWorkers workers.now.count }
+    requires for_many { 1 < workers.now.count → IsForMany terms.pool }
     requires size { length texts.now.proof.now ≤ most_bytes }
-    requires read { IsReadProof texts.now.problem.now texts.now.options texts.now.proof.now symbols.now terms problem.now.assertions proof.now }
+    requires read { IsReadProof texts.now.problem.now texts.now.options texts.now.proof.now symbols.now terms both.now.problem.assertions both.now.proof }
     requires shares { terms.pass.shares ≡ 65 }
     requires holds { HoldsOnly symbols.now terms.pass (IsReadOf texts.now.problem.now texts.now.options texts.now.proof.now) }
     ensures { (bits : ℕ) → terms.entry.pass.places ≡ 2 ^ bits → IfOk result (IsJudgement texts.now.problem.now texts.now.options texts.now.proof.now bits) }
@@ -115,68 +154,100 @@ fn judge_read(
     scripts_are_closed();
     proofs_have_scoped_terms();
     proofs_correspond();
-    proofs_stand_for_one();
-    symbols.leaves_differ();
-    terms.one_to_one();
     let flags = flags_of(texts.options);
-    match judge_commands(alloc, flags, problem, proof, symbols, &mut terms) {
+    let job = job(&both.proof, &both.problem, symbols, flags);
+    match judge_commands(workers, alloc, &job, &mut terms) {
         Ok(judgement) => Ok(judgement),
-        Err(RuleStop::PoolFull) => Ok(pool_full(symbols, terms)),
+        Err(RuleStop::PoolFull) => Ok(pool_full(symbols, &terms)),
         Err(RuleStop::Memory) => Err(Memory),
     }
 }
 
-/// What the texts come to where the problem was read: its proof is read, and judged.
-fn judge_proof(
+/// The proof's text as it is read behind a problem that was read.
+fn read_behind(
     alloc: Global,
     texts: &Texts<'_>,
-    problem: &Problem,
+    problem: Problem,
     symbols: &mut Symbols,
-    mut terms: Terms<'_>,
-) -> Result<Judgement, Memory>
+    terms: &mut Terms<'_>,
+) -> Result<Read, Memory>
     requires size { length texts.now.proof.now ≤ most_bytes }
-    requires problem { IsReadProblem texts.now.problem.now texts.now.options.replaces_lets symbols.old terms problem.now }
+    requires problem { IsReadProblem texts.now.problem.now texts.now.options.replaces_lets symbols.old terms.old problem }
     requires room { length symbols.old.leaves + length texts.now.proof.now ≤ 2 ^ 30 }
-    requires shares { terms.pass.shares ≡ 65 }
-    requires holds { HoldsOnly symbols.old terms.pass (IsReadOf texts.now.problem.now texts.now.options texts.now.proof.now) }
-    ensures { (bits : ℕ) → terms.entry.pass.places ≡ 2 ^ bits → IfOk result (IsJudgement texts.now.problem.now texts.now.options texts.now.proof.now bits) }
+    requires shares { terms.old.pass.shares ≡ 65 }
+    requires holds { HoldsOnly symbols.old terms.old.pass (IsReadOf texts.now.problem.now texts.now.options texts.now.proof.now) }
+    ensures read { IfOk result (IsRead texts.now.problem.now texts.now.options texts.now.proof.now symbols.new terms.new) }
+    ensures keeps { KeepsTerms terms.old terms.new }
 {
     problems_stay();
     let flags = flags_of(texts.options);
-    let proof = match read_proof(alloc, texts.proof, flags, problem, symbols, &mut terms) {
+    let proof = match read_proof(alloc, texts.proof, flags, &problem, symbols, terms) {
         Ok(proof) => proof,
-        Err(ReadFault::Text(refusal)) => return Ok(Judgement::RefusedProof(refusal)),
-        Err(ReadFault::PoolFull) => return Ok(pool_full(symbols, terms)),
+        Err(ReadFault::Text(refusal)) => return Ok(Read::Not(Judgement::RefusedProof(refusal))),
+        Err(ReadFault::PoolFull) => return Ok(Read::Not(pool_full(symbols, terms))),
         Err(ReadFault::Memory) => return Err(Memory),
     };
-    judge_read(alloc, texts, problem, &proof, symbols, terms)
+    Ok(Read::Whole(Both { problem, proof }))
 }
 
-/// What the texts come to, with a new table of symbols and terms of a pool in which nothing stands.
-fn judge_with(
+/// The two texts as they are read, with a new table of symbols and terms of a pool in which nothing stands.
+fn read_both(
     alloc: Global,
     texts: &Texts<'_>,
     symbols: &mut Symbols,
-    mut terms: Terms<'_>,
-) -> Result<Judgement, Memory>
+    terms: &mut Terms<'_>,
+) -> Result<Read, Memory>
     requires problem { length texts.now.problem.now ≤ most_bytes }
     requires proof { length texts.now.proof.now ≤ most_bytes }
     requires new_symbols { IsNewTable symbols.old }
-    requires nothing { terms.pass.placed ≡ [] }
-    requires shares { terms.pass.shares ≡ 65 }
-    ensures { (bits : ℕ) → terms.entry.pass.places ≡ 2 ^ bits → IfOk result (IsJudgement texts.now.problem.now texts.now.options texts.now.proof.now bits) }
+    requires nothing { terms.old.pass.placed ≡ [] }
+    requires shares { terms.old.pass.shares ≡ 65 }
+    ensures read { IfOk result (IsRead texts.now.problem.now texts.now.options texts.now.proof.now symbols.new terms.new) }
+    ensures keeps { KeepsTerms terms.old terms.new }
 {
     let flags = flags_of(texts.options);
-    match read_problem(alloc, texts.problem, flags, symbols, &mut terms) {
-        Ok(problem) => judge_proof(alloc, texts, &problem, symbols, terms),
-        Err(ReadFault::Text(refusal)) => Ok(Judgement::RefusedProblem(refusal)),
-        Err(ReadFault::PoolFull) => Ok(pool_full(symbols, terms)),
-        Err(ReadFault::Memory) => Err(Memory),
-    }
+    let problem = match read_problem(alloc, texts.problem, flags, symbols, terms) {
+        Ok(problem) => problem,
+        Err(ReadFault::Text(refusal)) => return Ok(Read::Not(Judgement::RefusedProblem(refusal))),
+        Err(ReadFault::PoolFull) => return Ok(Read::Not(pool_full(symbols, terms))),
+        Err(ReadFault::Memory) => return Err(Memory),
+    };
+    read_behind(alloc, texts, problem, symbols, terms)
+}
+
+/// The two texts as they are read into a pool in which nothing stands, and the pass that knows their terms.
+fn read_into(
+    alloc: Global,
+    texts: &Texts<'_>,
+    symbols: &mut Symbols,
+    pool: &Pool,
+    pass: Pass,
+) -> Result<(Read, Pass), Memory>
+    requires problem { length texts.now.problem.now ≤ most_bytes }
+    requires proof { length texts.now.proof.now ≤ most_bytes }
+    requires new_symbols { IsNewTable symbols.old }
+    requires of_pool { IsPassOf pool.now pass }
+    requires nothing { pass.view.placed ≡ [] }
+    requires shares { pass.view.shares ≡ 65 }
+    ensures read { IfOk result (λ made. IsRead texts.now.problem.now texts.now.options texts.now.proof.now symbols.new
+        (record { pool = pool.now; pass = made.1.view }) made.0) }
+    ensures of_pool { IfOk result (λ made. IsPassOf pool.now made.1) }
+    ensures shares { IfOk result (λ made. made.1.view.shares ≡ 65) }
+    ensures places { IfOk result (λ made. made.1.view.places ≡ pass.view.places) }
+{
+    let mut terms = Terms::new(pool, pass);
+    let read = read_both(alloc, texts, symbols, &mut terms)?;
+    Ok((read, terms.into_pass()))
 }
 
 /// What the texts come to, with a new pool with so many bits.
-fn judge_into(alloc: Global, bits: u32, texts: &Texts<'_>) -> Result<Judgement, Memory>
+fn judge_into<R: Threads + Sync, G: Gate>(
+    workers: &Workers<'_, R, G>,
+    alloc: Global,
+    bits: u32,
+    texts: &Texts<'_>,
+) -> Result<Judgement, Memory>
+    requires workers { IsNumberOfWorkers workers.now.count }
     requires least { LEAST_BITS ≤ bits }
     requires most { bits ≤ MOST_BITS }
     requires problem { length texts.now.problem.now ≤ most_bytes }
@@ -186,25 +257,34 @@ fn judge_into(alloc: Global, bits: u32, texts: &Texts<'_>) -> Result<Judgement, 
     let Ok(mut symbols) = Symbols::new(alloc) else {
         return Err(Memory);
     };
-    let Ok((pool, pass)) = Pool::new(alloc, bits) else {
+    let Ok((mut pool, pass)) = Pool::new(alloc, bits) else {
         return Err(Memory);
     };
+    let (read, mut pass) = read_into(alloc, texts, &mut symbols, &pool, pass)?;
+    let both = match read {
+        Read::Whole(both) => both,
+        Read::Not(judgement) => return Ok(judgement),
+    };
+    share_among(alloc, workers.count, &mut pool, &mut pass)?;
     let terms = Terms::new(&pool, pass);
-    judge_with(alloc, texts, &mut symbols, terms)
+    judge_read(workers, alloc, texts, &both, &symbols, terms)
 }
 
 /// Judges the texts of a problem and of a proof, by the options of a check. The terms are read
 /// into pools of at most 2^most_bits places, 12 to 26 bits: the top call hands in 26. Where a pool has no room for them, the
 /// texts are read again into one that is twice as large.
 ///
-/// The problem's text is read first: its refusal is returned whatever the proof's text is.
-pub fn judge(
+/// The problem's text is read first: its refusal is returned whatever the proof's text is. Both are read by one worker, and the
+/// proof is checked by as many as there are, 1 to 64.
+pub fn judge<R: Threads + Sync, G: Gate>(
+    workers: &Workers<'_, R, G>,
     alloc: Global,
     problem: &[u8],
     options: Options,
     proof: &[u8],
     most_bits: u32,
 ) -> Result<Judgement, Memory>
+    requires workers { IsNumberOfWorkers workers.now.count }
     requires problem { length problem.now ≤ most_bytes }
     requires proof { length proof.now ≤ most_bytes }
     requires least { LEAST_BITS ≤ most_bits }
@@ -217,10 +297,10 @@ pub fn judge(
         options,
     };
     for bits in pool_bits(problem.len() + proof.len() / 8, most_bits)..most_bits {
-        match judge_into(alloc, bits, &texts)? {
+        match judge_into(workers, alloc, bits, &texts)? {
             Judgement::PoolFull => {}
             judgement => return Ok(judgement),
         }
     }
-    judge_into(alloc, most_bits, &texts)
+    judge_into(workers, alloc, most_bits, &texts)
 }

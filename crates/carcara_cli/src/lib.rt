@@ -16,6 +16,6 @@ mod pools;
 mod top;
 
 pub use judgement::{Hole, Judgement};
-pub use judging::judge;
+pub use judging::{Workers, judge};
 pub use laws::full_pools_have_many_cells;
 pub use top::{carcara, carcara_within};

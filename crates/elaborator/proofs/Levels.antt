@@ -7,6 +7,7 @@ use Rattle.term_model.proofs.Zips.{zip_weaken}
 use Rattle.proof_store.specs.AddedSteps.{AddedStep}
 use Rattle.proof_store.specs.declared.added.Link.{Link}
 use Rattle.rule_model.specs.Commands.{Line, lines_to}
+use Rattle.rule_model.specs.Judged.{open_anchors}
 use Rattle.rule_model.specs.Proofs.{ProofItems}
 use Rattle.rule_model.specs.Scopes.{Nesting, outermost, inside, Scope}
 use Rattle.rule_model.specs.Visibility.{visible, open_bindings, assumes_in}
@@ -87,6 +88,7 @@ module _ (s t : State) (g : Grows s t) where
           sees = o.sees;
           assumes = o.assumes;
           bindings = o.bindings;
+          number = o.number;
           opened = o.opened;
           is_opened = g.opened _ o.opened o.is_opened;
           id = o.id;
@@ -118,6 +120,13 @@ same_open job s outermost (inside around before anchor) h = absurd h
 same_open job s (inside around before anchor) outermost h = absurd h
 same_open job s (inside old_around old_before old_anchor) (inside around before anchor) h =
     ap (λ bs. bs ++ anchor.bindings) (same_open job s old_around around h.0) ∙ ap (λ bs. open_bindings old_around ++ bs) h.1.bindings
+
+pub same_anchors : (job : Job) (s : State) (old_nesting nesting : Nesting ℕ ℕ) → AreAround job s old_nesting nesting → open_anchors nesting ≡ open_anchors old_nesting
+same_anchors job s outermost outermost h = refl
+same_anchors job s outermost (inside around before anchor) h = absurd h
+same_anchors job s (inside around before anchor) outermost h = absurd h
+same_anchors job s (inside old_around old_before old_anchor) (inside around before anchor) h =
+    ap (λ bs. bs ∷ open_anchors around) h.1.bindings ∙ ap (λ bss. old_anchor.bindings ∷ bss) (same_anchors job s old_around around h.0)
 
 -- a step that may be added in a scope of the proof may be added where it is written
 pub may_add_here : (job : Job) (old : Scope ℕ ℕ) (s : State) (k : ℕ) (a : AddedStep) → IsReached job old s → MayBeAdded old k a → MayAddHere s k a

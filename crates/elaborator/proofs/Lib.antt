@@ -16,3 +16,4 @@ mod BlockLists
 mod Adding
 mod OpenCalls
 mod WritingCalls
+mod Sourcing

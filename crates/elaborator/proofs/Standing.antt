@@ -1,15 +1,22 @@
 -- A command that closes nothing is written, behind the steps that are added for it.
-use Rattle.std.proofs.Common.{◌≡◌, ◌<◌, ◌⊎◌, inl, inr, ℕ, suc, List, [], ◌∷◌, ◌++◌, length, slice_get, Some, All, Contains, sym, ◌∙◌, ap, subst, arith}
+use Rattle.std.proofs.Common.{◌≡◌, ◌<◌, ◌⊎◌, inl, inr, ℕ, suc, List, [], ◌∷◌, ◌++◌, length, slice_get, Some, All, Contains, sym, ◌∙◌, ap, subst, arith, ◌≤◌, ◌+◌, ◌-◌}
 use Rattle.std.specs.List.{AllZip}
 use Rattle.std.proofs.lemmas.List.{length-append}
 use Rattle.std.proofs.lemmas.List.Elements.{All-push, Contains-push}
-use Rattle.term_model.proofs.Lists.{slice_get-last}
+use Rattle.std.proofs.lemmas.Option.{slice_get_within}
+use Rattle.term_model.proofs.Lists.{slice_get-last, nth_there}
+use Rattle.rule_model.specs.Commands.{Line, lines_to}
+use Rattle.rule_model.specs.Reading.{clause_at}
+use Rattle.rule_model.proofs.Lines.{get_append, get_one}
+use Rattle.rule_model.proofs.Numbers.{lines_count}
+use Rattle.elaborator.proofs.Sourcing.{told_more, source_more}
+use Rattle.proof_store.specs.AddedSteps.{AddedStep}
 use Rattle.rule_model.specs.Elaboration.{Keeps}
 use Rattle.rule_model.specs.Proofs.{ProofItems}
-use Rattle.rule_model.specs.Scopes.{outermost, Scope, at, commands_in, next_index, next_scope}
+use Rattle.rule_model.specs.Scopes.{outermost, Scope, at, commands_in, next_index, next_scope, scope_number}
 use Rattle.rule_model.specs.Statuses.{Checking}
 use Rattle.rule_model.specs.Visibility.{visible, assumes_in}
-use Rattle.elaborator.specs.Reached.{State, seen_in, placed, IsPlacedIn, IsExtended, Job, IsJob, AreAround, IsReached, needed_to}
+use Rattle.elaborator.specs.Reached.{State, seen_in, placed, IsPlacedIn, IsExtended, Job, IsJob, AreAround, IsReached, needed_to, IsTold, LineSource, IsAddedLine}
 use Rattle.elaborator.specs.Steps.{front, block_at}
 use Rattle.elaborator.proofs.Extending.{IsMore}
 use Rattle.elaborator.proofs.Levels.{Grows, grows_then, extended_grows, more_grows, placed_grows, all_placed, assumes_more, around_more, outer_back}
@@ -44,13 +51,66 @@ module _ (job : Job) (is : IsJob job) (old : Scope ℕ ℕ) (i : ℕ) (index : n
   nest : u.builder.nesting ≡ s.builder.nesting
   nest = m.nesting ∙ ext.nesting
 
+  new_line : slice_get (lines_to u.builder) p ≡ Some m.line
+  new_line =
+      subst (λ ls. slice_get ls p ≡ Some m.line) (sym m.lines)
+      (subst (λ n. slice_get (lines_to t.builder ++ m.line ∷ []) n ≡ Some m.line) (lines_count t.builder) (slice_get-last (lines_to t.builder) m.line))
+
+  told_now : clause ≡ clause_at job.proof i → (j q : ℕ) → ((j < length u.places) × (slice_get u.places j ≡ Some q)) ⊎ ((length u.places ≤ j) × (slice_get (p ∷ []) (j - length u.places) ≡ Some q))
+      → IsTold (lines_to u.builder) q (clause_at job.proof j)
+  unfolding v
+  told_now same j q (inl h) =
+      told_more s v grows q (clause_at job.proof j) (reached.told j q (subst (λ (ps : List ℕ). slice_get ps j ≡ Some q) (m.places ∙ ext.places) h.1))
+  told_now same j q (inr h) =
+      let one = get_one p (j - length u.places) q h.1 in
+      let more = h.0 in
+      let zero_is = one.0 in
+      let count : length u.places ≡ i = ap length (m.places ∙ ext.places) ∙ (reached.places ∙ index) in
+      let here : i ≡ j = omega arith in
+      subst (λ x. IsTold (lines_to u.builder) x (clause_at job.proof j)) one.1
+      (record { line = m.line; there = new_line; clause_is = m.clause_is ∙ (same ∙ ap (clause_at job.proof) here) })
+
+  some_line : {a b : Line ℕ ℕ} → Some a ≡ Some b → a ≡ b
+  some_line e = cc
+
+  front_now : ((k : ℕ) (a : AddedStep) (line : Line ℕ ℕ) → slice_get (front (block_at job.blocks i)) k ≡ Some a → IsAddedLine s (next_index s.builder) a line → LineSource job (lines_to t.builder) line)
+      → (k : ℕ) (line : Line ℕ ℕ) → slice_get (lines_to t.builder) k ≡ Some line
+      → ((k < length (lines_to s.builder)) × (slice_get (lines_to s.builder) k ≡ Some line)) ⊎ ((length (lines_to s.builder) ≤ k) × (slice_get ext.more_lines (k - length (lines_to s.builder)) ≡ Some line))
+      → LineSource job (lines_to u.builder) line
+  unfolding v
+  front_now fronts k line there (inl h) = source_more s v grows job line (reached.sources k line h.1)
+  front_now fronts k line there (inr h) =
+      let less = slice_get_within ext.more_lines (k - length (lines_to s.builder)) line h.1 in
+      let size = ext.more_count in
+      let number = k - length (lines_to s.builder) in
+      let a = nth_there (front (block_at job.blocks i)) number (omega arith) in
+      let w = ext.written number a.0 a.1 in
+      let count = lines_count s.builder in
+      let more = h.0 in
+      let here : next_index s.builder + number ≡ k = omega arith in
+      let same : w.0 ≡ line = some_line (sym (subst (λ n. slice_get (lines_to t.builder) n ≡ Some w.0) here w.1) ∙ there) in
+      subst (LineSource job (lines_to u.builder)) same
+      (source_more t v (grows_then t u v (more_grows t u clause m) (placed_grows u p)) job w.0 (fronts number a.0 w.0 a.1 w.2))
+
+  source_now : LineSource job (lines_to u.builder) m.line
+      → ((k : ℕ) (a : AddedStep) (line : Line ℕ ℕ) → slice_get (front (block_at job.blocks i)) k ≡ Some a → IsAddedLine s (next_index s.builder) a line → LineSource job (lines_to t.builder) line)
+      → (k : ℕ) (line : Line ℕ ℕ)
+      → ((k < length (lines_to t.builder)) × (slice_get (lines_to t.builder) k ≡ Some line)) ⊎ ((length (lines_to t.builder) ≤ k) × (slice_get (m.line ∷ []) (k - length (lines_to t.builder)) ≡ Some line))
+      → LineSource job (lines_to u.builder) line
+  source_now source fronts k line (inl h) =
+      front_now fronts k line h.1 (get_append (lines_to s.builder) ext.more_lines k line (subst (λ ls. slice_get ls k ≡ Some line) ext.lines h.1))
+  source_now source fronts k line (inr h) =
+      subst (LineSource job (lines_to u.builder)) (get_one m.line (k - length (lines_to t.builder)) line h.1).1 source
+
   pub reached_next : (items : ProofItems ℕ ℕ) → next_index (at old.nesting items) ≡ suc i → next_scope (at old.nesting items) ≡ next_scope old
       → visible old.nesting items ≡ visible old.nesting old.items ++ i ∷ []
       → ((c : Checking) → Keeps c old.nesting items u.builder.nesting u.builder.items)
       → AllZip (λ j q. slice_get (u.places ++ p ∷ []) j ≡ Some q) (assumes_in old.nesting items) (assumes_in u.builder.nesting u.builder.items) ⊎ (old.nesting ≡ outermost)
+      → clause ≡ clause_at job.proof i → LineSource job (lines_to u.builder) m.line
+      → ((k : ℕ) (a : AddedStep) (line : Line ℕ ℕ) → slice_get (front (block_at job.blocks i)) k ≡ Some a → IsAddedLine s (next_index s.builder) a line → LineSource job (lines_to t.builder) line)
       → IsReached job (at old.nesting items) (placed p u)
   unfolding v
-  reached_next items next scope visible_old keeps assumes = record {
+  reached_next items next scope visible_old keeps assumes clause_same source fronts = record {
     tidy = tidy_placed u p m.tidy;
     around = subst (AreAround job v old.nesting) (sym nest) (around_more s v grows job old.nesting s.builder.nesting reached.around);
     level = record {
@@ -65,6 +125,9 @@ module _ (job : Job) (is : IsJob job) (old : Scope ℕ ℕ) (i : ℕ) (index : n
         let count : length u.places ≡ i = ap length (m.places ∙ ext.places) ∙ (reached.places ∙ index) in
         let longer = length-append u.places (p ∷ []) in omega arith;
     opened = ap length (m.opened ∙ ext.opened) ∙ (reached.opened ∙ sym scope);
+    number = ap scope_number nest ∙ reached.number;
+    told = λ j q e. told_now clause_same j q (get_append u.places (p ∷ []) j q e);
+    sources = λ k line e. source_now source fronts k line (get_append (lines_to t.builder) (m.line ∷ []) k line (subst (λ ls. slice_get ls k ≡ Some line) m.lines e));
     room =
         let before = reached.room in
         let same = ap (needed_to job) index in

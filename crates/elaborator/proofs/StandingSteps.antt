@@ -2,7 +2,6 @@
 use Rattle.std.proofs.Common.{◌≡◌, ◌<◌, ◌+◌, ◌-◌, ◌^◌, ◌⊎◌, inl, inr, ℕ, zero, suc, true, false, List, [], ◌∷◌, ◌++◌, map, length, slice_get, slice_index, Some, None, All, Contains, refl, sym, ◌∙◌, ap, subst, arith, add-one}
 use Rattle.std.specs.List.{AllZip}
 use Rattle.std.specs.Option.{option_map}
-use Rattle.std.proofs.lemmas.List.{map-append}
 use Rattle.std.proofs.lemmas.List.Elements.{All-map, All-weaker, All-contains}
 use Rattle.std.proofs.lemmas.Option.{slice_get-map, slice_get_within}
 use Rattle.term_model.proofs.Zips.{zip_push}
@@ -14,7 +13,7 @@ use Rattle.rule_model.specs.Reading.{clause_of, is_assume, rule_at, rule_name_at
 use Rattle.rule_model.specs.RuleNames.{kind_of, IsJudged}
 use Rattle.rule_model.specs.Scopes.{Nesting, outermost, Scope, at, commands_in, first_index, next_index, next_scope}
 use Rattle.rule_model.specs.Statuses.{Checking}
-use Rattle.rule_model.specs.Visibility.{Sight, sight, direct_assumes, visible, assumes_in}
+use Rattle.rule_model.specs.Visibility.{visible, assumes_in}
 use Rattle.rule_model.specs.WellFormed.{HasRule, MayStand}
 use Rattle.rule_model.specs.Writing.{add_assume, add_step, add_command, take_step, MayTake, MayAddHere as MayStandHere}
 use Rattle.rule_model.proofs.LineReading.{closes_is}
@@ -151,6 +150,60 @@ module _ (job : Job) (is : IsJob job) (i : ℕ) (l : Line ℕ ℕ) (there : slic
       let index = ap (needed_to job) (index_is job.proof i l there) in
       let before = reached.room in
       let few = is.few in omega arith
+
+-- where a command belongs
+own_number : (l : Line ℕ ℕ) (c : IndexedCommand ℕ) → scope_number (standing l c).nesting ≡ own_scope l.scope.nesting c
+own_number l (assume id t) = refl
+own_number l (step s) = refl
+own_number l (closing s) = go l.scope.nesting
+  where
+    go : (n : Nesting ℕ ℕ) → scope_number (outside n).nesting ≡ own_scope n (closing s)
+    go outermost = refl
+    go (Rattle.rule_model.specs.Scopes.inside around before anchor) = refl
+
+own_nest : (l : Line ℕ ℕ) (c : IndexedCommand ℕ) → (standing l c).nesting ≡ own_nesting l.scope.nesting c
+own_nest l (assume id t) = refl
+own_nest l (step s) = refl
+own_nest l (closing s) = go l.scope.nesting
+  where
+    go : (n : Nesting ℕ ℕ) → (outside n).nesting ≡ own_nesting n (closing s)
+    go outermost = refl
+    go (Rattle.rule_model.specs.Scopes.inside around before anchor) = refl
+
+module _ (job : Job) (is : IsJob job) (i : ℕ) (l : Line ℕ ℕ) (there : slice_get (lines_in outermost job.proof) i ≡ Some l) where
+  -- the source of an added step before the last of its block
+  pub front_source : (s t : State) (old : Scope ℕ ℕ) → IsReached job old s → standing l l.command ≡ old → IsExtended (front (block_at job.blocks i)) s t
+      → (m : ℕ) (a : AddedStep) (line : Line ℕ ℕ) → slice_get (front (block_at job.blocks i)) m ≡ Some a → IsAddedLine s (next_index s.builder) a line → LineSource job (lines_to t.builder) line
+  front_source s t old reached same ext m a line e w =
+      let block = block_at job.blocks i in
+      let g = extended_grows (front block) s t ext in
+      let in_front = slice_get_within (front block) m a e in
+      let size = front_length block in
+      let less = within job is i l there in
+      let count = is.blocks.count in
+      line_of_block i m block a (block_there job.blocks i (omega arith)) (front_get block m a e) (omega arith)
+      (looks_added (lines_to t.builder) s.places job.proof (λ j p x. told_more s t g p (clause_at job.proof j) (reached.told j p x)) block (next_index s.builder) m (omega arith) news
+      s a line (own_anchors job.proof i) refl w (found (front_may job is i l there s old reached same m a e)) anchored)
+      (w.own ∙ (reached.number ∙ (ap (λ (x : Scope ℕ ℕ). scope_number x.nesting) (sym same) ∙ (own_number l l.command ∙ sym (scope_is job.proof i l there)))))
+    where
+      anchored : open_anchors line.scope.nesting ≡ own_anchors job.proof i
+      anchored =
+          ap open_anchors w.nesting
+          ∙ (same_anchors job s old.nesting s.builder.nesting reached.around
+          ∙ (ap (λ (x : Scope ℕ ℕ). open_anchors x.nesting) (sym same)
+          ∙ (ap open_anchors (own_nest l l.command)
+          ∙ sym (ap (λ o. option_map_or (λ (x : Line ℕ ℕ). open_anchors (own_nesting x.scope.nesting x.command)) o []) there))))
+
+      news : (n : ℕ) (b : AddedStep) → n < m → slice_get (block_at job.blocks i) n ≡ Some b → IsTold (lines_to t.builder) (next_index s.builder + n) b.clause
+      news n b below at_block =
+          let in_front = slice_get_within (front (block_at job.blocks i)) m a e in
+          let c = nth_there (front (block_at job.blocks i)) n (omega arith) in
+          let same_step : c.0 ≡ b = some_last (sym (front_get (block_at job.blocks i) n c.0 c.1) ∙ at_block) in
+          let seen = ext.each n c.0 c.1 in
+          record { line = seen.line; there = seen.there; clause_is = seen.clause_is ∙ ap (λ (x : AddedStep). x.clause) same_step }
+
+      found : MayAddHere s m a → All (IsFound (lines_to t.builder) s.places job.proof (λ j p x. told_more s t (extended_grows (front (block_at job.blocks i)) s t ext) p (clause_at job.proof j) (reached.told j p x)) (block_at job.blocks i) (next_index s.builder) m) a.premises
+      found h = ?
 
 -- what the step in the place of command i asks for, and what is reached when it is written
 pub record IsStood (job : Job) (i : ℕ) (t : State) (new : Step ℕ) : Type 0 where
@@ -349,11 +402,6 @@ module _ (job : Job) (is : IsJob job) (i : ℕ) (s t : State) where
           nothing : {k : ℕ} → Some k ≡ None → ⊥
           nothing e = cc
 
--- behind an assume there is one more
-assumes_assume : {V T : Type 0} (n : Nesting V T) (items : ProofItems V T) (id : List ℕ) (t : T)
-    → assumes_in n (with_assume items id t) ≡ assumes_in n items ++ (first_index n + commands_in items) ∷ []
-assumes_assume n items id t = map-append (λ (x : Sight). x.index) (direct_assumes n items) (sight (first_index n + commands_in items) id ∷ [])
-
 -- an assume that is kept
 module _ (job : Job) (is : IsJob job) (i : ℕ) (s : State) where
   assume_reached : (scope : Scope ℕ ℕ) (own_id : List ℕ) (r : ℕ) → slice_get (lines_in outermost job.proof) i ≡ Some (record { scope = scope; command = assume own_id r })
@@ -377,12 +425,8 @@ module _ (job : Job) (is : IsJob job) (i : ℕ) (s : State) where
       (reached_next job is scope i index less s s u (r ∷ []) reached ext m (with_assume scope.items own_id r) next refl seen
       (λ c. assume_kept scope.nesting s.builder.nesting scope.items s.builder.items s.builder.items own_id id r (reached.level.keeps c) (ext.adds c))
       (elim reached.level.assumes [
-        | inl zip ↦ inl (subst (λ js. AllZip (λ j q. slice_get (s.places ++ p ∷ []) j ≡ Some q) js (assumes_in s.builder.nesting (with_assume s.builder.items id r)))
-            (sym (assumes_assume scope.nesting scope.items own_id r))
-            (subst (λ qs. AllZip (λ j q. slice_get (s.places ++ p ∷ []) j ≡ Some q) (assumes_in scope.nesting scope.items ++ (first_index scope.nesting + commands_in scope.items) ∷ []) qs)
-            (sym (assumes_assume s.builder.nesting s.builder.items id r))
-            (zip_push (λ j q. slice_get (s.places ++ p ∷ []) j ≡ Some q) (assumes_in scope.nesting scope.items) (assumes_in s.builder.nesting s.builder.items) _ p
-            (assumes_more s (placed p s) (Rattle.elaborator.proofs.Levels.placed_grows s p) (assumes_in scope.nesting scope.items) (assumes_in s.builder.nesting s.builder.items) zip) place)))
+        | inl zip ↦ inl (zip_push (λ j q. slice_get (s.places ++ p ∷ []) j ≡ Some q) (assumes_in scope.nesting scope.items) (assumes_in s.builder.nesting s.builder.items) _ p
+            (assumes_more s (placed p s) (Rattle.elaborator.proofs.Levels.placed_grows s p) (assumes_in scope.nesting scope.items) (assumes_in s.builder.nesting s.builder.items) zip) place)
         | inr outer ↦ inr outer
       ]))
 

@@ -4,4 +4,5 @@ pub mod Links
 pub mod Assembled
 pub mod Closers
 pub mod Steps
+pub mod Sources
 pub mod Reached

@@ -31,7 +31,7 @@ StandForOne = (s : Table) (v : TermsView) (refs : ProofItems ℕ ℕ) (p q : Pro
 pub some_stand : (s : Table) (v : TermsView) (refs : ProofItems ℕ ℕ) (x : OpenScopes) → AreKept s v refs x → StandForSome s v refs
 some_stand s v refs x h = record { proof = h.proof; stand = h.stand }
 
-refer_later : (s : Table) (v w : TermsView) → KeepsTerms v w → (rs : List ℕ) (ts : List Term) → ReferToAll s v rs ts → ReferToAll s w rs ts
+pub refer_later : (s : Table) (v w : TermsView) → KeepsTerms v w → (rs : List ℕ) (ts : List Term) → ReferToAll s v rs ts → ReferToAll s w rs ts
 refer_later s v w keeps [] [] h = tt
 refer_later s v w keeps [] (t ∷ ts) h = absurd h
 refer_later s v w keeps (r ∷ rs) [] h = absurd h

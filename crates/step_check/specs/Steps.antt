@@ -18,6 +18,10 @@ use Rattle.rule_model.specs.Statuses.{kind_of_rule, IsAsserted, MayAssume, IsSta
 use Rattle.proof_store.specs.Meaning.{IsPivotOf, StandForItems}
 use Rattle.proof_store.specs.Ratios.{fractions}
 use Rattle.term_reader.specs.declared.flags.Flags.{Flags}
+use Rattle.flip_keys.specs.Assertions.{references_of, AreAssertionsReady}
+use Rattle.flip_keys.specs.declared.assertions.Assertions.{Assertions}
+use Rattle.proof_contexts.specs.OpenAnchors.{AreKept}
+use Rattle.proof_contexts.specs.declared.scopes.OpenScopes.{OpenScopes}
 use Rattle.step_check.specs.Statuses.{checking}
 use Rattle.step_check.specs.declared.families.Given.{Given}
 
@@ -65,3 +69,9 @@ abbrev pub IsStatusOfAnswer : Answer → Status → Type 0
 IsStatusOfAnswer Answer.Met status = status ≡ Status.Ok
 IsStatusOfAnswer Answer.NotMet status = status ≡ Status.Faulty StepCause.NotMet
 IsStatusOfAnswer Answer.TooWide status = status ≡ Status.Wide
+
+-- what a check keeps from step to step is right, for these references of assertions and this proof
+pub record IsKeptFor (s : Table) (v : TermsView) (rs : List ℕ) (refs : ProofItems ℕ ℕ) (asserted : Assertions) (scopes : OpenScopes) : Type 0 where
+  pub references : references_of asserted ≡ rs
+  pub ready : AreAssertionsReady v asserted
+  pub kept : AreKept s v refs scopes

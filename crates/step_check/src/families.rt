@@ -1,7 +1,6 @@
 //! What a step comes to by the family of its rule, where this looks at the step alone.
 
 ghost use Rattle.std.specs.Prelude.{◌≡◌, ◌≢◌, All, IfOk, IfSome};
-ghost use Rattle.known_args.specs.Rows.{AreRight};
 ghost use Rattle.proof_store.specs.Ratios.{fractions};
 ghost use Rattle.rule_model.specs.declared.kinds.Family.TheVariants as Family;
 ghost use Rattle.rule_model.specs.declared.kinds.Kind.TheVariants as Kind;
@@ -12,7 +11,6 @@ ghost use Rattle.term_parts.specs.Judging.{IsStepOf, TellsEach};
 ghost use Rattle.term_pool.specs.Views.{IsTerm};
 ghost use Rattle.step_check.specs.Steps.{StandsForGiven};
 
-use known_args::KnownArgs;
 use pair_pool::{Memory, Ref};
 use proof_store::Ratio;
 use rule_model::Family;
@@ -33,7 +31,6 @@ pub(crate) struct Given<'a> {
 #[derive(Drop)]
 pub(crate) struct Scratches {
     pub(crate) alloc: Global,
-    pub(crate) known: KnownArgs,
     pub(crate) resolution: rules_resolution::Scratch,
     pub(crate) arithmetic: rules_arith::Scratch,
 }
@@ -53,17 +50,13 @@ pub(crate) fn judge(
     requires short { AreShort given.step.premises.now }
     requires pivots { All (λ p. IsTerm symbols.now terms.old p.0) given.pivots.now }
     requires lowest { IfSome (fractions given.ratios) (All IsLowest) }
-    requires right { AreRight terms.old scratches.old.known }
     ensures met { IfOk result (TellsEach (StandsForGiven symbols.now terms.old given.entry)) }
-    ensures right { AreRight terms.old scratches.new.known }
     ensures same { terms.new ≡ terms.old }
 {
     let alloc = scratches.alloc;
     let step = given.step;
     match family {
-        Family::Clausal => {
-            rules_clausal::meets_knowing(alloc, &mut scratches.known, symbols, terms, step)
-        }
+        Family::Clausal => rules_clausal::meets(alloc, symbols, terms, step),
         Family::Congruence => rules_congruence::meets(alloc, symbols, terms, step),
         Family::Ite => rules_ite::meets(alloc, symbols, terms, step),
         Family::Simplify => rules_simplify::meets(alloc, symbols, terms, step),

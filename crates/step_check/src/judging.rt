@@ -1,7 +1,6 @@
 //! Whether the step at an index meets the condition of its rule.
 
 ghost use Rattle.std.specs.Prelude.{◌≡◌, ◌≢◌, ◌<◌, map, IfErr, IfOk, None};
-ghost use Rattle.known_args.specs.Rows.{AreRight};
 ghost use Rattle.proof_store.specs.Checks.{KeepsTruthAt, StandForSome};
 ghost use Rattle.proof_store.specs.Meaning.{StandForItems};
 ghost use Rattle.rule_model.specs.declared.kinds.Family.TheVariants as Family;
@@ -23,7 +22,6 @@ ghost use Rattle.step_check.specs.Statuses.{TellsMet};
 ghost use Rattle.step_check.specs.Steps.{IsStepAt};
 
 use crate::families::{Given, Scratches, judge};
-use known_args::KnownArgs;
 use pair_pool::{Memory, Ref};
 use proof_store::{Proof, commands_correspond, premise_clauses, terms_correspond};
 use rule_model::laws::conditions::conditions_keep_truth;
@@ -45,20 +43,17 @@ pub(crate) struct At<'a> {
 /// What the rules keep from step to step, but refl.
 #[derive(Drop)]
 pub(crate) struct Rules<'a> {
-    pub(crate) scratches: Scratches,
+    scratches: Scratches,
     /// The clauses of the premises of the step that was judged last.
     pub(crate) premises: Vec<&'a [Ref]>,
 }
 
 impl<'a> Rules<'a> {
     /// Nothing is kept. Takes no memory.
-    pub(crate) fn new(alloc: Global) -> Rules<'a>
-        ensures { (v : TermsView) → AreRight v result.scratches.known }
-    {
+    pub(crate) fn new(alloc: Global) -> Rules<'a> {
         Rules {
             scratches: Scratches {
                 alloc,
-                known: KnownArgs::new(alloc),
                 resolution: rules_resolution::Scratch::new(alloc),
                 arithmetic: rules_arith::Scratch::new(alloc),
             },
@@ -107,9 +102,7 @@ fn answer_by_step<'a>(
     requires stand { StandForSome symbols.now terms.old at.now.proof.now }
     requires short { IsShort at.now.proof.now }
     requires sorted { (of : ProofItems Var Term) → StandForItems symbols.now terms.old at.now.proof.now of → IsClauseOfTruths (clause_at of at.now.i) }
-    requires right { AreRight terms.old rules.old.scratches.known }
     ensures met { IfOk result (TellsMet at.now.mode symbols.now terms.old at.now.proof.now at.now.i) }
-    ensures right { AreRight terms.old rules.new.scratches.known }
     ensures same { terms.new ≡ terms.old }
 {
     commands_correspond();
@@ -144,10 +137,8 @@ pub(crate) fn answer_at<'a>(
     requires stand { StandForSome symbols.now terms.old at.now.proof.now }
     requires short { IsShort at.now.proof.now }
     requires sorted { (of : ProofItems Var Term) → StandForItems symbols.now terms.old at.now.proof.now of → IsClauseOfTruths (clause_at of at.now.i) }
-    requires right { AreRight terms.old rules.old.scratches.known }
     ensures met { IfOk result (TellsMet at.now.mode symbols.now terms.old at.now.proof.now at.now.i) }
     ensures stop { IfErr result (λ stop. stop ≡ RuleStop.Memory) }
-    ensures right { AreRight terms.old rules.new.scratches.known }
     ensures same { terms.new ≡ terms.old }
 {
     match family {

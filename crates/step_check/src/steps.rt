@@ -2,7 +2,6 @@
 
 ghost use Rattle.std.specs.Prelude.{◌≡◌, ◌≢◌, ◌<◌, ℕ, List, IfErr, IfOk, OnOk};
 ghost use Rattle.flip_keys.specs.Assertions.{references_of, AreAssertionsReady};
-ghost use Rattle.known_args.specs.Rows.{AreRight};
 ghost use Rattle.proof_store.specs.Checks.{StandForSome};
 ghost use Rattle.proof_store.specs.Meaning.{StandForItems};
 ghost use Rattle.term_parts.specs.declared.answers.RuleStop.TheVariants as RuleStop;
@@ -26,7 +25,6 @@ use crate::judging::{At, Rules, answer_at, step_at};
 use crate::kinds::{kind_of, mode_of};
 use crate::looking_ahead::Ahead;
 use flip_keys::{Assertions, keys_stay};
-use known_args::known_args_stay;
 use pair_pool::{Memory, Ref};
 use proof_contexts::{OpenScopes, anchors_are_those_of_scopes, commands_stand_in_scopes};
 use proof_store::{
@@ -47,9 +45,9 @@ pub(crate) struct Subject<'a> {
     pub(crate) flags: Flags,
 }
 
-/// What a check keeps from step to step.
+/// What a check keeps from step to step, and a worker from chunk to chunk.
 #[derive(Drop)]
-pub(crate) struct Kept<'a> {
+pub struct Kept<'a> {
     pub(crate) ahead: Ahead,
     pub(crate) rules: Rules<'a>,
     pub(crate) asserted: Assertions,
@@ -133,11 +131,9 @@ fn status_of_step<'a>(
     requires short { IsShort subject.now.proof.now }
     requires sorted { (of : ProofItems Var Term) → StandForItems subject.now.symbols.now terms.old subject.now.proof.now of →
         IsClauseOfTruths (clause_at of i) }
-    requires right { AreRight terms.old rules.old.scratches.known }
     ensures status { (asserted : List ℕ) →
         IfOk result (λ status. IsStatusOf subject.now.flags subject.now.symbols.now terms.old asserted subject.now.proof.now i status) }
     ensures stop { IfErr result (λ stop. stop ≡ RuleStop.Memory) }
-    ensures right { AreRight terms.old rules.new.scratches.known }
     ensures same { terms.new ≡ terms.old }
 {
     commands_correspond();
@@ -228,7 +224,6 @@ fn status_of_command<'a>(
     requires short { IsShort subject.now.proof.now }
     requires sorted { (of : ProofItems Var Term) → StandForItems subject.now.symbols.now terms.old subject.now.proof.now of →
         IsClauseOfTruths (clause_at of i) }
-    requires right { AreRight terms.old kept.old.rules.scratches.known }
     ensures status { IfOk result (λ status. IsStatusOf subject.now.flags subject.now.symbols.now terms.old
         (references_of kept.old.asserted) subject.now.proof.now i status) }
     ensures placed { PlacesOnly subject.now.symbols.now terms.old terms.new subject.now.proof.now }
@@ -237,11 +232,9 @@ fn status_of_command<'a>(
     ensures ready { OnOk result (AreAssertionsReady terms.new kept.new.asserted) }
     ensures keeps { KeepsTerms terms.old terms.new }
     ensures kept { AreKept subject.now.symbols.now terms.new subject.now.proof.now kept.new.scopes }
-    ensures right { AreRight terms.new kept.new.rules.scratches.known }
 {
     commands_correspond();
     keys_stay();
-    known_args_stay();
     match kind_of(subject.proof.rule(i), subject.flags) {
         Kind::Assumed => Ok(status_of_assume(&mut kept.asserted, subject, i, terms)?),
         Kind::Hole => Ok(Status::Hole),
@@ -273,7 +266,6 @@ pub(crate) fn status_at<'a>(
     requires short { IsShort subject.now.proof.now }
     requires sorted { (of : ProofItems Var Term) → StandForItems subject.now.symbols.now terms.old subject.now.proof.now of →
         IsClauseOfTruths (clause_at of i) }
-    requires right { AreRight terms.old kept.old.rules.scratches.known }
     ensures status { IfOk result (λ status. IsStatusOf subject.now.flags subject.now.symbols.now terms.old
         (references_of kept.old.asserted) subject.now.proof.now i status) }
     ensures placed { PlacesOnly subject.now.symbols.now terms.old terms.new subject.now.proof.now }
@@ -282,7 +274,6 @@ pub(crate) fn status_at<'a>(
     ensures ready { OnOk result (AreAssertionsReady terms.new kept.new.asserted) }
     ensures keeps { KeepsTerms terms.old terms.new }
     ensures kept { AreKept subject.now.symbols.now terms.new subject.now.proof.now kept.new.scopes }
-    ensures right { AreRight terms.new kept.new.rules.scratches.known }
 {
     kept.ahead.look(subject.proof, i, terms)?;
     status_of_command(subject, i, kept, terms)

@@ -41,7 +41,3 @@ returns-in-Unknown-clause-status c of ts stand all =
     let flags = c.args.subject.now.flags in
     let same = c.commands_correspond.ensures.rule c.args.subject.now.symbols.now c.args.terms.now c.args.subject.now.proof.now of c.args.i stand in
     unknown_status flags ts of c.args.i (sym (c.in-Unknown.ensures ts ∙ ap (kind_of_rule (checking flags ts)) (c.rule.ensures ∙ same)))
-
-pub returns-in-Judged-Refl-clause-right : goal.returns-in-Judged-Refl-clause-right
-returns-in-Judged-Refl-clause-right c =
-    c.known_args_stay.ensures c.args.terms.now c.status_of_refl.new.terms c.args.kept.now.rules.scratches.known c.status_of_refl.ensures.keeps c.requires.right
