@@ -1,2 +1,3 @@
-mod TableLemmas
+pub mod TableLemmas
 mod RowLemmas
+mod ApplicationLemmas

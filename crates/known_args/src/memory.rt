@@ -1,4 +1,4 @@
-//! The arguments of the applications that were asked for last.
+//! The arguments of the applications that were read last.
 
 ghost use Rattle.std.specs.Prelude.{◌≡◌, ◌∷◌, Some, IfOk, IfSome};
 ghost use Rattle.pair_pool.specs.Views.{IsKnown};
@@ -7,6 +7,7 @@ ghost use Rattle.term_model.specs.Terms.{Term};
 ghost use Rattle.term_pool.specs.Reading.{arguments_of, IsLet};
 ghost use Rattle.term_pool.specs.Views.{KeepsTerms, RefersTo, ReferToAll, TermsView};
 ghost use Rattle.known_args.specs.Rows.{AreRight, AreRows, row_at};
+ghost use Rattle.known_args.specs.declared.memory.Place.TheVariants as Place;
 
 use crate::row::Row;
 use pair_pool::{Memory, Ref};
@@ -17,7 +18,16 @@ use term_pool::Terms;
 // Of so many applications with many arguments these are kept.
 const ROWS: usize = 8;
 
-/// The arguments of the application that was asked for last, and of some before it that have many.
+/// Where the arguments of an application are.
+#[derive(Clone, Copy)]
+pub enum Place {
+    /// They were read last.
+    Last,
+    /// They have this number among those that are kept.
+    Kept(usize),
+}
+
+/// The arguments of the application that was read last, and of some before it that have many.
 ///
 /// Takes memory in proportion to these arguments.
 #[derive(Drop)]
@@ -50,7 +60,7 @@ impl KnownArgs {
 
     /// The place of the arguments of an application: a leaf has none, and of a let it says nothing. They are read where they
     /// are not kept. Refuses only when out of memory, and what is kept stays right.
-    pub fn place(&mut self, terms: &mut Terms<'_>, r: Ref) -> Result<Option<usize>, Memory>
+    pub fn place(&mut self, terms: &mut Terms<'_>, r: Ref) -> Result<Place, Memory>
         requires known { IsKnown terms.old.pass r }
         requires right { AreRight terms.old self.old }
         ensures arguments { IfOk result (λ place. (s : Table) (t : Term) → RefersTo s terms.old r t → (IsLet t → ⊥) →
@@ -60,36 +70,36 @@ impl KnownArgs {
     {
         terms.one_to_one();
         if self.last.is_of(r) {
-            return Ok(None);
+            return Ok(Place::Last);
         }
-        if let Some(place) = self.find(r) {
-            return Ok(Some(place));
+        if let Some(number) = self.find(r) {
+            return Ok(Place::Kept(number));
         }
         let list = self.free_list()?;
         self.last = Row::read(self.alloc, terms, r, list)?;
-        Ok(None)
+        Ok(Place::Last)
     }
 
     /// The arguments at a place.
-    pub fn row(&self, place: Option<usize>) -> &Row
+    pub fn row(&self, place: Place) -> &Row
         ensures { result.now ≡ row_at self.now place }
     {
-        let Some(place) = place else {
+        let Place::Kept(number) = place else {
             return &self.last;
         };
-        match self.kept.get(place) {
+        match self.kept.get(number) {
             Some(row) => row,
             None => &self.last,
         }
     }
 
-    /// Where the arguments of an application are kept.
+    /// The number among those that are kept of the arguments of an application.
     fn find(&self, r: Ref) -> Option<usize>
-        ensures { IfSome result (λ place. (row_at self.now (Some place)).0 ≡ Some r) }
+        ensures { IfSome result (λ number. (row_at self.now (Place.Kept number)).0 ≡ Some r) }
     {
-        'rows: for place in 0..self.kept.len() {
-            if self.kept[place].is_of(r) {
-                return Some(place);
+        'rows: for number in 0..self.kept.len() {
+            if self.kept[number].is_of(r) {
+                return Some(number);
             }
         }
         None

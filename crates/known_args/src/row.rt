@@ -3,7 +3,8 @@
 ghost use Rattle.std.specs.Prelude.{◌≡◌, ◌↔◌, ◌<◌, ℕ, [], None, Some, IsTrue, IfOk, OnOk, Contains, length};
 ghost use Rattle.pair_pool.specs.Views.{IsKnown};
 ghost use Rattle.known_args.specs.Rows.{IsRowOf};
-ghost use Rattle.known_args.specs.Tables.{AddsNumber, HasTable};
+ghost use Rattle.rule_model.specs.Resolution.{IsFirstsOf};
+ghost use Rattle.known_args.specs.Tables.{AddsItem, HasTable};
 
 use indexmap::IndexSet;
 use pair_pool::{Memory, Ref};
@@ -20,8 +21,8 @@ const FEW: usize = 32;
 pub struct Row {
     of: Option<Ref>,
     items: Vec<Ref>,
-    // where there are many, their numbers
-    table: IndexSet<u32>,
+    // where there are many, each of them once, in the order in which they come first
+    table: IndexSet<Ref>,
 }
 
 impl Model for Row {
@@ -36,16 +37,16 @@ impl Model for Row {
 }
 
 /// Adds a reference to a table.
-fn add(table: &mut IndexSet<u32>, r: Ref) -> Result<(), Memory>
-    ensures { OnOk result (AddsNumber table.old.keys table.new.keys r) }
+fn add(table: &mut IndexSet<Ref>, r: Ref) -> Result<(), Memory>
+    ensures { OnOk result (AddsItem table.old.keys table.new.keys r) }
 {
-    table.insert(r.number())?;
+    table.insert(r)?;
     Ok(())
 }
 
 /// The table of some references.
-fn table_of(alloc: Global, items: &[Ref]) -> Result<IndexSet<u32>, Memory>
-    ensures { IfOk result (λ table. (k : ℕ) → Contains table.keys k ↔ Contains items.now k) }
+fn table_of(alloc: Global, items: &[Ref]) -> Result<IndexSet<Ref>, Memory>
+    ensures { IfOk result (λ table. IsFirstsOf [] items.now table.keys) }
 {
     let mut table = IndexSet::new(alloc);
     'items: for place in 0..items.len() {
@@ -55,7 +56,7 @@ fn table_of(alloc: Global, items: &[Ref]) -> Result<IndexSet<u32>, Memory>
 }
 
 /// The table of some references where they are many, and else an empty one.
-fn table_of_many(alloc: Global, items: &[Ref]) -> Result<IndexSet<u32>, Memory>
+fn table_of_many(alloc: Global, items: &[Ref]) -> Result<IndexSet<Ref>, Memory>
     ensures { IfOk result (λ table. HasTable items.now table.keys) }
 {
     if items.len() <= FEW {
@@ -65,10 +66,10 @@ fn table_of_many(alloc: Global, items: &[Ref]) -> Result<IndexSet<u32>, Memory>
 }
 
 /// Whether a reference is in a table.
-fn is_in(table: &IndexSet<u32>, x: Ref) -> bool
+fn is_in(table: &IndexSet<Ref>, x: Ref) -> bool
     ensures { IsTrue result ↔ Contains table.now.keys x }
 {
-    table.contains(&x.number())
+    table.contains(&x)
 }
 
 /// Whether a reference is in a list.
@@ -78,9 +79,31 @@ fn is_among(items: &[Ref], x: Ref) -> bool
     items.contains(&x)
 }
 
+/// Adds a reference to a list that lacks it.
+fn add_missing(list: &mut Vec<Ref>, r: Ref) -> Result<(), Memory>
+    ensures { OnOk result (AddsItem list.old.items list.new.items r) }
+{
+    if is_among(list, r) {
+        return Ok(());
+    }
+    list.push(r)?;
+    Ok(())
+}
+
+/// Few references without later repeats.
+fn few_once_each(alloc: Global, items: &[Ref]) -> Result<Vec<Ref>, Memory>
+    ensures { IfOk result (λ list. IsFirstsOf [] items.now list.items) }
+{
+    let mut list = Vec::new(alloc);
+    'items: for place in 0..items.len() {
+        add_missing(&mut list, items[place])?;
+    }
+    Ok(list)
+}
+
 impl Row {
     /// Those of no application.
-    pub(crate) fn none(alloc: Global) -> Row
+    pub fn none(alloc: Global) -> Row
         ensures { result ≡ (None, []) }
     {
         Row {
@@ -152,5 +175,17 @@ impl Row {
             return is_in(&self.table, x);
         }
         is_among(&self.items, x)
+    }
+
+    /// The arguments without later repeats, in order. Those of many are copied from the table.
+    pub fn once_each(&self, alloc: Global) -> Result<Vec<Ref>, Memory>
+        ensures { IfOk result (λ list. IsFirstsOf [] self.now.1 list.items) }
+    {
+        if self.items.len() <= FEW {
+            return few_once_each(alloc, &self.items);
+        }
+        let mut list = Vec::new(alloc);
+        list.extend_from_slice(self.table.as_slice())?;
+        Ok(list)
     }
 }

@@ -1,14 +1,11 @@
 //! The rules over the arguments of `and` and `or`.
 
-ghost use Rattle.std.specs.Prelude.{◌≡◌, ◌↔◌, List, All, IsTrue, IfNone, IfOk, IfSome, length, map, Some};
+ghost use Rattle.std.specs.Prelude.{◌≡◌, ◌↔◌, List, All, IsTrue, IfOk, map};
 ghost use Rattle.known_args.specs.Rows.{AreRight};
 ghost use Rattle.term_model.specs.Terms.{Term};
-ghost use Rattle.term_pool.specs.Reading.{arguments_of};
 ghost use Rattle.term_pool.specs.Views.{IsTerm, RefersTo, ReferToAll};
 ghost use Rattle.rules_clausal.specs.ArgumentRules.{Asks, Gives, HasCondition, IsOneOf};
-ghost use Rattle.schema_match.specs.Arguments.{HasNoArguments};
-ghost use Rattle.schema_match.specs.Signs.{sign_of, IsSigned};
-ghost use Rattle.term_parts.specs.Parts.{IsOver};
+ghost use Rattle.schema_match.specs.Signs.{sign_of};
 ghost use Rattle.term_parts.specs.Judging.{ReferToClauses};
 
 use crate::argument_rules::Place::{Begins, Given};
@@ -112,27 +109,6 @@ fn are_all(
     true
 }
 
-/// The term for which a literal stands with a sign, where its head is an operator.
-fn headed(symbols: &Symbols, terms: &mut Terms<'_>, op: Op, sign: Sign, literal: Ref) -> Option<Ref>
-    requires { IsTerm symbols.now terms.old literal }
-    ensures signed { IfSome result (λ a. (t : Term) → RefersTo symbols.now terms.old literal t → IsSigned symbols.now terms.old sign a t) }
-    ensures headed { IfSome result (λ a. (t : Term) → RefersTo symbols.now terms.old a t → IsOver op (length (arguments_of t)) t) }
-    ensures other { IfNone result ((t : Term) → RefersTo symbols.now terms.old literal t → HasNoArguments op sign t) }
-    ensures same { terms.new ≡ terms.old }
-{
-    symbols.leaves_differ();
-    let Some(term) = unsigned(symbols, terms, sign, literal) else {
-        return None;
-    };
-    let Some(head) = terms.head(term) else {
-        return None;
-    };
-    if head != symbols.operator(op) {
-        return None;
-    }
-    Some(term)
-}
-
 /// Whether an application and other literals are what a rule over arguments asks.
 fn gives(
     known: &mut KnownArgs,
@@ -151,14 +127,10 @@ fn gives(
     ensures same { terms.new ≡ terms.old }
 {
     let ArgumentRule(_, which, op, sign, each) = row;
-    let Some(term) = headed(symbols, terms, op, sign, whole) else {
+    let Some(place) = known.place_under(symbols, terms, op, sign, whole)? else {
         return Ok(false);
     };
-    let place = known.place(terms, term)?;
     let arguments = known.row(place);
-    if arguments.items().is_empty() {
-        return Ok(false);
-    }
     match which {
         One => Ok(is_one(symbols, terms, each, arguments, literals)),
         All => Ok(are_all(symbols, terms, each, arguments.items(), literals)),

@@ -18,13 +18,13 @@ use Rattle.rules_congruence.specs.declared.uses.Uses.{Uses}
 
 -- so many items of both lists are read, and these are left
 pub record AreReadTo (s : Table) (v : TermsView) (ps qs : List ℕ) (first second : ℕ) (ts us : List Term) : Type 0 where
-  pub fronts : List Term
+  pub prefix : List Term
   pub others : List Term
   pub rests : List Term
   pub ends : List Term
-  pub left_is : ts ≡ fronts ++ rests
+  pub left_is : ts ≡ prefix ++ rests
   pub right_is : us ≡ others ++ ends
-  pub left : ReferToAll s v ps fronts
+  pub left : ReferToAll s v ps prefix
   pub right : ReferToAll s v qs others
   pub rest : IsListOf s v first rests
   pub end : IsListOf s v second ends
@@ -124,7 +124,7 @@ module _ (s : Table) (v : TermsView) where
 
   pub none_read : (ps qs : List ℕ) (first second : ℕ) (ts us : List Term) → ps ≡ [] → qs ≡ [] → IsListOf s v first ts → IsListOf s v second us → AreReadTo s v ps qs first second ts us
   none_read ps qs first second ts us none empty left right = record {
-    fronts = [];
+    prefix = [];
     others = [];
     rests = ts;
     ends = us;
@@ -149,24 +149,24 @@ module _ (s : Table) (v : TermsView) where
       let list = subst (IsListOf s v first) t.2 h.rest in
       let side = subst (IsListOf s v second) u.2 h.end in
       record {
-        fronts = h.fronts ++ t.0 ∷ [];
+        prefix = h.prefix ++ t.0 ∷ [];
         others = h.others ++ u.0 ∷ [];
         rests = t.1;
         ends = u.1;
-        left_is = h.left_is ∙ (ap (λ xs. h.fronts ++ xs) t.2 ∙ one_more h.fronts t.0 t.1);
+        left_is = h.left_is ∙ (ap (λ xs. h.prefix ++ xs) t.2 ∙ one_more h.prefix t.0 t.1);
         right_is = h.right_is ∙ (ap (λ xs. h.others ++ xs) u.2 ∙ one_more h.others u.0 u.1);
-        left = subst (λ rs. ReferToAll s v rs (h.fronts ++ t.0 ∷ [])) (sym more) (zip_push (RefersTo s v) ps h.fronts one t.0 h.left (first_refers s v first one t.0 t.1 list left.item_is));
+        left = subst (λ rs. ReferToAll s v rs (h.prefix ++ t.0 ∷ [])) (sym more) (zip_push (RefersTo s v) ps h.prefix one t.0 h.left (first_refers s v first one t.0 t.1 list left.item_is));
         right = subst (λ rs. ReferToAll s v rs (h.others ++ u.0 ∷ [])) (sym again) (zip_push (RefersTo s v) qs h.others other u.0 h.right (first_refers s v second other u.0 u.1 side right.item_is));
         rest = others_are s v first rest t.0 t.1 list left.rest_is;
         end = others_are s v second end u.0 u.1 side right.rest_is;
       }
 
   module _ (uses : Uses) (ps qs : List ℕ) (first second : ℕ) (ts us : List Term) (long : length ps ≡ length qs) (h : AreReadTo s v ps qs first second ts us) where
-    lengths : length h.fronts ≡ length h.others
-    lengths = sym (zip_length (RefersTo s v) ps h.fronts h.left) ∙ (long ∙ zip_length (RefersTo s v) qs h.others h.right)
+    lengths : length h.prefix ≡ length h.others
+    lengths = sym (zip_length (RefersTo s v) ps h.prefix h.left) ∙ (long ∙ zip_length (RefersTo s v) qs h.others h.right)
 
-    left_length : length ts ≡ length h.fronts + length h.rests
-    left_length = ap length h.left_is ∙ length-append h.fronts h.rests
+    left_length : length ts ≡ length h.prefix + length h.rests
+    left_length = ap length h.left_is ∙ length-append h.prefix h.rests
 
     right_length : length us ≡ length h.others + length h.ends
     right_length = ap length h.right_is ∙ length-append h.others h.ends
@@ -177,10 +177,10 @@ module _ (s : Table) (v : TermsView) where
         let left = none_left one first h.rests low h.rest in
         let right = none_left one second h.ends under h.end in
         record {
-          fronts = h.fronts;
+          prefix = h.prefix;
           others = h.others;
           tail = [];
-          left_is = h.left_is ∙ ap (λ xs. h.fronts ++ xs) left;
+          left_is = h.left_is ∙ ap (λ xs. h.prefix ++ xs) left;
           right_is = h.right_is ∙ ap (λ xs. h.others ++ xs) right;
           left = h.left;
           right = h.right;
@@ -195,7 +195,7 @@ module _ (s : Table) (v : TermsView) where
         let tree = one.one_tree first end.tree h.rest.tree end.known h.rest.known in
         let list = one_list s table h.rest.tree h.ends h.rests (subst (λ a. StandsForList s a (terms_of h.ends)) tree end.stands) h.rest.stands in
         record {
-          fronts = h.fronts;
+          prefix = h.prefix;
           others = h.others;
           tail = h.rests;
           left_is = h.left_is;
@@ -234,8 +234,8 @@ are_going v one parts order p q is ps qs first second high above h =
     let long = list_long is.symbols is.left.tree is.ts is.left.stands in
     let deep = depth-bound v.pass one parts p is.left.tree is.left.known in
     let size = order.size in
-    let all = ap length h.left_is ∙ length-append h.fronts h.rests in
-    let read = zip_length (RefersTo is.symbols v) ps h.fronts h.left in
+    let all = ap length h.left_is ∙ length-append h.prefix h.rests in
+    let read = zip_length (RefersTo is.symbols v) ps h.prefix h.left in
     record {
       left = is_cell v.pass parts first h.rest.tree h.rest.known high;
       right = is_cell v.pass parts second h.end.tree h.end.known above;

@@ -37,11 +37,11 @@ self_linked : (ps : List (List Term)) (ts : List Term) → AllZip (IsLinked ps) 
 self_linked ps [] = tt
 self_linked ps (t ∷ ts) = (inl (same t), self_linked ps ts)
 
-linked_fronts : (ps : List (List Term)) (ts us tail : List Term) → length ts ≡ length us → AllZip (IsLinked ps) (ts ++ tail) (us ++ tail) → AllZip (IsLinked ps) ts us
-linked_fronts ps [] [] tail long h = tt
-linked_fronts ps [] (u ∷ us) tail long h = absurd (omega (arith, long))
-linked_fronts ps (t ∷ ts) [] tail long h = absurd (omega (arith, long))
-linked_fronts ps (t ∷ ts) (u ∷ us) tail long h = (h.0, linked_fronts ps ts us tail (omega (arith, long)) h.1)
+linked_prefix : (ps : List (List Term)) (ts us tail : List Term) → length ts ≡ length us → AllZip (IsLinked ps) (ts ++ tail) (us ++ tail) → AllZip (IsLinked ps) ts us
+linked_prefix ps [] [] tail long h = tt
+linked_prefix ps [] (u ∷ us) tail long h = absurd (omega (arith, long))
+linked_prefix ps (t ∷ ts) [] tail long h = absurd (omega (arith, long))
+linked_prefix ps (t ∷ ts) (u ∷ us) tail long h = (h.0, linked_prefix ps ts us tail (omega (arith, long)) h.1)
 
 self_differences : (ts : List Term) → AreDifferences [] ts ts
 self_differences [] = refl
@@ -59,34 +59,34 @@ differences_tail ps (t ∷ ts) [] tail h = absurd h
 differences_tail ps (t ∷ ts) (u ∷ us) tail (inl (e, more)) = inl (e, differences_tail ps ts us tail more)
 differences_tail ps (t ∷ ts) (u ∷ us) tail (inr (apart, (rest, is, more))) = inr (apart, (rest, is, differences_tail rest ts us tail more))
 
-differences_fronts : (ps : List (List Term)) (ts us tail : List Term) → length ts ≡ length us → AreDifferences ps (ts ++ tail) (us ++ tail) → AreDifferences ps ts us
-differences_fronts ps [] [] tail long h = no_differences ps tail h
-differences_fronts ps [] (u ∷ us) tail long h = absurd (omega (arith, long))
-differences_fronts ps (t ∷ ts) [] tail long h = absurd (omega (arith, long))
-differences_fronts ps (t ∷ ts) (u ∷ us) tail long (inl (e, more)) = inl (e, differences_fronts ps ts us tail (omega (arith, long)) more)
-differences_fronts ps (t ∷ ts) (u ∷ us) tail long (inr (apart, (rest, is, more))) = inr (apart, (rest, is, differences_fronts rest ts us tail (omega (arith, long)) more))
+differences_prefix : (ps : List (List Term)) (ts us tail : List Term) → length ts ≡ length us → AreDifferences ps (ts ++ tail) (us ++ tail) → AreDifferences ps ts us
+differences_prefix ps [] [] tail long h = no_differences ps tail h
+differences_prefix ps [] (u ∷ us) tail long h = absurd (omega (arith, long))
+differences_prefix ps (t ∷ ts) [] tail long h = absurd (omega (arith, long))
+differences_prefix ps (t ∷ ts) (u ∷ us) tail long (inl (e, more)) = inl (e, differences_prefix ps ts us tail (omega (arith, long)) more)
+differences_prefix ps (t ∷ ts) (u ∷ us) tail long (inr (apart, (rest, is, more))) = inr (apart, (rest, is, differences_prefix rest ts us tail (omega (arith, long)) more))
 
 module _ (s : Table) (v : TermsView) (uses : Uses) (ls rs : List ℕ) (ts us : List Term) (cut : AreCut s v uses ls rs ts us) where
-  lengths : length cut.fronts ≡ length cut.others
+  lengths : length cut.prefix ≡ length cut.others
   lengths =
-      sym (zip_length (RefersTo s v) ls cut.fronts cut.left) ∙ (cut.long ∙ zip_length (RefersTo s v) rs cut.others cut.right)
+      sym (zip_length (RefersTo s v) ls cut.prefix cut.left) ∙ (cut.long ∙ zip_length (RefersTo s v) rs cut.others cut.right)
 
   -- the whole lists
-  pub linked_cut : (ps : List (List Term)) → AllZip (IsLinked ps) cut.fronts cut.others ↔ AllZip (IsLinked ps) ts us
+  pub linked_cut : (ps : List (List Term)) → AllZip (IsLinked ps) cut.prefix cut.others ↔ AllZip (IsLinked ps) ts us
   linked_cut ps = (
     λ h. subst (λ xs. AllZip (IsLinked ps) xs us) (sym cut.left_is)
-        (subst (λ xs. AllZip (IsLinked ps) (cut.fronts ++ cut.tail) xs) (sym cut.right_is)
-        (zip_append (IsLinked ps) cut.fronts cut.others cut.tail cut.tail h (self_linked ps cut.tail))),
-    λ h. linked_fronts ps cut.fronts cut.others cut.tail lengths
-        (subst (λ xs. AllZip (IsLinked ps) (cut.fronts ++ cut.tail) xs) cut.right_is (subst (λ xs. AllZip (IsLinked ps) xs us) cut.left_is h)),
+        (subst (λ xs. AllZip (IsLinked ps) (cut.prefix ++ cut.tail) xs) (sym cut.right_is)
+        (zip_append (IsLinked ps) cut.prefix cut.others cut.tail cut.tail h (self_linked ps cut.tail))),
+    λ h. linked_prefix ps cut.prefix cut.others cut.tail lengths
+        (subst (λ xs. AllZip (IsLinked ps) (cut.prefix ++ cut.tail) xs) cut.right_is (subst (λ xs. AllZip (IsLinked ps) xs us) cut.left_is h)),
   )
 
-  pub differences_cut : (ps : List (List Term)) → AreDifferences ps cut.fronts cut.others ↔ AreDifferences ps ts us
+  pub differences_cut : (ps : List (List Term)) → AreDifferences ps cut.prefix cut.others ↔ AreDifferences ps ts us
   differences_cut ps = (
     λ h. subst (λ xs. AreDifferences ps xs us) (sym cut.left_is)
-        (subst (λ xs. AreDifferences ps (cut.fronts ++ cut.tail) xs) (sym cut.right_is) (differences_tail ps cut.fronts cut.others cut.tail h)),
-    λ h. differences_fronts ps cut.fronts cut.others cut.tail lengths
-        (subst (λ xs. AreDifferences ps (cut.fronts ++ cut.tail) xs) cut.right_is (subst (λ xs. AreDifferences ps xs us) cut.left_is h)),
+        (subst (λ xs. AreDifferences ps (cut.prefix ++ cut.tail) xs) (sym cut.right_is) (differences_tail ps cut.prefix cut.others cut.tail h)),
+    λ h. differences_prefix ps cut.prefix cut.others cut.tail lengths
+        (subst (λ xs. AreDifferences ps (cut.prefix ++ cut.tail) xs) cut.right_is (subst (λ xs. AreDifferences ps xs us) cut.left_is h)),
   )
 
   no_tail : (cut.tail ≢ [] → ⊥) → (tail : List Term) → cut.tail ≡ tail → cut.tail ≡ []
@@ -97,7 +97,7 @@ module _ (s : Table) (v : TermsView) (uses : Uses) (ls rs : List ℕ) (ts us : L
   pub uncut : (cut.tail ≢ [] → ⊥) → ReferToAll s v ls ts × ReferToAll s v rs us
   uncut none =
       let e = no_tail none cut.tail refl in (
-        subst (ReferToAll s v ls) (sym (cut.left_is ∙ (ap (λ xs. cut.fronts ++ xs) e ∙ append-nil cut.fronts))) cut.left,
+        subst (ReferToAll s v ls) (sym (cut.left_is ∙ (ap (λ xs. cut.prefix ++ xs) e ∙ append-nil cut.prefix))) cut.left,
         subst (ReferToAll s v rs) (sym (cut.right_is ∙ (ap (λ xs. cut.others ++ xs) e ∙ append-nil cut.others))) cut.right,
       )
 
@@ -112,6 +112,6 @@ module _ (s : Table) (v : TermsView) (uses : Uses) (ls rs : List ℕ) (ts us : L
   uncut_to_two two =
       uncut (λ some.
       let three = (cut.cut some).1 in
-      let read = zip_length (RefersTo s v) ls cut.fronts cut.left in
-      let all = ap length cut.left_is ∙ length-append cut.fronts cut.tail in
+      let read = zip_length (RefersTo s v) ls cut.prefix cut.left in
+      let all = ap length cut.left_is ∙ length-append cut.prefix cut.tail in
       omega (arith, two, three, read, all))

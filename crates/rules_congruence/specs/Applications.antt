@@ -24,12 +24,12 @@ HasHead s k t = IsAppliedLeaf s k (arguments_of t) t
 -- the one as of the other. Where something is left out, three items or more come before it, so that it is no list of two,
 -- and not every place needs an equality.
 pub record AreCut (s : Table) (v : TermsView) (uses : Uses) (ps qs : List ℕ) (ts us : List Term) : Type 0 where
-  pub fronts : List Term
+  pub prefix : List Term
   pub others : List Term
   pub tail : List Term
-  pub left_is : ts ≡ fronts ++ tail
+  pub left_is : ts ≡ prefix ++ tail
   pub right_is : us ≡ others ++ tail
-  pub left : ReferToAll s v ps fronts
+  pub left : ReferToAll s v ps prefix
   pub right : ReferToAll s v qs others
   pub long : length ps ≡ length qs
   pub cut : tail ≢ [] → (uses ≢ Uses.Each) × (2 < length ps)

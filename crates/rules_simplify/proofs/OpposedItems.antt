@@ -1,5 +1,5 @@
 -- The items of a list, noted one by one.
-use Rattle.std.proofs.Common.{◌≡◌, ◌↔◌, ◌<◌, ◌≤◌, ◌+◌, ℕ, List, length, get_or, take, Bool, true, false, IsTrue, refl, sym, subst}
+use Rattle.std.proofs.Common.{◌≡◌, ◌↔◌, Contains, ◌<◌, ◌≤◌, ◌+◌, ℕ, List, length, get_or, take, Bool, true, false, IsTrue, refl, sym, subst}
 use Rattle.sym_table.specs.Table.{Table}
 use Rattle.term_model.specs.Terms.{Term}
 use Rattle.term_pool.specs.Nots.{IsStripped}
@@ -7,7 +7,9 @@ use Rattle.term_pool.specs.Views.{TermsView, RefersTo, ReferToAll}
 use Rattle.term_pool.proofs.References.{AreOne}
 use Rattle.rule_model.specs.Simplify.{AreOpposed}
 use Rattle.rules_simplify.specs.Joins.{IsMetOtherwise}
-use Rattle.rules_simplify.proofs.ItemLemmas.{item, item_refers, one_more, all_taken, contains_taken}
+use Rattle.schema_match.proofs.ReferLemmas.{contains_terms}
+use Rattle.term_parts.specs.Parts.{StandsUnder}
+use Rattle.rules_simplify.proofs.ItemLemmas.{item, item_refers, item_there, one_more, all_taken, contains_taken}
 use Rattle.rules_simplify.proofs.OpposedLemmas.{IsNoted, noted_found, noted_more, none_opposed, opposed_wider}
 
 module _ (s : Table) (v : TermsView) (rs : List ℕ) (ts : List Term) (refer : ReferToAll s v rs ts) (i : ℕ) (even odd : List ℕ) (noted : IsNoted s v (take i ts) even odd) where
@@ -34,3 +36,15 @@ module _ (s : Table) (v : TermsView) (rs : List ℕ) (ts : List Term) (refer : R
     λ e. absurd cc,
     λ h. absurd (none_opposed s v (take i ts) even odd noted (subst AreOpposed (sym (all_taken s v rs ts refer i past)) h)),
   )
+
+-- an item of which the negation is one too
+pub negation_there : (s : Table) (v : TermsView) (rs : List ℕ) (ts : List Term) → ReferToAll s v rs ts → AreOne s v → (i r inner : ℕ) → i < length rs → r ≡ get_or rs i r → ((t : Term) → RefersTo s v r t → StandsUnder s v inner t) → Contains rs inner → AreOpposed ts
+negation_there s v rs ts refer one i r inner below is under there =
+    let h = under (item s v rs ts refer i) (item_refers s v rs ts refer i r below is) in
+    record {
+      same = h.inner;
+      m = 0;
+      n = 0;
+      even = contains_terms s v one rs ts inner h.inner refer h.refers there;
+      odd = subst (Contains ts) h.is (item_there s v rs ts refer i r below is);
+    }

@@ -1,23 +1,10 @@
 -- Sets of numbers by the lists of what they have.
-use Rattle.std.proofs.Common.{◌≡◌, inl, inr, ℕ, List, [], ◌∷◌, ◌++◌, Bool, true, false, not, nat_eq, cond, refl, sym, subst, Contains}
+use Rattle.std.proofs.Common.{◌≡◌, inl, inr, ℕ, List, [], ◌∷◌, ◌++◌, Bool, true, false, nat_eq, cond, refl, sym, subst, Contains}
 use Rattle.std.specs.List.{list_any}
 use Rattle.std.proofs.lemmas.List.Elements.{Contains-push, Contains-push_cases, Contains-append_left}
 use Rattle.indexmap.specs.IndexSet.{insert_key}
 use Rattle.term_model.proofs.Lists.{has_number}
-use Rattle.rules_simplify.specs.Joins.{IsMet, AddsNumber}
-
-pub met_is : (old new : List ℕ) (k r : ℕ) (b : Bool) → k ≡ r → b ≡ not (list_any (nat_eq k) old) → new ≡ insert_key nat_eq old k → IsMet old new r b
-met_is old new k r b e f g = subst (λ q. IsMet old new q b) e (go (list_any (nat_eq k) old) refl f g)
-  where
-    go : (t : Bool) → list_any (nat_eq k) old ≡ t → b ≡ not t → new ≡ cond t old (old ++ k ∷ []) → IsMet old new k b
-    go true h f g = subst (IsMet old new k) (sym f) ((has_number old k).0 h, g)
-    go false h f g = subst (IsMet old new k) (sym f) (λ c. absurd (let i = (has_number old k).1 c in cc), g)
-
-pub met_first : (old new : List ℕ) (r : ℕ) (b : Bool) → IsMet old new r b → b ≡ true → IsMet old new r true
-met_first old new r b h e = subst (IsMet old new r) e h
-
-pub met_again : (old new : List ℕ) (r : ℕ) (b : Bool) → IsMet old new r b → b ≡ false → IsMet old new r false
-met_again old new r b h e = subst (IsMet old new r) e h
+use Rattle.rules_simplify.specs.Joins.{AddsNumber}
 
 pub added_is : (old new : List ℕ) (k r : ℕ) → k ≡ r → new ≡ insert_key nat_eq old k → AddsNumber old new r
 added_is old new k r e g = subst (AddsNumber old new) e (go (list_any (nat_eq k) old) refl g)

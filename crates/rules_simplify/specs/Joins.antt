@@ -1,12 +1,15 @@
 -- Private. Lists of arguments that are shortened, by their references.
-use Rattle.std.specs.Prelude.{◌≡◌, ◌↔◌, ◌⊎◌, ◌++◌, ℕ, Bool, true, false, List, [], ◌∷◌, Contains, IsTrue}
+use Rattle.std.specs.Prelude.{◌≡◌, ◌↔◌, ◌⊎◌, ℕ, Bool, true, false, List, [], ◌∷◌, Contains, IsTrue}
 use Rattle.sym_table.specs.Table.{Table}
 use Rattle.term_model.specs.declared.symbols.Op.{Op}
 use Rattle.term_model.specs.Terms.{Term, operation, no_terms, terms_of}
-use Rattle.term_pool.specs.Views.{TermsView, ReferToAll}
+use Rattle.term_pool.specs.Views.{TermsView, RefersTo, ReferToAll}
+use Rattle.schema_match.specs.Arguments.{HasArguments, HasNoArguments}
+use Rattle.schema_match.specs.declared.signs.Sign.{Sign}
 use Rattle.rule_model.specs.Resolution.{LeavesWithout, IsFirstsOf}
 use Rattle.rule_model.specs.Simplify.{AreOpposed, IsShortened, StandsAs, JoinsTo}
 use Rattle.rules_simplify.specs.declared.joins.Junction.{Junction}
+use Rattle.rules_simplify.specs.declared.joins.Side.{Side}
 
 -- the constant of an operator
 abbrev pub constant : Op → Term
@@ -41,10 +44,29 @@ pub record IsJoined (j : Junction) (left right : Term) : Type 0 where
   pub is : left ≡ operation j.op (terms_of arguments)
   pub joins : Joins j arguments right
 
--- r was not in the list and stands at its end now, or it was there and the list is as before
-abbrev pub IsMet : List ℕ → List ℕ → ℕ → Bool → Type 0
-IsMet old new r true = (¬ Contains old r) × (new ≡ old ++ r ∷ [])
-IsMet old new r false = Contains old r × (new ≡ old)
+-- the references are those of the arguments of what the side stands for, or there are none
+abbrev pub HasAsArguments : Table → TermsView → Op → Term → List ℕ → Type 0
+HasAsArguments s v op t references =
+    HasArguments s v op Sign.Itself t references ⊎ (HasNoArguments op Sign.Itself t × (references ≡ []))
+
+abbrev pub IsSide : Table → TermsView → Op → Side → Type 0
+IsSide s v op side = (t : Term) → RefersTo s v side.term t → HasAsArguments s v op t side.arguments.items
+
+-- the side is what a list stands as, by references
+abbrev pub StandsBy : ℕ → Side → List ℕ → Type 0
+StandsBy neutral side [] = side.term ≡ neutral
+StandsBy neutral side (r ∷ []) = (side.term ≡ r) ⊎ (side.arguments.items ≡ r ∷ [])
+StandsBy neutral side (r ∷ q ∷ references) = side.arguments.items ≡ r ∷ q ∷ references
+
+-- by the table, references that the pass knows are the same exactly where their terms are
+abbrev pub TellsTerms : Table → TermsView → Type 0
+TellsTerms s v = (p q : ℕ) (t u : Term) → RefersTo s v p t → RefersTo s v q u → (p ≡ q) ↔ (t ≡ u)
+
+-- whether the side is what a shorter list stands as, by any such table and pass
+abbrev pub TellsShorter : ℕ → List ℕ → Side → Bool → Type 0
+TellsShorter neutral references side told =
+    (s : Table) (v : TermsView) (j : Junction) (ts : List Term) (t : Term) → TellsTerms s v → RefersTo s v neutral (constant j.neutral) →
+    IsSide s v j.op side → ReferToAll s v references ts → RefersTo s v side.term t → IsTrue told ↔ IsShorter j ts t
 
 -- the keys have come to have this number besides
 abbrev pub AddsNumber : List ℕ → List ℕ → ℕ → Type 0

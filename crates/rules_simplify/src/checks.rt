@@ -1,6 +1,7 @@
 //! Whether a step meets the condition of its rule.
 
 ghost use Rattle.std.specs.Prelude.{◌≡◌, IfOk, Some};
+ghost use Rattle.known_args.specs.Rows.{AreRight};
 ghost use Rattle.rule_model.specs.RuleNames.{kind_of};
 ghost use Rattle.rule_model.specs.declared.kinds.Family.{Family};
 ghost use Rattle.rule_model.specs.declared.kinds.Kind.{Kind};
@@ -10,6 +11,7 @@ ghost use Rattle.term_parts.specs.Judging.{IsStepOf, KeepsTruthOfEach, StandsFor
 use crate::joins::{Junction, joins};
 use crate::rewrites::simplifies;
 use crate::tables::Simplification;
+use known_args::KnownArgs;
 use pair_pool::Memory;
 use rule_model::Rule;
 use rule_model::laws::conditions::conditions_keep_truth;
@@ -62,19 +64,22 @@ fn way_of(rule: Rule) -> Option<Way>
 /// Whether a step states an equality whose left side comes to the right one under a junction.
 fn meets_joining(
     alloc: Global,
+    known: &mut KnownArgs,
     symbols: &Symbols,
     terms: &mut Terms<'_>,
     junction: Junction,
     step: Step<'_>,
 ) -> Result<bool, Memory>
-    requires { IsStepOf symbols.now terms.old step }
+    requires step { IsStepOf symbols.now terms.old step }
+    requires right { AreRight terms.old known.old }
     ensures meets { IfOk result (TestsClauses symbols.now terms.old step.entry (MeetsUnder junction)) }
+    ensures right { AreRight terms.old known.new }
     ensures same { terms.new ≡ terms.old }
 {
-    let Some((left, right)) = equation(symbols, terms, step.premises, step.clause) else {
+    let Some(sides) = equation(symbols, terms, step.premises, step.clause) else {
         return Ok(false);
     };
-    joins(alloc, symbols, terms, junction, left, right)
+    joins(alloc, known, symbols, terms, junction, sides)
 }
 
 /// Whether a step states an equality whose left side is simplified to the right one by a table of rewrites.
@@ -98,17 +103,20 @@ fn meets_rewriting(
 /// Whether a step is what its rule asks.
 fn meets_by_way(
     alloc: Global,
+    known: &mut KnownArgs,
     symbols: &Symbols,
     terms: &mut Terms<'_>,
     step: Step<'_>,
 ) -> Result<bool, Memory>
     requires family { kind_of step.rule ≡ Kind.Judged Family.Simplify }
     requires step { IsStepOf symbols.now terms.old step }
+    requires right { AreRight terms.old known.old }
     ensures meets { IfOk result (TestsClauses symbols.now terms.old step.entry (MeetsBySome (way_of step.entry.rule))) }
+    ensures right { AreRight terms.old known.new }
     ensures same { terms.new ≡ terms.old }
 {
     match way_of(step.rule) {
-        Some(Way::Joining(junction)) => meets_joining(alloc, symbols, terms, junction, step),
+        Some(Way::Joining(junction)) => meets_joining(alloc, known, symbols, terms, junction, step),
         Some(Way::Rewriting(table)) => meets_rewriting(alloc, symbols, terms, table, step),
         None => unreachable!(),
     }
@@ -118,21 +126,25 @@ fn meets_by_way(
 /// and_simplify, or_simplify, not_simplify, implies_simplify, equiv_simplify, bool_simplify, ite_simplify, eq_simplify or
 /// comp_simplify. None of them takes a premise. Both modes ask the same.
 ///
-/// Places no cell, and refuses out of memory alone.
+/// The arguments of `and` and `or` are kept from step to step, and what is kept stays right. Places no cell, and refuses out of
+/// memory alone.
 pub fn meets(
     alloc: Global,
+    known: &mut KnownArgs,
     symbols: &Symbols,
     terms: &mut Terms<'_>,
     step: Step<'_>,
 ) -> Result<Answer, Memory>
     requires family { kind_of step.rule ≡ Kind.Judged Family.Simplify }
     requires step { IsStepOf symbols.now terms.old step }
+    requires right { AreRight terms.old known.old }
     ensures met { IfOk result (TellsEach (StandsForStep symbols.now terms.old step.entry)) }
     // under every interpretation and values of variables that make the premises true, the clause of a step that is met is
     ensures sound { IfOk result (KeepsTruthOfEach (StandsForStep symbols.now terms.old step.entry)) }
+    ensures right { AreRight terms.old known.new }
     ensures same { terms.new ≡ terms.old }
 {
     conditions_keep_truth();
-    let met = meets_by_way(alloc, symbols, terms, step)?;
+    let met = meets_by_way(alloc, known, symbols, terms, step)?;
     Ok(answer_of(met))
 }

@@ -1,8 +1,8 @@
 //! The rules of simplification of the Alethe specification, over the arguments of `and` and `or` and by tables of rewrites:
 //! whether a step meets the condition of its rule.
 //!
-//! A list of arguments is walked a few times, and a table of its items is kept: in time and memory in proportion to the
-//! list. A table of rewrites is tried row after row, at each step of a chain. No cell is placed.
+//! The arguments of `and` and `or` are kept from step to step. They are walked a few times, in time and memory in proportion
+//! to their list. A table of rewrites is tried row after row, at each step of a chain. No cell is placed.
 #![tactic(auto)]
 
 mod asked;

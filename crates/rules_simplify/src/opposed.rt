@@ -8,10 +8,11 @@ ghost use Rattle.rule_model.specs.Simplify.{AreOpposed};
 ghost use Rattle.rules_simplify.specs.Joins.{AddsNumber, IsMetOtherwise};
 
 use indexmap::IndexSet;
+use known_args::Row;
 use pair_pool::{Memory, Ref};
-use schema_match::Slot;
 use std::alloc::Global;
 use sym_table::Symbols;
+use term_parts::under_not;
 use term_pool::Terms;
 
 /// Adds a reference to a set.
@@ -53,7 +54,7 @@ fn strip(symbols: &Symbols, terms: &mut Terms<'_>, r: Ref) -> (Ref, bool)
 fn meets_opposed(
     symbols: &Symbols,
     terms: &mut Terms<'_>,
-    list: &[Slot],
+    list: &[Ref],
     even: &mut IndexSet<u32>,
     odd: &mut IndexSet<u32>,
 ) -> Result<bool, Memory>
@@ -66,7 +67,7 @@ fn meets_opposed(
     symbols.leaves_differ();
     terms.equal_exactly_where_terms_are();
     for item in list {
-        let (bare, negated) = strip(symbols, terms, item.get());
+        let (bare, negated) = strip(symbols, terms, *item);
         if is_met_otherwise(even, odd, bare, negated)? {
             return Ok(true);
         }
@@ -74,19 +75,41 @@ fn meets_opposed(
     Ok(false)
 }
 
-/// Whether two items of a list are one term, one behind an even and the other behind an odd number of negations. Takes
-/// memory for each item.
+/// Whether an argument and its negation are among some. Where it returns false, they may be opposed by more negations.
+fn has_negation(symbols: &Symbols, terms: &mut Terms<'_>, arguments: &Row) -> bool
+    requires { All (IsTerm symbols.now terms.old) arguments.now.1 }
+    ensures opposed { IsTrue result → (ts : List Term) → ReferToAll symbols.now terms.old arguments.now.1 ts → AreOpposed ts }
+    ensures same { terms.new ≡ terms.old }
+{
+    symbols.leaves_differ();
+    terms.equal_exactly_where_terms_are();
+    for item in arguments.items() {
+        let Some(inner) = under_not(symbols, terms, *item) else {
+            continue;
+        };
+        if arguments.has(inner) {
+            return true;
+        }
+    }
+    false
+}
+
+/// Whether two arguments are one term, one behind an even and the other behind an odd number of negations. Takes memory for
+/// each argument, but none where one is the negation of another.
 pub(crate) fn has_opposed(
     alloc: Global,
     symbols: &Symbols,
     terms: &mut Terms<'_>,
-    list: &[Slot],
+    arguments: &Row,
 ) -> Result<bool, Memory>
-    requires { All (IsTerm symbols.now terms.old) list.now }
-    ensures opposed { IfOk result (λ yes. (ts : List Term) → ReferToAll symbols.now terms.old list.now ts → IsTrue yes ↔ AreOpposed ts) }
+    requires { All (IsTerm symbols.now terms.old) arguments.now.1 }
+    ensures opposed { IfOk result (λ yes. (ts : List Term) → ReferToAll symbols.now terms.old arguments.now.1 ts → IsTrue yes ↔ AreOpposed ts) }
     ensures same { terms.new ≡ terms.old }
 {
+    if has_negation(symbols, terms, arguments) {
+        return Ok(true);
+    }
     let mut even = IndexSet::new(alloc);
     let mut odd = IndexSet::new(alloc);
-    meets_opposed(symbols, terms, list, &mut even, &mut odd)
+    meets_opposed(symbols, terms, arguments.items(), &mut even, &mut odd)
 }

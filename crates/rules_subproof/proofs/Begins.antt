@@ -10,9 +10,9 @@ use Rattle.rule_model.specs.Proofs.{ProofItems}
 use Rattle.rule_model.specs.Reading.{clause_at, discharged_at}
 use Rattle.rule_model.specs.Scopes.{outermost}
 use Rattle.rule_model.specs.WellFormed.{AreWellFormed}
-use Rattle.rules_subproof.specs.Fronts.{HasFront}
+use Rattle.rules_subproof.specs.Prefixes.{HasPrefix}
 use Rattle.rules_subproof.proofs.Discharged.{discharged_assumed}
-use Rattle.rules_subproof.proofs.Fronts.{AreUnits, Matches, negated_count, of_front, front_fits, front_of}
+use Rattle.rules_subproof.proofs.Prefixes.{AreUnits, Matches, negated_count, of_prefix, prefix_fits, prefix_of}
 use Rattle.term_model.proofs.Zips.{zip_length}
 use Rattle.rules_subproof.proofs.Zips.{zip_at, zip_one}
 
@@ -29,9 +29,9 @@ module _ (s : Table) (v : TermsView) (refs : ProofItems ℕ ℕ) (of : ProofItem
   pub count : length (negations of i) ≡ length (discharged_at of i)
   count = negated_count (clause_at of) (discharged_at of i) units
 
-  pub too_few : (rs ds : List ℕ) → rs ≡ clause_at refs i → ds ≡ discharged_at refs i → length rs < length ds → ¬ HasFront (negations of i) (clause_at of i)
-  too_few rs ds e f few front =
-      let fits = front_fits (clause_at of) (discharged_at of i) (clause_at of i) units front in
+  pub too_few : (rs ds : List ℕ) → rs ≡ clause_at refs i → ds ≡ discharged_at refs i → length rs < length ds → ¬ HasPrefix (negations of i) (clause_at of i)
+  too_few rs ds e f few prefix =
+      let fits = prefix_fits (clause_at of) (discharged_at of i) (clause_at of i) units prefix in
       let longs = ap length e ∙ zip_length (RefersTo s v) (clause_at refs i) (clause_at of i) (zip i) in
       let shorts = ap length (f ∙ same) in omega arith
 
@@ -48,16 +48,16 @@ module _ (s : Table) (v : TermsView) (refs : ProofItems ℕ ℕ) (of : ProofItem
       one_same e = cc
 
   -- all literals up to the number of what is discharged
-  pub begins : (rs ds : List ℕ) → rs ≡ clause_at refs i → ds ≡ discharged_at refs i → length ds ≤ length rs → ((k : ℕ) → k < length ds → Matches (clause_at of) (discharged_at of i) (clause_at of i) k) → HasFront (negations of i) (clause_at of i)
+  pub begins : (rs ds : List ℕ) → rs ≡ clause_at refs i → ds ≡ discharged_at refs i → length ds ≤ length rs → ((k : ℕ) → k < length ds → Matches (clause_at of) (discharged_at of i) (clause_at of i) k) → HasPrefix (negations of i) (clause_at of i)
   begins rs ds e f few each =
       let longs = ap length e ∙ zip_length (RefersTo s v) (clause_at refs i) (clause_at of i) (zip i) in
       let shorts = ap length (f ∙ same) in
-      front_of (clause_at of) (discharged_at of i) (clause_at of i) units (omega arith) (λ k below. each k (omega arith))
+      prefix_of (clause_at of) (discharged_at of i) (clause_at of i) units (omega arith) (λ k below. each k (omega arith))
 
-  pub fails : (k : ℕ) (ds : List ℕ) → ds ≡ discharged_at refs i → k < length ds → ¬ Matches (clause_at of) (discharged_at of i) (clause_at of i) k → ¬ HasFront (negations of i) (clause_at of i)
-  fails k ds f below none front =
+  pub fails : (k : ℕ) (ds : List ℕ) → ds ≡ discharged_at refs i → k < length ds → ¬ Matches (clause_at of) (discharged_at of i) (clause_at of i) k → ¬ HasPrefix (negations of i) (clause_at of i)
+  fails k ds f below none prefix =
       let shorts = ap length (f ∙ same) in
-      none (of_front (clause_at of) (discharged_at of i) (clause_at of i) units front k (omega arith))
+      none (of_prefix (clause_at of) (discharged_at of i) (clause_at of i) units prefix k (omega arith))
 
 -- a literal stands for a term
 pub literal_is_term : (s : Table) (v : TermsView) (rs xs : List ℕ) (ts : List Term) (k l : ℕ) → rs ≡ xs → AllZip (RefersTo s v) xs ts → k < length rs → l ≡ slice_index_or rs k l → IsTerm s v l

@@ -2,7 +2,7 @@ pub mod Discharged
 pub mod Scanning
 pub mod Deeper
 pub mod Zips
-pub mod Fronts
+pub mod Prefixes
 pub mod Begins
 pub mod EndLists
 pub mod ScopePlaces

@@ -6,7 +6,7 @@ use Rattle.term_model.specs.Terms.{Var, Term}
 use Rattle.rule_model.specs.Subproof.{IsAssumeIn, AllDischarged, negations, IsEnding, IsSubproof}
 use Rattle.rule_model.specs.Proofs.{ProofItems}
 use Rattle.rule_model.specs.Reading.{rule_at, clause_at, premises_at, discharged_at, scope_at, bindings_at, last_inside_at, is_assume}
-use Rattle.rules_subproof.specs.Fronts.{HasFront}
+use Rattle.rules_subproof.specs.Prefixes.{HasPrefix}
 
 -- lists in step are empty together
 pub empty_too : {A B : Type 0} (R : A → B → Type 0) (xs : List A) (ys : List B) → AllZip R xs ys → (xs ≡ []) ↔ (ys ≡ [])
@@ -24,22 +24,22 @@ module _ (refs : ProofItems ℕ ℕ) (of : ProofItems Var Term) (i k : ℕ) (sco
 
 -- the clause is the negations, and an ending drop-append_seam them
 module _ (of : ProofItems Var Term) (i k last place : ℕ) (is_last : last_inside_at of k ≡ Some last) (count : length (negations of i) ≡ place) where
-  pub makes_subproof : bindings_at of k ≡ [] → premises_at of i ≡ [] → AllDischarged of i k → HasFront (negations of i) (clause_at of i) → IsEnding (clause_at of last) (drop place (clause_at of i)) → IsSubproof of i k
-  makes_subproof none no_premises all front ending =
-      let rest : drop place (clause_at of i) ≡ front.rest = subst (λ n. drop n (clause_at of i) ≡ front.rest) count (ap (drop (length (negations of i))) front.is ∙ drop-append_seam (negations of i) front.rest) in
+  pub makes_subproof : bindings_at of k ≡ [] → premises_at of i ≡ [] → AllDischarged of i k → HasPrefix (negations of i) (clause_at of i) → IsEnding (clause_at of last) (drop place (clause_at of i)) → IsSubproof of i k
+  makes_subproof none no_premises all prefix ending =
+      let rest : drop place (clause_at of i) ≡ prefix.rest = subst (λ n. drop n (clause_at of i) ≡ prefix.rest) count (ap (drop (length (negations of i))) prefix.is ∙ drop-append_seam (negations of i) prefix.rest) in
       record {
         no_bindings = none;
         no_premises = no_premises;
         discharged = all;
         inner = clause_at of last;
         ends = record { last = last; is_last = is_last; clause_is = refl };
-        end = front.rest;
+        end = prefix.rest;
         ending = subst (IsEnding (clause_at of last)) rest ending;
-        clause = front.is;
+        clause = prefix.is;
       }
 
-  pub front_of_subproof : IsSubproof of i k → HasFront (negations of i) (clause_at of i)
-  front_of_subproof h = record { rest = h.end; is = h.clause }
+  pub prefix_of_subproof : IsSubproof of i k → HasPrefix (negations of i) (clause_at of i)
+  prefix_of_subproof h = record { rest = h.end; is = h.clause }
 
   pub ending_of_subproof : IsSubproof of i k → IsEnding (clause_at of last) (drop place (clause_at of i))
   ending_of_subproof h =

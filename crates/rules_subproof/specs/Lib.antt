@@ -1,3 +1,3 @@
-pub mod Fronts
+pub mod Prefixes
 pub mod Lets
 pub mod SideTables

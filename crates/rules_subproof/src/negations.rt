@@ -9,7 +9,7 @@ ghost use Rattle.term_model.specs.Terms.{Var, Term, not_of};
 ghost use Rattle.term_pool.specs.Views.{IsTerm, RefersTo};
 ghost use Rattle.proof_store.specs.Checks.{StandForSome};
 ghost use Rattle.proof_store.specs.Meaning.{StandForItems};
-ghost use Rattle.rules_subproof.specs.Fronts.{HasFront};
+ghost use Rattle.rules_subproof.specs.Prefixes.{HasPrefix};
 
 use pair_pool::Ref;
 use proof_store::{Proof, commands_correspond, terms_correspond};
@@ -53,7 +53,7 @@ pub(crate) fn begins_with_negations(
     requires index { i < commands_in proof.now }
     requires stand { StandForSome symbols.now terms.old proof.now }
     ensures begins { (of : ProofItems Var Term) → StandForItems symbols.now terms.old proof.now of →
-        IsTrue result ↔ HasFront (negations of i) (clause_at of i) }
+        IsTrue result ↔ HasPrefix (negations of i) (clause_at of i) }
     ensures count { (of : ProofItems Var Term) → StandForItems symbols.now terms.old proof.now of → length (negations of i) ≡ length (discharged_at of i) }
     ensures same { terms.new ≡ terms.old }
 {

@@ -1,5 +1,5 @@
-use Rattle.known_args.proofs.TableLemmas.{added_is}
+use Rattle.known_args.proofs.TableLemmas.{item_added}
 use Rattle.known_args.proofs.row.add.Goals as goal
 
 pub returns : goal.returns
-returns c = added_is _ _ _ _ c.number.ensures.number c.in_ok-insert.ensures.keys
+returns c = item_added _ _ _ c.in_ok-insert.ensures.keys

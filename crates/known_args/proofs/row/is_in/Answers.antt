@@ -5,5 +5,4 @@ use Rattle.known_args.proofs.row.is_in.Goals as goal
 pub returns : goal.returns
 returns c =
     let there = has_number c.args.table.now.keys c.args.x in
-    let test = rw c.number.ensures.number at c.contains.ensures in
-    (λ e. there.0 (sym test ∙ e), λ h. test ∙ there.1 h)
+    (λ e. there.0 (sym c.contains.ensures ∙ e), λ h. c.contains.ensures ∙ there.1 h)

@@ -13,7 +13,7 @@ use Rattle.term_parts.proofs.PartLemmas.{false_is}
 
 pub returns-then-branch-clause-linked : goal.returns-then-branch-clause-linked
 returns-then-branch-clause-linked c ps t u tells a =
-    let zip = (rw (c.deref.ensures, c.deref-2.ensures) at c.in_ok-are_linked.ensures.linked) ps a.cut.fronts a.cut.others tells a.cut.left a.cut.right in
+    let zip = (rw (c.deref.ensures, c.deref-2.ensures) at c.in_ok-are_linked.ensures.linked) ps a.cut.prefix a.cut.others tells a.cut.left a.cut.right in
     let cut = linked_cut c.args.symbols.now c.args.terms.now Uses.Any c.args.both.now.left.items c.args.both.now.right.items a.ts a.us a.cut ps in
     (λ e. inl (cut.0 (zip.0 c.if-branch.true)), λ h. refl)
 
@@ -29,7 +29,7 @@ are_crosswise-requires-clause-right c =
 
 pub returns-in_default-clause-linked : goal.returns-in_default-clause-linked
 returns-in_default-clause-linked c ps t u tells a =
-    let zip = (rw (c.deref.ensures, c.deref-2.ensures) at c.in_ok-are_linked.ensures.linked) ps a.cut.fronts a.cut.others tells a.cut.left a.cut.right in
+    let zip = (rw (c.deref.ensures, c.deref-2.ensures) at c.in_ok-are_linked.ensures.linked) ps a.cut.prefix a.cut.others tells a.cut.left a.cut.right in
     let cut = linked_cut c.args.symbols.now c.args.terms.now Uses.Any c.args.both.now.left.items c.args.both.now.right.items a.ts a.us a.cut ps in
     false_is (not_linked a.head ps a.ts a.us (λ h. let clash = sym c.if-branch.false ∙ zip.1 (cut.1 h) in cc)
     (not_crossed c.args.symbols.now c.args.terms.now Uses.Any c.args.both.now.head c.args.both.now.left.items c.args.both.now.right.items t u ps a c.in_default.ensures.other))
@@ -40,7 +40,7 @@ returns-clause-linked c =
     (λ yes. (ps : List (List Term)) (t u : Term) → TellsSides c.args.symbols.now c.args.terms.now c.args.links.now ps → (a : AreApplied c.args.symbols.now c.args.terms.now Uses.Any c.args.both.now.head c.args.both.now.left.items c.args.both.now.right.items t u) → IsTrue yes ↔ AreLinked a.head ps a.ts a.us)
     c.are_crosswise.result
     (λ yes h ps t u tells a.
-    let zip = (rw (c.deref.ensures, c.deref-2.ensures) at c.in_ok-are_linked.ensures.linked) ps a.cut.fronts a.cut.others tells a.cut.left a.cut.right in
+    let zip = (rw (c.deref.ensures, c.deref-2.ensures) at c.in_ok-are_linked.ensures.linked) ps a.cut.prefix a.cut.others tells a.cut.left a.cut.right in
     let cut = linked_cut c.args.symbols.now c.args.terms.now Uses.Any c.args.both.now.left.items c.args.both.now.right.items a.ts a.us a.cut ps in
     linked_or_crossed a.head ps a.ts a.us (λ z. let clash = sym c.if-branch.false ∙ zip.1 (cut.1 z) in cc)
     (crossed_by c.args.symbols.now c.args.terms.now Uses.Any c.args.both.now.head c.args.both.now.left.items c.args.both.now.right.items t u ps a c.in-Some.pairs c.in-Some.ensures.pairs

@@ -17,7 +17,7 @@ returns-then-not-branch-clause-congruent c ps t u given left right =
 pub together-requires-clause-lefts : goal.together-requires-clause-lefts
 together-requires-clause-lefts c =
     let a = (rw c.if-not-branch.false at c.in_ok-read.ensures.applied) c.requires.left.means c.requires.right.means c.requires.left.refers c.requires.right.refers in
-    rw c.read.ensures.same (zip_are_terms c.args.symbols.now c.args.terms.now c.read.new.self.left.items a.cut.fronts a.cut.left)
+    rw c.read.ensures.same (zip_are_terms c.args.symbols.now c.args.terms.now c.read.new.self.left.items a.cut.prefix a.cut.left)
 
 pub together-requires-clause-rights : goal.together-requires-clause-rights
 together-requires-clause-rights c =

@@ -14,9 +14,9 @@ use Rattle.rules_congruence.proofs.together.hang_by.Goals as goal
 pub returns-then-are_in_order-clause-together : goal.returns-then-are_in_order-clause-together
 returns-then-are_in_order-clause-together c ps t u given a = (
   λ e. inl ((linked_cut c.args.symbols.now c.args.terms.now Uses.Any c.args.both.now.left.items c.args.both.now.right.items a.ts a.us a.cut ps).0
-      (differences_linked ps a.cut.fronts a.cut.others
+      (differences_linked ps a.cut.prefix a.cut.others
       ((differing_by c.args.symbols.now c.args.terms.now (c.equal_exactly_where_terms_are.ensures c.args.symbols.now c.leaves_differ.ensures.table)
-      c.args.given.now.pairs.items c.args.given.now.only ps c.args.both.now.left.items c.args.both.now.right.items a.cut.fronts a.cut.others given a.cut.left a.cut.right).0
+      c.args.given.now.pairs.items c.args.given.now.only ps c.args.both.now.left.items c.args.both.now.right.items a.cut.prefix a.cut.others given a.cut.left a.cut.right).0
       (c.are_in_order.ensures.0 c.if-are_in_order.true)))),
   λ h. refl,
 )

@@ -13,7 +13,7 @@ returns-in-Differing-clause-together c ps t u given a =
     (iff_trans c.are_in_order.ensures
     (iff_trans
     (differing_by c.args.symbols.now c.args.terms.now (c.equal_exactly_where_terms_are.ensures c.args.symbols.now c.leaves_differ.ensures.table)
-    c.args.given.now.pairs.items c.args.given.now.only ps c.args.both.now.left.items c.args.both.now.right.items a.cut.fronts a.cut.others given a.cut.left a.cut.right)
+    c.args.given.now.pairs.items c.args.given.now.only ps c.args.both.now.left.items c.args.both.now.right.items a.cut.prefix a.cut.others given a.cut.left a.cut.right)
     cut))
 
 pub returns-in-Each-clause-together : goal.returns-in-Each-clause-together

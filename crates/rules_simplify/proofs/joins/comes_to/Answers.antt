@@ -1,5 +1,6 @@
 use Rattle.std.proofs.Common.{refl, inl, inr}
 use Rattle.std.proofs.lemmas.Result.{IfOk-weaker}
+use Rattle.rules_simplify.proofs.JoinLemmas.{told_apart}
 use Rattle.rules_simplify.proofs.joins.comes_to.Goals as goal
 
 pub returns-then-branch-clause-joins : goal.returns-then-branch-clause-joins
@@ -8,10 +9,14 @@ returns-then-branch-clause-joins c ts t list right =
 
 pub returns-clause-joins : goal.returns-clause-joins
 returns-clause-joins c =
-    IfOk-weaker c.is_shorter.result _ _ (λ b test ts t list right. (
-      λ e. inr ((test ts t list right).0 e),
+    let s = c.args.symbols.now in
+    let v = c.args.terms.now in
+    let one = c.equal_exactly_where_terms_are.ensures s c.leaves_differ.ensures.table in
+    IfOk-weaker c.is_shorter.result _ _ (λ b tells ts t list right.
+    let test = tells s v c.args.junction ts t one (c.constant.ensures v) c.requires.side list right in (
+      λ e. inr (test.0 e),
       λ h. elim h [
-        | inl absorbed ↦ absurd (let holds = (c.in_ok-is_absorbed.ensures.absorbed ts t list right).1 absorbed in let fails = c.if-branch.false in cc)
-        | inr shorter ↦ (test ts t list right).1 shorter
+        | inl absorbed ↦ absurd (told_apart _ ((c.in_ok-is_absorbed.ensures.absorbed ts t list right).1 absorbed) c.if-branch.false)
+        | inr shorter ↦ test.1 shorter
       ],
-    )) (rw c.is_absorbed.ensures.same at c.is_shorter.ensures.shorter)
+    )) c.is_shorter.ensures

@@ -1,33 +1,28 @@
-use Rattle.std.proofs.Common.{◌≡◌, rules}
-use Rattle.std.proofs.lemmas.Result.{IfOk-weaker}
-use Rattle.rules_simplify.proofs.JoinLemmas.{told_apart, by_first, by_second, by_third}
+use Rattle.rules_simplify.proofs.JoinLemmas.{told_apart, short_by_first, short_by_second, short_by_third, short_as_it_is}
 use Rattle.rules_simplify.proofs.joins.is_shorter.Goals as goal
 
-pub returns-then-branch-clause-shorter : goal.returns-then-branch-clause-shorter
-returns-then-branch-clause-shorter c ts t list right =
-    let h = c.in_ok-shorter.ensures.without ts list in
-    let test = rw (c.deref.ensures, c.without.ensures.same) at c.in_ok-stands_as.ensures.stands in
-    by_first c.args.symbols.now c.args.terms.now c.args.junction ts t c.in_ok-shorter.shorter.items h ((test h.kept t h.refer right).0 c.if-branch.true)
+pub returns-then-stands_as : goal.returns-then-stands_as
+returns-then-stands_as c =
+    short_by_second c.args.neutral c.args.arguments.now.1 c.args.side.now c.in_ok-single.single.items c.in_ok-single.ensures
+    ((rw c.deref.ensures.value at c.stands_as.ensures).0 c.if-stands_as.true)
 
-pub returns-then-branch-2-clause-shorter : goal.returns-then-branch-2-clause-shorter
-returns-then-branch-2-clause-shorter c ts t list right =
-    let one : c.stands_as.new.terms ≡ c.args.terms.now = search rules in
-    let k = (rw one at c.in_ok-single.ensures) ts list in
-    let test = rw (c.deref-2.ensures, one) at c.in_ok-stands_as-2.ensures.stands in
-    by_second c.args.symbols.now c.args.terms.now c.args.junction ts t c.in_ok-single.single.items k ((test k.kept t k.refer right).0 c.if-branch-2.true)
+pub returns-then-not-has : goal.returns-then-not-has
+returns-then-not-has c =
+    short_as_it_is c.args.neutral c.args.arguments.now.1 c.args.side.now c.in_ok-single.single.items c.in_ok-single.ensures
+    (λ there. told_apart _ (c.has.ensures.1 there) c.if-not-has.true)
+    (λ stands. told_apart _ ((rw c.deref.ensures.value at c.stands_as.ensures).1 stands) c.if-stands_as.false)
+    c.stands_as-then-not-has.result (rw c.items.ensures at c.stands_as-then-not-has.ensures)
 
-pub returns-clause-shorter : goal.returns-clause-shorter
-returns-clause-shorter c =
-    let one : c.stands_as.new.terms ≡ c.args.terms.now = search rules in
-    let two : c.stands_as-2.new.terms ≡ c.args.terms.now = search rules in
-    let first = rw (c.deref.ensures, c.without.ensures.same) at c.in_ok-stands_as.ensures.stands in
-    let second = rw (c.deref-2.ensures, one) at c.in_ok-stands_as-2.ensures.stands in
-    let again = rw (c.deref-3.ensures, two) at c.in_ok-both.ensures in
-    IfOk-weaker c.stands_as-3.result _ _ (λ b test ts t list right.
-    let h = c.in_ok-shorter.ensures.without ts list in
-    let k = (rw one at c.in_ok-single.ensures) ts list in
-    let l = again h.kept h.refer in
-    by_third c.args.symbols.now c.args.terms.now c.args.junction ts t _ _ _ h k l b
-    (λ stands. told_apart _ ((first h.kept t h.refer right).1 stands) c.if-branch.false)
-    (λ stands. told_apart _ ((second k.kept t k.refer right).1 stands) c.if-branch-2.false)
-    (test l.kept t l.refer right)) (rw (c.deref-4.ensures, two) at c.stands_as-3.ensures.stands)
+pub returns-then-stands_as-2 : goal.returns-then-stands_as-2
+returns-then-stands_as-2 c =
+    short_by_first c.args.neutral c.args.arguments.now.1 c.args.side.now c.in_ok-single.single.items c.in_ok-single.ensures
+    c.in_ok-shorter.shorter.items (rw c.items-2.ensures at c.in_ok-shorter.ensures)
+    ((rw c.deref-2.ensures.value at c.stands_as-2.ensures).0 c.if-stands_as-2.true)
+
+pub returns : goal.returns
+returns c =
+    short_by_third c.args.neutral c.args.arguments.now.1 c.args.side.now c.in_ok-single.single.items c.in_ok-single.ensures
+    c.in_ok-shorter.shorter.items (rw c.items-2.ensures at c.in_ok-shorter.ensures) c.in_ok-both.both.items (rw c.deref-3.ensures.value at c.in_ok-both.ensures) c.stands_as-3.result
+    (λ stands. told_apart _ ((rw c.deref-2.ensures.value at c.stands_as-2.ensures).1 stands) c.if-stands_as-2.false)
+    (λ stands. told_apart _ ((rw c.deref.ensures.value at c.stands_as.ensures).1 stands) c.if-stands_as.false)
+    (rw c.deref-4.ensures.value at c.stands_as-3.ensures)

@@ -12,7 +12,7 @@ returns-then-branch-clause-opposed c ts refer =
     let v = c.args.terms.now in
     let one = c.equal_exactly_where_terms_are.ensures s c.leaves_differ.ensures.table in
     found s v c.args.list.now ts refer c.loop-item.item-index _ _ (c.loop-item.invariant.noted ts refer) one c.item-item.result c.strip-bare.result.0 c.strip-bare.result.1 _ _ _
-    c.loop-item-test.true c.item-item.is (rw (c.get.ensures, c.loop-item.invariant.same) at c.strip-bare.ensures.stripped) c.in_ok-is_met_otherwise.ensures c.if-branch.true
+    c.loop-item-test.true c.item-item.is (rw c.loop-item.invariant.same at c.strip-bare.ensures.stripped) c.in_ok-is_met_otherwise.ensures c.if-branch.true
 
 pub loop-item-preserved : goal.loop-item-preserved
 loop-item-preserved c = record {
@@ -22,7 +22,7 @@ loop-item-preserved c = record {
       let v = c.args.terms.now in
       let one = c.equal_exactly_where_terms_are.ensures s c.leaves_differ.ensures.table in
       not_found s v c.args.list.now ts refer c.loop-item.item-index _ _ (c.loop-item.invariant.noted ts refer) one c.item-item.result c.strip-bare.result.0 c.strip-bare.result.1 _ _ _
-      c.loop-item-test.true c.item-item.is (rw (c.get.ensures, c.loop-item.invariant.same) at c.strip-bare.ensures.stripped) c.in_ok-is_met_otherwise.ensures c.if-branch.false);
+      c.loop-item-test.true c.item-item.is (rw c.loop-item.invariant.same at c.strip-bare.ensures.stripped) c.in_ok-is_met_otherwise.ensures c.if-branch.false);
 }
 
 pub returns-clause-opposed : goal.returns-clause-opposed

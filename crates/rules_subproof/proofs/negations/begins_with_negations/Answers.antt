@@ -1,6 +1,6 @@
 use Rattle.std.proofs.Common.{IsTrue, false, refl, ◌∙◌, arith}
 use Rattle.rules_subproof.proofs.Begins.{count, too_few, step, begins, fails, literal_is_term, below_next}
-use Rattle.rules_subproof.proofs.Fronts.{Matches}
+use Rattle.rules_subproof.proofs.Prefixes.{Matches}
 use Rattle.rules_subproof.proofs.Zips.{zip_one}
 use Rattle.rule_model.specs.Reading.{clause_at, discharged_at}
 use Rattle.rules_subproof.proofs.negations.begins_with_negations.Goals as goal
@@ -11,10 +11,10 @@ not_true e = cc
 pub returns-then-literals-discharged-clause-begins : goal.returns-then-literals-discharged-clause-begins
 returns-then-literals-discharged-clause-begins c of stands = (
   λ e. absurd (not_true e),
-  λ front. absurd (too_few c.args.symbols.now c.args.terms.now c.args.proof.now of c.args.i c.count-commands.ensures.well_formed
+  λ prefix. absurd (too_few c.args.symbols.now c.args.terms.now c.args.proof.now of c.args.i c.count-commands.ensures.well_formed
       (c.commands_correspond.ensures.discharged c.args.symbols.now c.args.terms.now c.args.proof.now of c.args.i stands)
       (λ j. c.terms_correspond.ensures.clause c.args.symbols.now c.args.terms.now c.args.proof.now of j stands)
-      _ _ c.clause-literals.ensures c.discharged-discharged.ensures c.if-literals-discharged.true front),
+      _ _ c.clause-literals.ensures c.discharged-discharged.ensures c.if-literals-discharged.true prefix),
 )
 
 pub returns-then-literals-discharged-clause-count : goal.returns-then-literals-discharged-clause-count
@@ -57,9 +57,9 @@ returns-then-not-is_negation-clause-begins c of stands =
     _ _ _ _ _ _ c.clause-literals.ensures c.discharged-discharged.ensures c.discharged-test.true c.if-literals-discharged.false
     c.index-literals-place.is c.assumed_term-term.ensures (rw c.discharged.invariant.0 at c.is_negation.ensures.negation) in (
       λ e. absurd (not_true e),
-      λ front. absurd (fails c.args.symbols.now c.args.terms.now c.args.proof.now of c.args.i c.count-commands.ensures.well_formed same
+      λ prefix. absurd (fails c.args.symbols.now c.args.terms.now c.args.proof.now of c.args.i c.count-commands.ensures.well_formed same
           (λ j. c.terms_correspond.ensures.clause c.args.symbols.now c.args.terms.now c.args.proof.now of j stands) _ _ c.discharged-discharged.ensures c.discharged-test.true
-          (λ matches. not_true (rw c.if-not-is_negation.true at here.1 matches)) front),
+          (λ matches. not_true (rw c.if-not-is_negation.true at here.1 matches)) prefix),
     )
 
 pub returns-clause-begins : goal.returns-clause-begins
@@ -69,7 +69,7 @@ returns-clause-begins c of stands = (
       (λ j. c.terms_correspond.ensures.clause c.args.symbols.now c.args.terms.now c.args.proof.now of j stands)
       _ _ c.clause-literals.ensures c.discharged-discharged.ensures c.if-literals-discharged.false
       (λ k below. c.discharged.invariant.1 of stands k (let over = c.discharged-test.false in omega arith)),
-  λ front. refl,
+  λ prefix. refl,
 )
 
 pub discharged-preserved : goal.discharged-preserved

@@ -3,7 +3,7 @@ use Rattle.term_model.specs.Terms.{Var, Term}
 use Rattle.rule_model.specs.Proofs.{ProofItems}
 use Rattle.rule_model.specs.Reading.{clause_at, discharged_at}
 use Rattle.proof_store.specs.Meaning.{StandForItems}
-use Rattle.rules_subproof.proofs.Fronts.{Matches}
+use Rattle.rules_subproof.proofs.Prefixes.{Matches}
 use Rattle.rules_subproof.proofs.negations.begins_with_negations.Given as goal
 
 abbrev pub invariant-discharged : goal.invariant-discharged

@@ -38,8 +38,8 @@ pub ends_with-requires-clause-place : goal.ends_with-requires-clause-place
 ends_with-requires-clause-place c =
     let of = c.requires.stand.proof in
     let stands = c.requires.stand.stand in
-    let front = (c.begins_with_negations.ensures.begins of stands).0 c.if-not-begins_with_negations.false in
-    let whole = ap length front.is ∙ length-append (negations of c.args.i) front.rest in
+    let prefix = (c.begins_with_negations.ensures.begins of stands).0 c.if-not-begins_with_negations.false in
+    let whole = ap length prefix.is ∙ length-append (negations of c.args.i) prefix.rest in
     let count = c.begins_with_negations.ensures.count of stands in
     let same = ap length (c.commands_correspond.ensures.discharged c.args.symbols.now c.args.terms.now c.args.proof.now of c.args.i stands) in
     let own = ap length c.discharged-place.ensures in
@@ -84,7 +84,7 @@ returns-clause-met c of stands =
     (λ j. c.commands_correspond.ensures.scope c.args.symbols.now c.args.terms.now c.args.proof.now of j stands)
     (λ j. c.commands_correspond.ensures.rule c.args.symbols.now c.args.terms.now c.args.proof.now of j stands) same).0
     ((rw c.discharged.ensures at c.are_among.ensures).0 c.if-not-are_among.false) in
-    let front = (c.begins_with_negations.ensures.begins of stands).0 c.if-not-begins_with_negations.false in (
-      λ e. makes_subproof of c.args.i c.args.scope c.in-Some.last (length c.discharged-place.result.now) is_last count no_bindings no_premises discharged front (ends.0 e),
+    let prefix = (c.begins_with_negations.ensures.begins of stands).0 c.if-not-begins_with_negations.false in (
+      λ e. makes_subproof of c.args.i c.args.scope c.in-Some.last (length c.discharged-place.result.now) is_last count no_bindings no_premises discharged prefix (ends.0 e),
       λ h. ends.1 (ending_of_subproof of c.args.i c.args.scope c.in-Some.last (length c.discharged-place.result.now) is_last count h),
     )

@@ -9,7 +9,7 @@ returns-then-is_of-clause-arguments c =
 pub returns-in-Some-clause-arguments : goal.returns-in-Some-clause-arguments
 returns-in-Some-clause-arguments c =
     row_arguments c.args.terms.now c.one_to_one.ensures c.args.r _
-    (row_kept c.args.terms.now c.args.self.now.last c.args.self.now.kept.items c.requires.right c.in-Some.place c.args.r c.in-Some.ensures)
+    (row_kept c.args.terms.now c.args.self.now.last c.args.self.now.kept.items c.requires.right c.in-Some.number c.args.r c.in-Some.ensures)
 
 pub returns-clause-arguments : goal.returns-clause-arguments
 returns-clause-arguments c =

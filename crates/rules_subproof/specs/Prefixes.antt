@@ -2,6 +2,6 @@
 use Rattle.std.specs.Prelude.{◌≡◌, ◌++◌, List}
 
 -- the list begins with another one
-pub record HasFront {X : Type 0} (front whole : List X) : Type 0 where
+pub record HasPrefix {X : Type 0} (prefix whole : List X) : Type 0 where
   pub rest : List X
-  pub is : whole ≡ front ++ rest
+  pub is : whole ≡ prefix ++ rest

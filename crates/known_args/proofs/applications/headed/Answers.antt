@@ -1,8 +1,8 @@
 use Rattle.std.proofs.Common.{None, refl}
 use Rattle.schema_match.proofs.ArgumentLemmas.{none_loaded, unsigned_is_term}
 use Rattle.term_parts.proofs.PartLemmas.{let_is_not_over, other_head, over_is}
-use Rattle.rules_clausal.proofs.GivesLemmas.{term_known}
-use Rattle.rules_clausal.proofs.argument_rules.headed.Goals as goal
+use Rattle.known_args.proofs.ApplicationLemmas.{term_known}
+use Rattle.known_args.proofs.applications.headed.Goals as goal
 
 pub head-requires : goal.head-requires
 head-requires c =
