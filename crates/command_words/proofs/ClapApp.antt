@@ -4,7 +4,7 @@ use Rattle.clap.specs.Walk.{Rule}
 use Rattle.clap.specs.Simple.{Shape, built, is_simple, new_shape}
 use Rattle.clap.specs.Faults.{is_simple_and_free}
 use Rattle.clap.specs.declared.builder.value_parser.ValueParser.TheVariants as vp
-use Rattle.command_words.specs.Made.{made, made_proof, made_problem, made_expand, made_ignore, made_strict}
+use Rattle.command_words.specs.Made.{made, made_proof, made_problem, made_expand, made_ignore, made_strict, made_workers}
 
 -- the arguments as they are built
 abbrev pub proof_rule : Rule
@@ -45,8 +45,14 @@ strict_rule = record made_strict {
   parser = Some vp.Bool;
 }
 
+abbrev pub workers_rule : Rule
+workers_rule = record made_workers {
+  range = Some (record { start_inclusive = 1; end_inclusive = 1 });
+  parser = Some vp.String;
+}
+
 abbrev pub rules : List Rule
-rules = proof_rule ∷ problem_rule ∷ expand_rule ∷ ignore_rule ∷ strict_rule ∷ []
+rules = proof_rule ∷ problem_rule ∷ expand_rule ∷ ignore_rule ∷ strict_rule ∷ workers_rule ∷ []
 
 abbrev pub check_shape : Shape
 check_shape = record (new_shape (codes "check")) {

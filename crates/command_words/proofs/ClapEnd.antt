@@ -1,12 +1,12 @@
 -- What `clap` makes of the rows at the end of the words: defaults, and whether what is required is there.
-use Rattle.std.proofs.Common.{◌≡◌, ◌∙◌, ◌||◌, ap, refl, Bool, true, false, List, [], ◌∷◌, ◌++◌, Some}
+use Rattle.std.proofs.Common.{◌≡◌, ◌∙◌, ◌||◌, ap, refl, Bool, true, false, List, [], ◌∷◌, ◌++◌, Option, Some}
 use Rattle.std.specs.Prelude.{codes, option_map, if◌then◌else◌}
 use Rattle.std.specs.Str.{bytes_eq}
 use Rattle.clap.specs.Kinds.{Kinds, or_else}
 use Rattle.clap.specs.Walk.{Held, Row, Text, finished, has_row, settled, with_default}
 use Rattle.clap.specs.Faults.{check_fault, default_fault, defaults_fault, given_default_fault, settle_fault}
 use Rattle.clap.specs.declared.parser.matches.ValueSource.TheVariants.{CommandLine, DefaultValue}
-use Rattle.command_words.proofs.ClapApp.{rules, check_shape, expand_rule, ignore_rule, strict_rule, proof_rule, problem_rule}
+use Rattle.command_words.proofs.ClapApp.{rules, check_shape, expand_rule, ignore_rule, strict_rule, workers_rule, proof_rule, problem_rule}
 use Rattle.command_words.proofs.ClapRows.{Seen, one, two, nothing, AreRows, at_id, flag_row, found, has_row_is, kept, more_values_new, proof_in, problem_in, row_for}
 use Rattle.command_words.proofs.ClapWords.{no_cons}
 
@@ -47,7 +47,14 @@ strict_default rows = by (has_row (codes "strict") rows)
     by true = refl
     by false = refl
 
--- the rows with the defaults of the operands, of the first option, and of the second one
+workers_default : (rows : List Row) → default_fault rows workers_rule ≡ []
+workers_default rows = by (has_row (codes "workers") rows)
+  where
+    by : (b : Bool) → (if b || true then [] else given_default_fault workers_rule []) ≡ []
+    by true = refl
+    by false = refl
+
+-- the rows with the defaults of the operands, of the first option, of the second one, and of the third
 abbrev with_operands : List Row → List Row
 with_operands rows = with_default (with_default rows proof_rule) problem_rule
 
@@ -56,6 +63,9 @@ with_first rows = with_default (with_operands rows) expand_rule
 
 abbrev with_second : List Row → List Row
 with_second rows = with_default (with_first rows) ignore_rule
+
+abbrev with_third : List Row → List Row
+with_third rows = with_default (with_second rows) strict_rule
 
 defaults_pass : (rows : List Row) → defaults_fault rows rules ≡ []
 unfolding defaults_fault
@@ -66,6 +76,7 @@ defaults_pass rows =
       expand_default (with_operands rows),
       ignore_default (with_first rows),
       strict_default (with_second rows),
+      workers_default (with_third rows),
     ) refl
 
 -- the row of an option, with what the words say or its default
@@ -74,12 +85,13 @@ flag_at_end id true = row_for CommandLine id (codes "true")
 flag_at_end id false = row_for DefaultValue id (codes "false")
 
 -- the rows at the end
-pub record AreDone (seen : Seen) (e i s : Bool) (rows : List Row) : Type 0 where
+pub record AreDone (seen : Seen) (e i s : Bool) (n : Option Text) (rows : List Row) : Type 0 where
   pub proof : at_id (codes "proof") rows ≡ option_map (row_for CommandLine (codes "proof")) (proof_in seen)
   pub problem : at_id (codes "problem") rows ≡ option_map (row_for CommandLine (codes "problem")) (problem_in seen)
   pub expand : at_id (codes "expand") rows ≡ Some (flag_at_end (codes "expand") e)
   pub ignore : at_id (codes "ignore") rows ≡ Some (flag_at_end (codes "ignore") i)
   pub strict : at_id (codes "strict") rows ≡ Some (flag_at_end (codes "strict") s)
+  pub number : at_id (codes "workers") rows ≡ option_map (row_for CommandLine (codes "workers")) n
 
 same_proof : (rows : List Row) → with_default rows proof_rule ≡ rows
 same_proof rows = by (has_row (codes "proof") rows)
@@ -90,6 +102,13 @@ same_proof rows = by (has_row (codes "proof") rows)
 
 same_problem : (rows : List Row) → with_default rows problem_rule ≡ rows
 same_problem rows = by (has_row (codes "problem") rows)
+  where
+    by : (b : Bool) → (if b then rows else rows) ≡ rows
+    by true = refl
+    by false = refl
+
+same_workers : (rows : List Row) → with_default rows workers_rule ≡ rows
+same_workers rows = by (has_row (codes "workers") rows)
   where
     by : (b : Bool) → (if b then rows else rows) ≡ rows
     by true = refl
@@ -143,28 +162,35 @@ module _ (e i s : Bool) (rows : List Row) where
       → at_id id (all_done e i s rows) ≡ at_id id rows
   past_all id no_expand no_ignore no_strict = past (codes "strict") id s (second_done e i rows) no_strict ∙ past_two id no_expand no_ignore
 
-finished_is : (h : Held) (seen : Seen) (e i s : Bool) → AreRows seen e i s (settled rules h).rows → finished rules h ≡ all_done e i s (settled rules h).rows
-finished_is h seen e i s are =
-    let rows = (settled rules h).rows in
-    ap (λ r. with_default (with_default (with_default (with_default r problem_rule) expand_rule) ignore_rule) strict_rule) (same_proof rows)
-    ∙ ap (λ r. with_default (with_default (with_default r expand_rule) ignore_rule) strict_rule) (same_problem rows)
-    ∙ ap (λ r. with_default (with_default r ignore_rule) strict_rule) (default_expand rows e are.expand)
-    ∙ ap (λ r. with_default r strict_rule) (default_ignore (first_done e rows) i (past (codes "expand") (codes "ignore") e rows refl ∙ are.ignore))
-    ∙ default_strict (second_done e i rows) s (past_two e i s rows (codes "strict") refl refl ∙ are.strict)
+-- the rows with the defaults of the operands and of all options but the last
+abbrev but_workers : List Row → List Row
+but_workers rows = with_default (with_default (with_default rows expand_rule) ignore_rule) strict_rule
 
-pub done : (h : Held) (seen : Seen) (e i s : Bool) → AreRows seen e i s (settled rules h).rows → AreDone seen e i s (finished rules h)
-done h seen e i s are =
-    let rows = (settled rules h).rows in
-    rw (finished_is h seen e i s are) (record {
-      proof = past_all e i s rows (codes "proof") refl refl refl ∙ are.proof;
-      problem = past_all e i s rows (codes "problem") refl refl refl ∙ are.problem;
-      expand = past (codes "strict") (codes "expand") s (second_done e i rows) refl
-          ∙ past (codes "ignore") (codes "expand") i (first_done e rows) refl
-          ∙ at_flag_end (codes "expand") e rows refl are.expand;
-      ignore = past (codes "strict") (codes "ignore") s (second_done e i rows) refl
-          ∙ at_flag_end (codes "ignore") i (first_done e rows) refl (past (codes "expand") (codes "ignore") e rows refl ∙ are.ignore);
-      strict = at_flag_end (codes "strict") s (second_done e i rows) refl (past_two e i s rows (codes "strict") refl refl ∙ are.strict);
-    })
+module _ (h : Held) (seen : Seen) (e i s : Bool) (n : Option Text) where
+  finished_is : AreRows seen e i s n (settled rules h).rows → finished rules h ≡ all_done e i s (settled rules h).rows
+  finished_is are =
+      let rows = (settled rules h).rows in
+      same_workers (but_workers (with_operands rows))
+      ∙ ap (λ r. but_workers (with_default r problem_rule)) (same_proof rows)
+      ∙ ap but_workers (same_problem rows)
+      ∙ ap (λ r. with_default (with_default r ignore_rule) strict_rule) (default_expand rows e are.expand)
+      ∙ ap (λ r. with_default r strict_rule) (default_ignore (first_done e rows) i (past (codes "expand") (codes "ignore") e rows refl ∙ are.ignore))
+      ∙ default_strict (second_done e i rows) s (past_two e i s rows (codes "strict") refl refl ∙ are.strict)
+
+  pub done : AreRows seen e i s n (settled rules h).rows → AreDone seen e i s n (finished rules h)
+  done are =
+      let rows = (settled rules h).rows in
+      rw (finished_is are) (record {
+        proof = past_all e i s rows (codes "proof") refl refl refl ∙ are.proof;
+        problem = past_all e i s rows (codes "problem") refl refl refl ∙ are.problem;
+        expand = past (codes "strict") (codes "expand") s (second_done e i rows) refl
+            ∙ past (codes "ignore") (codes "expand") i (first_done e rows) refl
+            ∙ at_flag_end (codes "expand") e rows refl are.expand;
+        ignore = past (codes "strict") (codes "ignore") s (second_done e i rows) refl
+            ∙ at_flag_end (codes "ignore") i (first_done e rows) refl (past (codes "expand") (codes "ignore") e rows refl ∙ are.ignore);
+        strict = at_flag_end (codes "strict") s (second_done e i rows) refl (past_two e i s rows (codes "strict") refl refl ∙ are.strict);
+        number = past_all e i s rows (codes "workers") refl refl refl ∙ are.number;
+      })
 
 -- ---- the end
 
@@ -172,17 +198,18 @@ done h seen e i s are =
 abbrev pub closing : Held → Kinds
 closing h = or_else (settle_fault rules false h) (or_else (defaults_fault (settled rules h).rows rules) (check_fault check_shape (finished rules h) false))
 
-pub closes : (h : Held) (a b : Text) (e i s : Bool) → settle_fault rules false h ≡ [] → AreRows (two a b) e i s (settled rules h).rows → closing h ≡ []
-closes h a b e i s settles are =
-    let at_end = done h (two a b) e i s are in
-    rw (settles, defaults_pass (settled rules h).rows, at_end.proof, at_end.problem) refl
+module _ (h : Held) (e i s : Bool) (n : Option Text) (settles : settle_fault rules false h ≡ []) where
+  pub closes : (a b : Text) → AreRows (two a b) e i s n (settled rules h).rows → closing h ≡ []
+  closes a b are =
+      let at_end = done h (two a b) e i s n are in
+      rw (settles, defaults_pass (settled rules h).rows, at_end.proof, at_end.problem) refl
 
-pub lacks_problem : (h : Held) (a : Text) (e i s : Bool) → settle_fault rules false h ≡ [] → AreRows (one a) e i s (settled rules h).rows → closing h ≡ [] → ⊥
-lacks_problem h a e i s settles are bad =
-    let at_end = done h (one a) e i s are in
-    no_cons _ _ (rw (settles, defaults_pass (settled rules h).rows, at_end.proof, at_end.problem) at bad)
+  pub lacks_problem : (a : Text) → AreRows (one a) e i s n (settled rules h).rows → closing h ≡ [] → ⊥
+  lacks_problem a are bad =
+      let at_end = done h (one a) e i s n are in
+      no_cons _ _ (rw (settles, defaults_pass (settled rules h).rows, at_end.proof, at_end.problem) at bad)
 
-pub lacks_both : (h : Held) (e i s : Bool) → settle_fault rules false h ≡ [] → AreRows nothing e i s (settled rules h).rows → closing h ≡ [] → ⊥
-lacks_both h e i s settles are bad =
-    let at_end = done h nothing e i s are in
-    no_cons _ _ (rw (settles, defaults_pass (settled rules h).rows, at_end.proof) at bad)
+  pub lacks_both : AreRows nothing e i s n (settled rules h).rows → closing h ≡ [] → ⊥
+  lacks_both are bad =
+      let at_end = done h nothing e i s n are in
+      no_cons _ _ (rw (settles, defaults_pass (settled rules h).rows, at_end.proof) at bad)

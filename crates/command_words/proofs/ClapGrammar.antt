@@ -1,10 +1,14 @@
 -- The grammar of the words behind `check`, word by word.
-use Rattle.std.proofs.Common.{◌≡◌, ◌∙◌, ◌&&◌, ◌||◌, ◌+◌, ap, arith, refl, Bool, true, false, not, suc, List, [], ◌∷◌, Option, Some, None}
+use Rattle.std.proofs.Common.{◌≡◌, ◌∙◌, ◌&&◌, ◌||◌, ◌+◌, ◌++◌, ap, arith, refl, true≢false, Bool, true, false, not, suc, List, [], ◌∷◌, Option, Some, None}
 use Rattle.std.proofs.Math.Bool.{and-false}
-use Rattle.std.specs.Prelude.{codes, if◌then◌else◌}
+use Rattle.std.proofs.lemmas.Bool.{eqb-true}
+use Rattle.std.specs.Prelude.{ℕ, codes, if◌then◌else◌, nat_eq}
 use Rattle.std.specs.List.{prefix_len}
 use Rattle.std.specs.Str.{bytes_eq}
-use Rattle.command_words.specs.CommandLine.{Word, are_known_once, asked_with, be_strict, expand_lets, ignore_unknown, is_among, is_no_end, is_operand, operands_of, options_by, options_of}
+use Rattle.command_words.specs.CommandLine.{Word, are_known_once, asked_with, be_strict, expand_lets, gives_number, ignore_unknown, is_among, is_no_end}
+use Rattle.command_words.specs.CommandLine.{is_operand, num_threads, num_threads_by, number_in, operands_of, options_by, options_of, with_values, workers_by}
+use Rattle.command_words.specs.CommandLine.{workers_in}
+use Rattle.command_words.specs.Found.{workers_of}
 use Rattle.command_words.specs.declared.request.Options.{Options}
 use Rattle.command_words.proofs.ClapWords.{same_bytes}
 
@@ -115,8 +119,49 @@ module _ (word : Word) (rest : List Word) (no_end : bytes_eq word (codes "--") �
   pub more_option : is_operand word ≡ false → options_of (word ∷ rest) ≡ word ∷ options_of rest
   more_option is = rw (no_end, one_more, is) refl
 
-pub asks_nothing : (operands : List Word) → asked_with operands None ≡ None
-asks_nothing [] = refl
-asks_nothing (a ∷ []) = refl
-asks_nothing (a ∷ b ∷ []) = refl
-asks_nothing (a ∷ b ∷ c ∷ operands) = refl
+-- ---- the number of workers, where some number stood before
+
+abbrev pub workers_after : Option Word → List Word → Option ℕ
+workers_after number [] = workers_of number
+workers_after None (word ∷ words) = workers_after (Some (number_in word)) words
+workers_after (Some number) (word ∷ words) = None
+
+pub workers_are_told : (words : List Word) → workers_after None words ≡ workers_by words
+workers_are_told [] = refl
+workers_are_told (word ∷ []) = refl
+workers_are_told (word ∷ other ∷ words) = refl
+
+-- an option is no number
+pub no_number : (word : Word) → is_operand word ≡ false → workers_in word ≡ None
+no_number [] h = absurd (true≢false h)
+no_number (b ∷ []) h = absurd (true≢false h)
+no_number (b ∷ c ∷ word) h = go (nat_eq b 45) refl
+  where
+    go : (t : Bool) → nat_eq b 45 ≡ t → workers_in (b ∷ c ∷ word) ≡ None
+    go true e = rw (eqb-true b 45 e) refl
+    go false e = let is : true ≡ false = rw e at h in absurd (true≢false is)
+
+-- where an option stands for the number, or a second one, no number of workers is told
+pub no_workers : (number : Option Word) (next : Word) (words : List Word) → is_operand next ≡ false → workers_after number ((num_threads_by ++ next) ∷ words) ≡ None
+no_workers (Some number) next words h = refl
+no_workers None next [] h = no_number next h
+no_workers None next (word ∷ words) h = refl
+
+-- ---- options and their values
+
+module _ (word : Word) (rest : List Word) (no_end : bytes_eq word (codes "--") ≡ false) where
+  pub one_word : bytes_eq word num_threads ≡ false → with_values (word ∷ rest) ≡ word ∷ with_values rest
+  one_word no_threads = rw (no_end, no_threads) refl
+
+pub asks_nothing : (operands : List Word) (workers : Option ℕ) → asked_with operands None workers ≡ None
+asks_nothing [] w = refl
+asks_nothing (a ∷ []) w = refl
+asks_nothing (a ∷ b ∷ []) w = refl
+asks_nothing (a ∷ b ∷ c ∷ operands) w = refl
+
+pub asks_no_workers : (operands : List Word) (options : Option Options) → asked_with operands options None ≡ None
+asks_no_workers [] o = refl
+asks_no_workers (a ∷ []) o = refl
+asks_no_workers (a ∷ b ∷ []) None = refl
+asks_no_workers (a ∷ b ∷ []) (Some o) = refl
+asks_no_workers (a ∷ b ∷ c ∷ operands) o = refl

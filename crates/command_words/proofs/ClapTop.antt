@@ -1,25 +1,28 @@
 -- `clap` takes the words of the command line where the grammar does, and reads the same in them.
 use Rattle.std.proofs.Common.{◌≡◌, ◌≢◌, ◌⊎◌, inl, inr, ◌∙◌, ◌++◌, ap, sym, refl, Bool, true, false, List, [], ◌∷◌, Option, Some, None, append-nil, append_assoc, true≢false}
-use Rattle.std.specs.Prelude.{codes, fold, map, string_bytes, String}
+use Rattle.std.specs.Prelude.{codes, filter, fold, map, option_map, string_bytes, String}
 use Rattle.std.proofs.lemmas.Str.{IsUtf8-string_bytes}
 use Rattle.clap.specs.declared.error.kind.ErrorKind.{ErrorKind}
 use Rattle.clap.specs.declared.error.kind.ErrorKind.TheVariants.{OutOfMemory}
 use Rattle.std.specs.Str.{IsUtf8, bytes_eq}
 use Rattle.clap.specs.Kinds.{IsAmong, Kinds, or_else}
-use Rattle.clap.specs.Walk.{Row, Text, Names, Walk, finished, nothing_held, one_of, walk, walk_from, walked}
+use Rattle.clap.specs.declared.parser.matches.ValueSource.TheVariants.{CommandLine}
+use Rattle.clap.specs.Walk.{Row, Text, Names, Walk, finished, first_of, nothing_held, one_of, walk, walk_from, walked}
 use Rattle.clap.specs.Simple.{subcommand_of}
 use Rattle.clap.specs.Faults.{fault_of, level_fault, turn_fault, walk_fault, defaults_fault}
 use Rattle.clap.proofs.FaultLemmas.{stopped_fault}
-use Rattle.command_words.specs.CommandLine.{Asked, asked_of, options_of}
+use Rattle.command_words.specs.CommandLine.{Asked, asked_of, gives_number, is_flag, options_of, with_values}
 use Rattle.command_words.specs.Made.{made}
-use Rattle.command_words.specs.Found.{IsReadFrom, flag_text}
+use Rattle.command_words.specs.Found.{Given, IsReadFrom, asked_from, flag_text}
 use Rattle.command_words.proofs.ClapApp.{check_shape, rules, top_shape}
-use Rattle.command_words.proofs.ClapRows.{nothing, at_id, no_rows}
-use Rattle.command_words.proofs.ClapWords.{IsFlag, IsPlain, Word, ends, expands, first_faults, ignores, is_strict, no_cons, plain, same_bytes, strange, word_is}
+use Rattle.command_words.proofs.ClapRows.{nothing, at_id, no_rows, row_for}
+use Rattle.command_words.proofs.ClapWords.{IsFlag, IsPlain, Word, ends, expands, first_faults, ignores, is_strict, no_cons, numbers, plain, same_bytes, strange, waits}
+use Rattle.command_words.proofs.ClapWords.{word_is}
 use Rattle.command_words.proofs.ClapWalk.{or_first}
 use Rattle.command_words.proofs.ClapEnd.{flag_at_end}
-use Rattle.command_words.proofs.ClapGrammar.{options_are_told}
-use Rattle.command_words.proofs.ClapReach.{AllUtf8, Answers, ReadsAs, reaches}
+use Rattle.command_words.proofs.ClapGrammar.{options_are_told, workers_are_told}
+use Rattle.command_words.proofs.ClapLost.{AllUtf8}
+use Rattle.command_words.proofs.ClapReach.{Answers, IsAskedBy, reaches}
 
 abbrev names : Names
 names = (codes "check", []) ∷ []
@@ -79,6 +82,8 @@ no_check word rest other u (plain is) bad = first_fails word rest (plain_word wo
 no_check word rest other u (expands is) bad = first_fails word rest (other_word word other u (rw is (record { operand = refl; no_end = refl }))) bad
 no_check word rest other u (ignores is) bad = first_fails word rest (other_word word other u (rw is (record { operand = refl; no_end = refl }))) bad
 no_check word rest other u (is_strict is) bad = first_fails word rest (other_word word other u (rw is (record { operand = refl; no_end = refl }))) bad
+no_check word rest other u (numbers v is) bad = first_fails word rest (other_word word other u (rw is (record { operand = refl; no_end = refl }))) bad
+no_check word rest other u (waits is) bad = first_fails word rest (other_word word other u (rw is (record { operand = refl; no_end = refl }))) bad
 no_check word rest other u (strange f none) bad = first_fails word rest (other_word word other u f) bad
 
 no_words : fault_of made [] ≡ [] → ⊥
@@ -88,37 +93,42 @@ no_words bad = no_cons _ _ bad
 -- ---- the words of a command line
 
 -- what is asked for is read from the words
-pub record IsRead (a : Asked) (words : List Text) : Type 0 where
+pub record IsRead (asked : Option Asked) (words : List Text) : Type 0 where
   pub rows : List Row
-  pub passes : fault_of made words ≡ []
   pub subcommand : subcommand_of made words ≡ Some (codes "check", rows)
-  pub reads : ReadsAs a rows
+  pub reads : IsAskedBy asked rows
 
 abbrev pub Outcome : Option Asked → List Text → Type 0
-Outcome None words = fault_of made words ≡ [] → ⊥
-Outcome (Some a) words = IsRead a words
+Outcome None words = fault_of made words ≡ [] → IsRead None words
+Outcome (Some a) words = (fault_of made words ≡ []) × IsRead (Some a) words
 
 behind_check : (asked : Option Asked) (words : List Text) → Answers asked (walk_from nothing_held) words → Outcome asked (codes "check" ∷ words)
-behind_check None words h = λ bad. h (sym (check_fault_is words) ∙ bad)
-behind_check (Some a) words h = record {
+behind_check None words h = λ bad. record {
   rows = finished rules (walk rules [] nothing_held words).held;
-  passes = check_fault_is words ∙ h.passes;
   subcommand = check_rows words;
-  reads = h.reads;
+  reads = h (sym (check_fault_is words) ∙ bad);
 }
+behind_check (Some a) words h = (
+  check_fault_is words ∙ h.0,
+  record {
+    rows = finished rules (walk rules [] nothing_held words).held;
+    subcommand = check_rows words;
+    reads = h.1;
+  },
+)
 
 checked : (words : List Text) → AllUtf8 words → Outcome (asked_of (codes "check" ∷ words)) (codes "check" ∷ words)
 checked words u =
-    behind_check _ words (rw (options_are_told (options_of words)) at
-    (reaches words u nothing false false false false [] None (record { settles = refl; are = no_rows })))
+    behind_check _ words (rw (options_are_told (filter is_flag (options_of (with_values words))), workers_are_told (filter gives_number (options_of (with_values words)))) at
+    (reaches words u nothing false false false false None [] None (record { settles = refl; are = no_rows })))
 
 pub outcome : (words : List Text) → AllUtf8 words → Outcome (asked_of words) words
-outcome [] u = no_words
+outcome [] u = λ bad. absurd (no_words bad)
 outcome (word ∷ rest) u = go (bytes_eq (codes "check") word) refl
   where
     other : bytes_eq (codes "check") word ≡ false → (b : Bool) → bytes_eq word (codes "check") ≡ b → Outcome (asked_of (word ∷ rest)) (word ∷ rest)
     other differs true is = let same : bytes_eq (codes "check") (codes "check") ≡ false = rw (same_bytes word (codes "check") is) at differs in absurd (true≢false same)
-    other differs false is = rw is (no_check word rest differs u.0 (word_is word))
+    other differs false is = rw is (λ bad. absurd (no_check word rest differs u.0 (word_is word) bad))
 
     go : (b : Bool) → bytes_eq (codes "check") word ≡ b → Outcome (asked_of (word ∷ rest)) (word ∷ rest)
     go true is = rw (← same_bytes (codes "check") word is) (checked rest u.1)
@@ -135,25 +145,37 @@ flag_read : (id : Text) (b : Bool) (rows : List Row) → at_id id rows ≡ Some 
 flag_read id true rows h = rw h refl
 flag_read id false rows h = rw h refl
 
-read_from : (a : Asked) (words : List Text) → IsRead a words → IsReadFrom a (subcommand_of made words)
-read_from a words h = record {
+number_read : (n : Option Text) (rows : List Row) → at_id (codes "workers") rows ≡ option_map (row_for CommandLine (codes "workers")) n
+    → first_of (codes "workers") rows ≡ n
+number_read None rows h = rw h refl
+number_read (Some v) rows h = rw h refl
+
+read_from : (asked : Option Asked) (words : List Text) → (h : IsRead asked words) → IsReadFrom h.reads.given (subcommand_of made words)
+read_from asked words h = let g = h.reads.given in record {
   rows = h.rows;
   met = h.subcommand;
-  proof = rw h.reads.proof refl;
-  problem = rw h.reads.problem refl;
-  expand = flag_read (codes "expand") a.options.replaces_lets h.rows h.reads.expand;
-  ignore = flag_read (codes "ignore") a.options.ignores_unknown_rules h.rows h.reads.ignore;
-  strict = flag_read (codes "strict") a.options.is_strict h.rows h.reads.strict;
+  proof = rw h.reads.reads.proof refl;
+  problem = rw h.reads.reads.problem refl;
+  expand = flag_read (codes "expand") g.options.replaces_lets h.rows h.reads.reads.expand;
+  ignore = flag_read (codes "ignore") g.options.ignores_unknown_rules h.rows h.reads.reads.ignore;
+  strict = flag_read (codes "strict") g.options.is_strict h.rows h.reads.reads.strict;
+  number = number_read g.number h.rows h.reads.reads.number;
 }
 
+is_read : (asked : Option Asked) (words : List Text) → Outcome asked words → fault_of made words ≡ [] → IsRead asked words
+is_read None words h passes = h passes
+is_read (Some a) words h passes = h.1
+
 -- where `clap` takes the words, its matches say what they ask for
-pub taken : (asked : Option Asked) (words : List Text) → Outcome asked words → fault_of made words ≡ [] → (found : Option (Text × List Row)) → found ≡ subcommand_of made words
-    → (told : Option Asked) → ((a : Asked) → IsReadFrom a found → told ≡ Some a) → told ≡ asked
-taken None words h passes found is told reads = absurd (h passes)
-taken (Some a) words h passes found is told reads = reads a (rw (sym is) at (read_from a words h))
+pub taken : (asked : Option Asked) (words : List Text) → Outcome asked words → fault_of made words ≡ [] → (found : Option (Text × List Row))
+    → found ≡ subcommand_of made words → (told : Option Asked) → ((g : Given) → IsReadFrom g found → told ≡ asked_from g) → told ≡ asked
+taken asked words h passes found is told reads =
+    let read = is_read asked words h passes in
+    reads read.reads.given (rw (sym is) at (read_from asked words read)) ∙ read.reads.asks
 
 -- where it refuses them, they ask for nothing
-pub refused : (asked : Option Asked) (words : List Text) → Outcome asked words → (k : ErrorKind) → (k ≡ OutOfMemory) ⊎ IsAmong k (fault_of made words) → k ≢ OutOfMemory → None ≡ asked
+pub refused : (asked : Option Asked) (words : List Text) → Outcome asked words → (k : ErrorKind) → (k ≡ OutOfMemory) ⊎ IsAmong k (fault_of made words)
+    → k ≢ OutOfMemory → None ≡ asked
 refused None words h k kinds enough = refl
 refused (Some a) words h k (inl memory) enough = absurd (enough memory)
-refused (Some a) words h k (inr among) enough = absurd (rw h.passes at among)
+refused (Some a) words h k (inr among) enough = absurd (rw h.0 at among)

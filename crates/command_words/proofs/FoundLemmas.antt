@@ -1,5 +1,5 @@
 -- What the getters of `clap`'s matches return.
-use Rattle.std.proofs.Common.{◌≡◌, ◌∙◌, ap, refl, Bool, true, false, List, Option, Some}
+use Rattle.std.proofs.Common.{◌≡◌, ◌∙◌, ap, refl, ℕ, Bool, true, false, List, Option, None, Some}
 use Rattle.std.proofs.lemmas.Option.{same_Some}
 use Rattle.std.specs.Prelude.{codes, option_map}
 use Rattle.clap.specs.Matches.{first_value, one_text}
@@ -7,7 +7,7 @@ use Rattle.clap.specs.Walk.{Row, Text, first_of, one_of, rows_of}
 use Rattle.clap.specs.declared.parser.matches.Found.{Found}
 use Rattle.clap.proofs.WalkLemmas.{first_value-rows, one_text-rows}
 use Rattle.command_words.specs.CommandLine.{Asked}
-use Rattle.command_words.specs.Found.{flag_text}
+use Rattle.command_words.specs.Found.{Given, asked_from, flag_text, workers_of}
 
 pub rows_are : (x rows : List Row) (found : Option (Text × List Row)) (name : Text) → Some x ≡ option_map (λ p. p.1) found → found ≡ Some (name, rows) → x ≡ rows
 rows_are x rows found name e is = same_Some x rows (e ∙ ap (option_map (λ p. p.1)) is)
@@ -22,7 +22,14 @@ by_text false t r is said other = other is
 pub flag_is : (f : Found) (id : Text) (rows : List Row) (b r : Bool) → rows_of f ≡ rows → one_of id rows ≡ Some (flag_text b) → (one_text f id ≡ Some (codes "true") → r ≡ true) → (one_text f id ≡ Some (codes "false") → r ≡ false) → r ≡ b
 flag_is f id rows b r is there said other = by_text b (one_text f id) r (one_text-rows f id ∙ ap (one_of id) is ∙ there) said other
 
-pub asked_is : (p q : Text) (e i s : Bool) (a : Asked) → Some p ≡ Some a.proof → Some q ≡ Some a.problem
-    → e ≡ a.options.replaces_lets → i ≡ a.options.ignores_unknown_rules → s ≡ a.options.is_strict
-    → Some (record { proof = p; problem = q; options = record { replaces_lets = e; ignores_unknown_rules = i; is_strict = s } }) ≡ Some a
-asked_is p q e i s a proof problem lets unknown strict = rw (same_Some p a.proof proof, same_Some q a.problem problem, lets, unknown, strict) refl
+-- the number of workers as it is spelled, where it is
+pub number_is : (f : Found) (id : Text) (rows : List Row) (n r : Option Text) → r ≡ first_value f id → rows_of f ≡ rows → first_of id rows ≡ n → r ≡ n
+number_is f id rows n r e is there = e ∙ first_value-rows f id ∙ ap (first_of id) is ∙ there
+
+pub asked_is : (p q : Text) (e i s : Bool) (g : Given) (k : ℕ) → Some p ≡ Some g.proof → Some q ≡ Some g.problem
+    → e ≡ g.options.replaces_lets → i ≡ g.options.ignores_unknown_rules → s ≡ g.options.is_strict → workers_of g.number ≡ Some k
+    → Some (record { proof = p; problem = q; options = record { replaces_lets = e; ignores_unknown_rules = i; is_strict = s }; workers = k }) ≡ asked_from g
+asked_is p q e i s g k proof problem lets unknown strict workers = rw (same_Some p g.proof proof, same_Some q g.problem problem, lets, unknown, strict, workers) refl
+
+pub asks_nothing : (g : Given) → workers_of g.number ≡ None → None ≡ asked_from g
+asks_nothing g h = rw h refl

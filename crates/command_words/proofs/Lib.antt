@@ -4,6 +4,8 @@ pub mod ClapWords
 pub mod ClapWalk
 pub mod ClapEnd
 pub mod ClapGrammar
+pub mod ClapLost
 pub mod ClapReach
 pub mod ClapTop
 pub mod FoundLemmas
+pub mod NumberLemmas

@@ -1,16 +1,19 @@
 -- Public. What the words of a command line ask for (POSIX.1-2017, Base Definitions, "Utility Syntax Guidelines"). The
 -- first word is the command, and behind it stand operands and options, in any order. The first `--` ends the options:
 -- every word behind it is an operand.
-use Rattle.std.specs.Prelude.{ℕ, List, [], ◌∷◌, ◌++◌, Bool, true, not, ◌&&◌, ◌||◌, if◌then◌else◌, Option, None, Some, nat_eq, bytes_eq, codes, drop, filter}
-use Rattle.std.specs.Prelude.{take_while}
+use Rattle.std.specs.Prelude.{ℕ, List, [], ◌∷◌, ◌++◌, Bool, true, false, not, ◌&&◌, ◌||◌, if◌then◌else◌, Option, None, Some, nat_eq, nat_le}
+use Rattle.std.specs.Prelude.{bytes_eq, codes, drop, filter, length, take, take_while}
 use Rattle.std.specs.List.{list_any, prefix_len}
+use Rattle.std.specs.Str.{all_ascii_digits}
+use Rattle.std.specs.Str.Parse.{digits_value}
 use Rattle.command_words.specs.declared.request.Options.{Options}
 
--- a check of the proof at one path against the problem at another, and how it is done
+-- a check of the proof at one path against the problem at another, how it is done, and by how many workers
 pub record Asked : Type 0 where
   pub proof : List ℕ
   pub problem : List ℕ
   pub options : Options
+  pub workers : ℕ
 
 -- a word, as its bytes
 abbrev pub Word : Type 0
@@ -43,7 +46,53 @@ operands_of words = filter is_operand (before_end words) ++ behind_end words
 abbrev pub options_of : List Word → List Word
 options_of words = filter is_option (before_end words)
 
--- the options of a check: that lets are replaced, that steps by unknown rules are holes, and that conditions are strict
+-- `--num-threads` takes the next word, whatever that is, as if it stood behind `=` in its own.
+abbrev pub num_threads : Word
+num_threads = codes "--num-threads"
+
+abbrev pub num_threads_by : Word
+num_threads_by = codes "--num-threads="
+
+abbrev mutual
+  pub with_values : List Word → List Word
+  with_values [] = []
+  with_values (word ∷ words) =
+      if bytes_eq word (codes "--") then word ∷ words else (if bytes_eq word num_threads then with_value words else word ∷ with_values words)
+
+  pub with_value : List Word → List Word
+  with_value [] = num_threads ∷ []
+  with_value (number ∷ words) = (num_threads_by ++ number) ∷ with_values words
+
+abbrev pub gives_number : Word → Bool
+gives_number word = bytes_eq (take (length num_threads_by) word) num_threads_by
+
+-- what stands behind `=`
+abbrev pub number_in : Word → Word
+number_in word = drop (length num_threads_by) word
+
+-- A number is decimal digits without sign or leading zero.
+abbrev pub is_number : Word → Bool
+is_number [] = false
+is_number (b ∷ word) = not (nat_eq b 48) && all_ascii_digits (b ∷ word)
+
+-- from 1 to 64
+abbrev pub is_for_workers : ℕ → Bool
+is_for_workers n = nat_le 1 n && nat_le n 64
+
+abbrev pub workers_in : Word → Option ℕ
+workers_in word = if is_number word && is_for_workers (digits_value 10 word) then Some (digits_value 10 word) else None
+
+-- how many workers the options ask for: one, where none of them says it, and it is said once at most
+abbrev pub workers_by : List Word → Option ℕ
+workers_by [] = Some 1
+workers_by (word ∷ []) = workers_in (number_in word)
+workers_by (word ∷ other ∷ words) = None
+
+-- an option that gives no number
+abbrev pub is_flag : Word → Bool
+is_flag word = not (gives_number word)
+
+-- those that a check has: that lets are replaced, that steps by unknown rules are holes, and that conditions are strict
 abbrev pub expand_lets : Word
 expand_lets = codes "--expand-let-bindings"
 
@@ -59,12 +108,12 @@ is_known word = bytes_eq word expand_lets || (bytes_eq word ignore_unknown || by
 abbrev pub is_among : Word → List Word → Bool
 is_among word words = list_any (λ other. bytes_eq other word) words
 
--- each word is an option of the command, and none stands twice
+-- each word is such an option, and none stands twice
 abbrev pub are_known_once : List Word → Bool
 are_known_once [] = true
 are_known_once (word ∷ words) = is_known word && (not (is_among word words) && are_known_once words)
 
--- what the options ask for
+-- what they ask for
 abbrev pub options_by : List Word → Option Options
 options_by words =
     if are_known_once words
@@ -76,12 +125,17 @@ options_by words =
     else None
 
 -- the operands are the proof and the problem, in this order
-abbrev pub asked_with : List Word → Option Options → Option Asked
-asked_with (proof ∷ problem ∷ []) (Some options) = Some (record { proof = proof; problem = problem; options = options })
-asked_with _ _ = None
+abbrev pub asked_with : List Word → Option Options → Option ℕ → Option Asked
+asked_with (proof ∷ problem ∷ []) (Some options) (Some workers) =
+    Some (record { proof = proof; problem = problem; options = options; workers = workers })
+asked_with _ _ _ = None
+
+abbrev pub asked_by : List Word → Option Asked
+asked_by words =
+    asked_with (operands_of words) (options_by (filter is_flag (options_of words))) (workers_by (filter gives_number (options_of words)))
 
 -- the first word is `check`
 abbrev pub asked_of : List Word → Option Asked
 asked_of [] = None
 asked_of (command ∷ words) =
-    if bytes_eq command (codes "check") then asked_with (operands_of words) (options_by (options_of words)) else None
+    if bytes_eq command (codes "check") then asked_by (with_values words) else None

@@ -1,4 +1,4 @@
--- Private. The command line as it is made for `clap`: one subcommand, with two operands and three options.
+-- Private. The command line as it is made for `clap`: one subcommand, with two operands and four options.
 use Rattle.std.specs.Prelude.{◌≡◌, Some, false, true, codes}
 use Rattle.clap.specs.Walk.{Rule, Text}
 use Rattle.clap.specs.Simple.{App, app_of, new_rule, new_shape, new_app, with_rule, with_subcommand}
@@ -11,6 +11,9 @@ made_operand id = record (new_rule id) { required = true; action = Some Set }
 
 abbrev pub made_flag : Text → Text → Rule
 made_flag id name = record (new_rule id) { long = Some name; action = Some SetTrue }
+
+abbrev pub made_valued : Text → Text → Rule
+made_valued id name = record (new_rule id) { long = Some name; action = Some Set }
 
 abbrev pub made_proof : Rule
 made_proof = made_operand (codes "proof")
@@ -27,12 +30,18 @@ made_ignore = made_flag (codes "ignore") (codes "ignore-unknown-rules")
 abbrev pub made_strict : Rule
 made_strict = made_flag (codes "strict") (codes "strict")
 
--- the command with its operands
+abbrev pub made_workers : Rule
+made_workers = made_valued (codes "workers") (codes "num-threads")
+
+-- the command with its operands, and with the options without a value
 abbrev pub made_operands : App
 made_operands = with_rule (with_rule (new_app (codes "check")) made_proof) made_problem
 
+abbrev pub made_flags : App
+made_flags = with_rule (with_rule (with_rule made_operands made_expand) made_ignore) made_strict
+
 abbrev pub made_check : App
-made_check = with_rule (with_rule (with_rule made_operands made_expand) made_ignore) made_strict
+made_check = with_rule made_flags made_workers
 
 pub record IsMadeCheck (c : Command) : Type 0 where
   pub shape : app_of c ≡ made_check

@@ -1,8 +1,12 @@
 -- Public. What a request of the code asks for.
-use Rattle.std.specs.Prelude.{Option, None, Some}
+use Rattle.std.specs.Prelude.{◌≤◌, ℕ, Option, None, Some}
 use Rattle.command_words.specs.declared.request.Request.{Request}
 use Rattle.command_words.specs.CommandLine.{Asked}
 
 abbrev pub told_of : Option Request → Option Asked
 told_of None = None
-told_of (Some r) = Some (record { proof = r.proof.now; problem = r.problem.now; options = r.options })
+told_of (Some r) = Some (record { proof = r.proof.now; problem = r.problem.now; options = r.options; workers = r.workers })
+
+-- so many may check a proof
+abbrev pub IsNumberOfWorkers : ℕ → Type 0
+IsNumberOfWorkers count = (1 ≤ count) × (count ≤ 64)

@@ -1,11 +1,11 @@
 //! The words of the command line, read with `clap`.
-ghost use Rattle.std.specs.Prelude.{◌≡◌, ◌≢◌, false, Some, None, map, string_bytes, IfOk};
+ghost use Rattle.std.specs.Prelude.{◌≡◌, ◌≢◌, false, Some, None, map, option_map, string_bytes, IfOk, IfSome};
 ghost use Rattle.clap.specs.Simple.{app_of, subcommand_rows_of};
 ghost use Rattle.clap.specs.Walk.{rule_of};
-ghost use Rattle.command_words.specs.CommandLine.{Asked, asked_of};
-ghost use Rattle.command_words.specs.Requests.{told_of};
-ghost use Rattle.command_words.specs.Made.{made, made_flag, made_operand, IsMadeCheck};
-ghost use Rattle.command_words.specs.Found.{IsReadFrom};
+ghost use Rattle.command_words.specs.CommandLine.{asked_of, workers_in};
+ghost use Rattle.command_words.specs.Requests.{told_of, IsNumberOfWorkers};
+ghost use Rattle.command_words.specs.Made.{made, made_flag, made_operand, made_valued, IsMadeCheck};
+ghost use Rattle.command_words.specs.Found.{asked_from, workers_of, Given, IsReadFrom};
 
 use crate::request::{Options, Request};
 use clap::error::ErrorKind;
@@ -28,7 +28,15 @@ fn flag<'a>(alloc: Global, id: &'a str, name: &'a str) -> Arg<'a>
     Arg::new(alloc, id).long(name).action(ArgAction::SetTrue)
 }
 
-/// The command `check`, with two operands and three options.
+/// An option with a value.
+fn valued<'a>(alloc: Global, id: &'a str, name: &'a str) -> Arg<'a>
+    ensures rule { rule_of result ≡ made_valued id.now name.now }
+    ensures local { result.global ≡ false }
+{
+    Arg::new(alloc, id).long(name).action(ArgAction::Set)
+}
+
+/// The command `check`, with two operands and four options.
 fn check_command<'a>(alloc: Global) -> Result<Command<'a>, AllocError>
     ensures { IfOk result IsMadeCheck }
 {
@@ -37,7 +45,8 @@ fn check_command<'a>(alloc: Global) -> Result<Command<'a>, AllocError>
         .arg(operand(alloc, "problem"))?
         .arg(flag(alloc, "expand", "expand-let-bindings"))?
         .arg(flag(alloc, "ignore", "ignore-unknown-rules"))?
-        .arg(flag(alloc, "strict", "strict"))
+        .arg(flag(alloc, "strict", "strict"))?
+        .arg(valued(alloc, "workers", "num-threads"))
 }
 
 /// The command line: one subcommand, and no help.
@@ -53,9 +62,36 @@ fn command_line<'a>(alloc: Global) -> Result<Command<'a>, AllocError>
         .subcommand(check)
 }
 
+/// The number of workers that a text spells, 1 to 64: decimal digits without sign or leading zero.
+fn workers_in(text: &str) -> Option<u32>
+    ensures value { result ≡ workers_in text.now }
+    ensures workers { IfSome result IsNumberOfWorkers }
+{
+    let first = *text.as_bytes().first()?;
+    if first < b'1' || b'9' < first {
+        return None;
+    }
+    match text.parse::<u32>() {
+        Ok(count) if 1 <= count && count <= 64 => Some(count),
+        _ => None,
+    }
+}
+
+/// The number of workers by the value of its option: one, where that does not stand.
+fn workers_of(number: Option<&str>) -> Option<u32>
+    ensures value { result ≡ workers_of (option_map (λ text. text.now) number.entry) }
+    ensures workers { IfSome result IsNumberOfWorkers }
+{
+    match number {
+        None => Some(1),
+        Some(text) => workers_in(text),
+    }
+}
+
 /// What the matches of a command line ask for.
 fn request_of<'a>(matches: &ArgMatches<'a>) -> Option<Request<'a>>
-    ensures { (a : Asked) → IsReadFrom a (subcommand_rows_of matches.now) → told_of result ≡ Some a }
+    ensures told { (g : Given) → IsReadFrom g (subcommand_rows_of matches.now) → told_of result ≡ asked_from g }
+    ensures workers { IfSome result (λ request. IsNumberOfWorkers request.workers) }
 {
     let Some((_, check)) = matches.subcommand() else {
         return None;
@@ -64,6 +100,9 @@ fn request_of<'a>(matches: &ArgMatches<'a>) -> Option<Request<'a>>
         return None;
     };
     let Some(problem) = check.get_str("problem") else {
+        return None;
+    };
+    let Some(workers) = workers_of(check.get_str("workers")) else {
         return None;
     };
     let options = Options {
@@ -75,12 +114,13 @@ fn request_of<'a>(matches: &ArgMatches<'a>) -> Option<Request<'a>>
         proof,
         problem,
         options,
+        workers,
     })
 }
 
 /// The answer to words that were refused: they ask for nothing, or memory ran out.
 fn refused<'a>(kind: ErrorKind) -> Result<Option<Request<'a>>, AllocError>
-    ensures { IfOk result (λ r. (told_of r ≡ None) × (kind ≢ ErrorKind.OutOfMemory)) }
+    ensures { IfOk result (λ r. (r ≡ None) × (kind ≢ ErrorKind.OutOfMemory)) }
 {
     match kind {
         ErrorKind::OutOfMemory => Err(AllocError),
@@ -90,11 +130,14 @@ fn refused<'a>(kind: ErrorKind) -> Result<Option<Request<'a>>, AllocError>
 
 /// What the words of a command line ask for, where they spell a command (POSIX.1-2017, Base
 /// Definitions, "Utility Syntax Guidelines"): `check PROOF PROBLEM`, and in any place behind `check` the options
-/// `--expand-let-bindings`, `--ignore-unknown-rules` and `--strict`, each once at most. A `--` ends the options.
+/// `--expand-let-bindings`, `--ignore-unknown-rules`, `--strict` and `--num-threads N`, each once at most. A `--` ends the options.
+/// N, 1 to 64, is the next word, or stands behind `=` in the same one: decimal digits without sign or leading zero. Where it is not
+/// said, one worker is asked for.
 ///
 /// `words` are those of the command line without the program's name. An error means out of memory.
 pub fn asked_of<'a>(alloc: Global, words: &'a [String]) -> Result<Option<Request<'a>>, AllocError>
-    ensures { IfOk result (λ r. told_of r ≡ asked_of (map string_bytes words.now)) }
+    ensures asked { IfOk result (λ r. told_of r ≡ asked_of (map string_bytes words.now)) }
+    ensures workers { IfOk result (λ r. IfSome r (λ request. IsNumberOfWorkers request.workers)) }
 {
     let command = command_line(alloc)?;
     match command.try_get_matches_from(words) {

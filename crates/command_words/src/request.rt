@@ -11,10 +11,11 @@ pub struct Options {
     pub is_strict: bool,
 }
 
-/// A check of the proof at one path against the problem at another.
+/// A check of the proof at one path against the problem at another, by 1 to 64 workers.
 #[derive(Drop)]
 pub struct Request<'a> {
     pub proof: &'a str,
     pub problem: &'a str,
     pub options: Options,
+    pub workers: u32,
 }
