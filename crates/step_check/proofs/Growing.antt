@@ -1,5 +1,5 @@
 -- What is said of a proof and of assertions, as the pass comes to know more.
-use Rattle.std.proofs.Common.{◌≡◌, ℕ, List, [], ◌∷◌, inl, inr, sym, subst, refl}
+use Rattle.std.proofs.Common.{◌≡◌, ℕ, List, inl, inr, sym, subst, refl}
 use Rattle.pair_pool.specs.Views.{PassView, IsOneToOne}
 use Rattle.proof_store.specs.Checks.{StandForSome}
 use Rattle.proof_store.specs.Meaning.{StandForItems}
@@ -11,7 +11,8 @@ use Rattle.rule_model.specs.declared.rules.Rule.{Rule}
 use Rattle.sym_table.specs.Table.{Table, IsTable, Keeps}
 use Rattle.sym_table.proofs.Tables.{keeps_table}
 use Rattle.term_model.specs.Terms.{Var, Term}
-use Rattle.term_pool.specs.Views.{TermsView, KeepsPass, KeepsTerms, ReferToAll}
+use Rattle.term_model.proofs.Zips.{zip_weaken}
+use Rattle.term_pool.specs.Views.{TermsView, KeepsPass, KeepsTerms, RefersTo, ReferToAll}
 use Rattle.term_reader.specs.declared.flags.Flags.{Flags}
 use Rattle.proof_contexts.specs.OpenAnchors.{AreKept, IsAnchorImage}
 use Rattle.term_pool.specs.Placing.{LacksCellOf, PlacesCellsOf}
@@ -31,14 +32,12 @@ StandForOne = (s : Table) (v : TermsView) (refs : ProofItems ℕ ℕ) (p q : Pro
 pub some_stand : (s : Table) (v : TermsView) (refs : ProofItems ℕ ℕ) (x : OpenScopes) → AreKept s v refs x → StandForSome s v refs
 some_stand s v refs x h = record { proof = h.proof; stand = h.stand }
 
-refer_later : (s : Table) (v w : TermsView) → KeepsTerms v w → (rs : List ℕ) (ts : List Term) → ReferToAll s v rs ts → ReferToAll s w rs ts
-refer_later s v w keeps [] [] h = tt
-refer_later s v w keeps [] (t ∷ ts) h = absurd h
-refer_later s v w keeps (r ∷ rs) [] h = absurd h
-refer_later s v w keeps (r ∷ rs) (t ∷ ts) h = (
-  record { tree = h.0.tree; known = keeps.pass.grows r h.0.tree h.0.known; stands = h.0.stands },
-  refer_later s v w keeps rs ts h.1,
-)
+-- references stand for the same terms where each reference does
+pub refer_where : (s : Table) (v w : TermsView) → ((r : ℕ) (t : Term) → RefersTo s v r t → RefersTo s w r t) → (rs : List ℕ) (ts : List Term) → ReferToAll s v rs ts → ReferToAll s w rs ts
+refer_where s v w stay rs ts h = zip_weaken (RefersTo s v) (RefersTo s w) stay rs ts h
+
+pub refer_later : (s : Table) (v w : TermsView) → KeepsTerms v w → (rs : List ℕ) (ts : List Term) → ReferToAll s v rs ts → ReferToAll s w rs ts
+refer_later s v w keeps = refer_where s v w (λ r t h. record { tree = h.tree; known = keeps.pass.grows r h.tree h.known; stands = h.stands })
 
 module _ (stay : ProofsStay) (s : Table) (v w : TermsView) (keeps : KeepsTerms v w) (refs : ProofItems ℕ ℕ) where
   pub status_earlier : (flags : Flags) (asserted : List ℕ) (i : ℕ) (status : Status) → IsStatusOf flags s w asserted refs i status → IsStatusOf flags s v asserted refs i status

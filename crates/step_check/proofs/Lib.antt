@@ -5,3 +5,4 @@ pub mod ListLemmas
 pub mod Growing
 pub mod AheadLemmas
 pub mod RatioLemmas
+pub mod ChunkLemmas

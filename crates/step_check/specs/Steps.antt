@@ -18,8 +18,12 @@ use Rattle.rule_model.specs.Statuses.{kind_of_rule, IsAsserted, MayAssume, IsSta
 use Rattle.proof_store.specs.Meaning.{IsPivotOf, StandForItems}
 use Rattle.proof_store.specs.Ratios.{fractions}
 use Rattle.term_reader.specs.declared.flags.Flags.{Flags}
+use Rattle.flip_keys.specs.Assertions.{references_of, AreAssertionsReady}
+use Rattle.known_args.specs.Rows.{AreRight}
+use Rattle.proof_contexts.specs.OpenAnchors.{AreKept}
 use Rattle.step_check.specs.Statuses.{checking}
 use Rattle.step_check.specs.declared.families.Given.{Given}
+use Rattle.step_check.specs.declared.steps.Kept.{Kept}
 
 -- The step is what the one at an index of a proof looks at, by the proof over terms for which the references stand.
 abbrev pub IsStepAt : Mode → ProofItems ℕ ℕ → ℕ → Step → Type 0
@@ -65,3 +69,10 @@ abbrev pub IsStatusOfAnswer : Answer → Status → Type 0
 IsStatusOfAnswer Answer.Met status = status ≡ Status.Ok
 IsStatusOfAnswer Answer.NotMet status = status ≡ Status.Faulty StepCause.NotMet
 IsStatusOfAnswer Answer.TooWide status = status ≡ Status.Wide
+
+-- what is kept is right, where so much is known, for a proof and the references of assertions
+pub record IsKeptFor (s : Table) (v : TermsView) (rs : List ℕ) (refs : ProofItems ℕ ℕ) (kept : Kept) : Type 0 where
+  pub references : references_of kept.asserted ≡ rs
+  pub ready : AreAssertionsReady v kept.asserted
+  pub scopes : AreKept s v refs kept.scopes
+  pub arguments : AreRight v kept.rules.scratches.known

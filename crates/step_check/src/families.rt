@@ -66,7 +66,9 @@ pub(crate) fn judge(
         }
         Family::Congruence => rules_congruence::meets(alloc, symbols, terms, step),
         Family::Ite => rules_ite::meets(alloc, symbols, terms, step),
-        Family::Simplify => rules_simplify::meets(alloc, symbols, terms, step),
+        Family::Simplify => {
+            rules_simplify::meets(alloc, &mut scratches.known, symbols, terms, step)
+        }
         Family::Arith => {
             rules_arith::meets(
                 &mut scratches.arithmetic,

@@ -47,9 +47,10 @@ pub(crate) struct Subject<'a> {
     pub(crate) flags: Flags,
 }
 
-/// What a check keeps from step to step.
+/// What a worker keeps from step to step and from chunk to chunk: the scopes that are open, the assertions, arguments of terms,
+/// and lists.
 #[derive(Drop)]
-pub(crate) struct Kept<'a> {
+pub struct Kept<'a> {
     pub(crate) ahead: Ahead,
     pub(crate) rules: Rules<'a>,
     pub(crate) asserted: Assertions,

@@ -1,10 +1,10 @@
-use Rattle.std.proofs.Common.{◌∙◌, ap, length, refl, arith}
+use Rattle.std.proofs.Common.{◌≡◌, ◌+◌, ◌∙◌, ap, length, refl, sym, subst, arith}
 use Rattle.flip_keys.specs.Assertions.{references_of}
 use Rattle.term_pool.proofs.Keeping.{terms-refl, terms-trans}
 use Rattle.step_check.specs.Steps.{IsStatusOf}
 use Rattle.step_check.proofs.Growing.{some_stand, lacks_earlier, places_only_none, places_only_then, sorted_later, status_earlier}
 use Rattle.step_check.proofs.ListLemmas.{each_none, each_push, length_push}
-use Rattle.step_check.proofs.checking.add_all.Goals as goal
+use Rattle.step_check.proofs.checking.add_statuses.Goals as goal
 
 pub commands-init : goal.commands-init
 commands-init c = record {
@@ -14,7 +14,7 @@ commands-init c = record {
   ready = c.requires.ready;
   kept = c.requires.kept;
   right = c.requires.right;
-  long = ap length c.requires.none;
+  long = let none : length c.args.list.now.items ≡ 0 = ap length c.requires.none in omega (arith, none);
   each = each_none _ _ c.requires.none;
 }
 
@@ -49,20 +49,21 @@ commands-preserved c = record {
   ready = c.in-Ok.ensures.ready;
   kept = c.status_at.ensures.kept;
   right = c.status_at.ensures.right;
-  long = rw c.in_ok-add.ensures (length_push c.commands.list.items c.in-Ok.status c.commands.i c.commands.invariant.long);
+  long =
+      let before = c.commands.invariant.long in
+      let more = length_push c.commands.list.items c.in-Ok.status (length c.commands.list.items) refl in
+      rw c.in_ok-add.ensures (omega (arith, before, more));
   each = λ k status e.
-      each_push (IsStatusOf c.args.subject.now.flags c.args.subject.now.symbols.now c.args.terms.now (references_of c.args.kept.now.asserted) c.args.subject.now.proof.now)
-      c.commands.list.items c.in-Ok.status c.commands.i c.commands.invariant.long c.commands.invariant.each
+      each_push (λ j st. IsStatusOf c.args.subject.now.flags c.args.subject.now.symbols.now c.args.terms.now (references_of c.args.kept.now.asserted) c.args.subject.now.proof.now (c.args.first + j) st)
+      c.commands.list.items c.in-Ok.status (length c.commands.list.items) refl c.commands.invariant.each
+      (subst (λ j. IsStatusOf c.args.subject.now.flags c.args.subject.now.symbols.now c.args.terms.now (references_of c.args.kept.now.asserted) c.args.subject.now.proof.now j c.in-Ok.status) (sym c.commands.invariant.long)
       (status_earlier c.proofs_stay.ensures c.args.subject.now.symbols.now c.args.terms.now c.commands.terms c.commands.invariant.keeps c.args.subject.now.proof.now c.args.subject.now.flags (references_of c.args.kept.now.asserted) c.commands.i c.in-Ok.status
-      (rw c.commands.invariant.references at c.in-Ok.ensures.status))
+      (rw c.commands.invariant.references at c.in-Ok.ensures.status)))
       k status (rw c.in_ok-add.ensures at e);
 }
 
-pub returns-clause-statuses : goal.returns-clause-statuses
-returns-clause-statuses c of ts stand all = record {
-  count =
-      let same = c.commands_correspond.ensures.commands c.args.subject.now.symbols.now c.args.terms.now c.args.subject.now.proof.now of stand in
-      let long = c.commands.invariant.long in
-      omega (arith, same, long);
-  each = λ i status e. c.commands.invariant.each i status e of ts stand all;
-}
+pub returns-clause-count : goal.returns-clause-count
+returns-clause-count c = let long = c.commands.invariant.long in omega (arith, long)
+
+pub returns-clause-each : goal.returns-clause-each
+returns-clause-each c k status e = c.commands.invariant.each k status e
