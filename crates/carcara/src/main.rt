@@ -8,18 +8,29 @@ use carcara_cli::carcara;
 use file_ports::{OpenGate, RealFolder, RealSink};
 use std::alloc::AllocError;
 use std::process::ExitCode;
+use std::thread::Threads;
 use std::{env, io};
 
 #[cfg(test)]
 mod pool_tests;
 #[cfg(test)]
 mod resolution_tests;
+#[cfg(test)]
+mod worker_tests;
 
 /// The status of out of memory.
 const NO_MEMORY: u8 = 7;
 
+/// What the program is run on: the words of the command line, the real files and the standard output.
+#[derive(Drop)]
+struct Outside {
+    words: Vec<String>,
+    folder: RealFolder<HostRuntime>,
+    out: RealSink<HostRuntime>,
+}
+
 fn main(rt: HostRuntime) -> ExitCode {
-    ended(run(&rt))
+    ended(run(&rt, made_outside(&rt)))
 }
 
 /// How the program ends: with the status that the top call returned, or with that of out of memory where the top call was not
@@ -31,12 +42,29 @@ fn ended(found: Result<u8, AllocError>) -> ExitCode
     ExitCode::from(found.unwrap_or(NO_MEMORY))
 }
 
-/// Runs the top call on the words of the command line.
-fn run(rt: &HostRuntime) -> Result<u8, AllocError> {
+/// Runs the top call on what the program is run on.
+fn run<R: AllocGlobal + Threads + Sync>(
+    rt: &R,
+    outside: Result<Outside, AllocError>,
+) -> Result<u8, AllocError> {
+    let mut outside = outside?;
+    Ok(carcara(
+        rt,
+        &outside.words,
+        &mut outside.folder,
+        &mut outside.out,
+        &OpenGate,
+    ))
+}
+
+/// What the program is run on.
+fn made_outside(rt: &HostRuntime) -> Result<Outside, AllocError> {
     let words = words_of(rt)?;
-    let mut folder = RealFolder::new(rt.clone()?, rt.alloc());
-    let mut out = RealSink::new(rt.clone()?);
-    Ok(carcara(rt, &words, &mut folder, &mut out, &OpenGate))
+    Ok(Outside {
+        words,
+        folder: RealFolder::new(rt.clone()?, rt.alloc()),
+        out: RealSink::new(rt.clone()?),
+    })
 }
 
 /// The words of the command line without the program's name. Words that are not all UTF-8 are taken as none, so

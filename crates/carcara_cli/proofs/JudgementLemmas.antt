@@ -19,7 +19,8 @@ use Rattle.command_words.specs.declared.request.Options.{Options}
 use Rattle.command_words.specs.CommandLine.{Asked}
 use Rattle.carcara_cli.specs.Holes.{holes_from}
 use Rattle.carcara_cli.specs.Judgement.{IsCheckedAs, IsJudgement}
-use Rattle.carcara_cli.specs.Judging.{flags_of, Corresponds, IsJudgedProof, IsReadProof}
+use Rattle.carcara_cli.specs.Judging.{Corresponds, IsJudgedProof}
+use Rattle.carcara_cli.specs.Texts.{flags_of, IsReadProof}
 use Rattle.carcara_cli.specs.Printed.{status_of}
 use Rattle.carcara_cli.specs.TopCall.{most_bytes, IsTooLong, IsJudgedOfFiles, IsAnswerTo, IsShownUnsatisfiable, ShowsUnsatisfiable}
 use Rattle.carcara_cli.specs.Answering.{IsUnread}

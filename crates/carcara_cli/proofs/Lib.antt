@@ -2,6 +2,7 @@ pub mod JudgementLemmas
 pub mod HoleLemmas
 pub mod VerdictLemmas
 pub mod CellLemmas
+pub mod PoolLemmas
 pub mod CellSums
 pub mod TermsOfTexts
 pub mod ScopedTerms

@@ -17,7 +17,7 @@ use Rattle.rule_model.specs.Visibility.{open_bindings}
 use Rattle.problem_text.specs.Forms.{form_of}
 use Rattle.problem_text.specs.Names.{Bound, Place, itself}
 use Rattle.problem_text.specs.Scripts.{Script}
-use Rattle.problem_text.specs.Soundness.{IsReadWithin, IsSound, HasScopedTerms, IsScoped, AreThemselves, AreBoundSorted}
+use Rattle.problem_text.specs.Soundness.{IsReadWithin, IsSound, HasScopedTerms, IsScoped, AreThemselves}
 use Rattle.problem_text.specs.Terms.{read_term}
 use Rattle.problem_text.specs.TypedTerms.{Typed}
 use Rattle.problem_text.proofs.Readings.{term-sound}

@@ -11,6 +11,10 @@ use Rattle.rule_model.specs.Proofs.{ProofItems}
 use Rattle.rule_model.specs.Reading.{clause_at}
 use Rattle.rule_model.specs.Statuses.{ReachesEmpty, IsVerdict}
 use Rattle.rules_resolution.specs.Steps.{IsShort}
+use Rattle.rule_model.specs.Scopes.{commands_in}
+use Rattle.term_reader.specs.declared.flags.Flags.{Flags}
+use Rattle.step_check.specs.Chunks.{CanBeChecked}
+use Rattle.step_check.specs.Statuses.{AreStatusesOf}
 use Rattle.carcara_cli.specs.Answering.{NamesOneOf}
 use Rattle.carcara_cli.specs.Judging.{Corresponds}
 
@@ -56,6 +60,11 @@ module _ (s : Table) (v : TermsView) (refs : ProofItems ℕ ℕ) (proof : ProofI
     clauses = λ i. rw (← zip_length (RefersTo s v) (clause_at refs i) (clause_at proof i) (same.clauses i)) at (h.clauses i);
     premises = λ i. rw (← same.premises i) at (h.premises i);
   }
+
+-- there is a status for each command that is checked
+pub covers : (flags : Flags) (s : Table) (v : TermsView) (rs : List ℕ) (refs : ProofItems ℕ ℕ) (can : CanBeChecked s v rs refs) (statuses : List Status)
+    → commands_in refs ≡ commands_in can.proof → AreStatusesOf flags s v rs refs statuses → length statuses ≡ commands_in refs
+covers flags s v rs refs can statuses same are = (are can.proof can.asserted.assertions can.stand can.asserted.refer).count ∙ sym same
 
 -- a command that a verdict names is one of those with a status
 status_within : (statuses : List Status) (i : ℕ) (status : Status) → slice_get statuses i ≡ Some status → i < length statuses

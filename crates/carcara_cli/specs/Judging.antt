@@ -3,38 +3,17 @@ use Rattle.std.specs.Prelude.{◌≡◌, ℕ, List}
 use Rattle.std.specs.List.{AllZip}
 use Rattle.sym_table.specs.Table.{Table}
 use Rattle.term_model.specs.Terms.{Var, Term}
-use Rattle.term_pool.specs.Views.{TermsView, RefersTo, ReferToAll}
+use Rattle.term_pool.specs.Views.{TermsView, RefersTo}
 use Rattle.rule_model.specs.declared.statuses.Status.{Status}
 use Rattle.rule_model.specs.declared.statuses.Verdict.{Verdict}
 use Rattle.rule_model.specs.Proofs.{ProofItems}
 use Rattle.rule_model.specs.Reading.{id_at, rule_name_at, clause_at, premises_at, scope_at}
 use Rattle.rule_model.specs.Scopes.{commands_in}
 use Rattle.rule_model.specs.Statuses.{IsVerdict}
-use Rattle.problem_text.specs.Problems.{StandsForProblem}
-use Rattle.problem_text.specs.Scripts.{Script}
-use Rattle.alethe_reader.specs.Reading.{IsProofOf}
 use Rattle.term_reader.specs.declared.flags.Flags.{Flags}
-use Rattle.command_words.specs.declared.request.Options.{Options}
 use Rattle.step_check.specs.Statuses.{AreStatusesOf}
 use Rattle.carcara_cli.specs.declared.judgement.Judgement.{Judgement}
 use Rattle.carcara_cli.specs.Answering.{NamesIds}
-use Rattle.carcara_cli.specs.Reading.{settings_of}
-
--- the flags by which the code reads and checks
-abbrev pub flags_of : Options → Flags
-flags_of options = record {
-  expand_lets = options.replaces_lets;
-  strict = options.is_strict;
-  ignore_unknown = options.ignores_unknown_rules;
-}
-
--- what was read of the two texts, in a table and a pool: the references of the assertions, and the proof over references
-pub record IsReadProof (problem : List ℕ) (options : Options) (text : List ℕ) (s : Table) (v : TermsView) (asserted : List ℕ) (refs : ProofItems ℕ ℕ)
-    : Type 0 where
-  pub script : Script
-  pub problem_text : StandsForProblem problem options.replaces_lets script
-  pub assertions : ReferToAll s v asserted script.assertions
-  pub read : IsProofOf text (settings_of options) script s v refs
 
 -- the two have the same commands
 pub record Corresponds (s : Table) (v : TermsView) (refs : ProofItems ℕ ℕ) (proof : ProofItems Var Term) : Type 0 where

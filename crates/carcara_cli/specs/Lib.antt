@@ -7,5 +7,6 @@ pub mod Printed
 pub mod TopCall
 pub mod Exactness
 pub mod Pools
+pub mod Texts
 pub mod Answering
 pub mod Judging

@@ -1,10 +1,12 @@
 //! Pools that are large enough for the terms of the two texts.
-ghost use Rattle.std.specs.Prelude.{◌≡◌, ◌≤◌, ◌^◌};
-ghost use Rattle.pair_pool.specs.Views.{IsOneToOne, HasListsInOrder};
+ghost use Rattle.std.specs.Prelude.{◌≡◌, ◌<◌, ◌≤◌, ◌^◌, OnOk};
+ghost use Rattle.pair_pool.specs.Views.{IsForMany, IsOneToOne, IsPassOf, HasListsInOrder};
 ghost use Rattle.sym_table.specs.Table.{IsTable};
 ghost use Rattle.carcara_cli.specs.Pools.{IsPoolSize};
 
 use crate::judgement::Judgement;
+use pair_pool::{Memory, Pass, Pool};
+use std::alloc::Global;
 use sym_table::Symbols;
 use term_pool::Terms;
 
@@ -30,15 +32,32 @@ pub fn pool_bits(bytes: usize, most_bits: u32) -> u32
 }
 
 /// Texts whose terms had no room in their pool.
-pub fn pool_full(symbols: &Symbols, terms: Terms<'_>) -> Judgement
+pub fn pool_full(symbols: &Symbols, terms: &Terms<'_>) -> Judgement
     ensures full { result ≡ Judgement.PoolFull }
     ensures table { IsTable symbols.now }
-    ensures one_reference { IsOneToOne terms.entry.pass }
-    ensures in_order { HasListsInOrder terms.entry.pass }
+    ensures one_reference { IsOneToOne terms.now.pass }
+    ensures in_order { HasListsInOrder terms.now.pass }
 {
     symbols.leaves_differ();
-    let pass = terms.into_pass();
-    pass.one_to_one();
-    pass.lists_in_order();
+    terms.one_to_one();
+    terms.terms_at();
     Judgement::PoolFull
+}
+
+/// Lets so many workers share a pool, where there is more than one.
+pub fn share_among(
+    alloc: Global,
+    workers: u32,
+    pool: &mut Pool,
+    pass: &mut Pass,
+) -> Result<(), Memory>
+    requires { IsPassOf pool.old pass.old }
+    ensures of_pool { OnOk result (IsPassOf pool.new pass.new) }
+    ensures view { OnOk result (pass.new.view ≡ pass.old.view) }
+    ensures for_many { OnOk result (1 < workers → IsForMany pool.new) }
+{
+    if workers > 1 {
+        pool.share(alloc, pass)?;
+    }
+    Ok(())
 }

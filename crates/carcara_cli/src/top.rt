@@ -10,13 +10,14 @@ ghost use Rattle.carcara_cli.specs.Answering.{IsUnread};
 ghost use Rattle.carcara_cli.specs.Exactness.{IsExact};
 
 use crate::answer::{Answer, status_of, text_of};
-use crate::judging::judge;
+use crate::judging::{Workers, judge};
 use crate::laws::{valid_proofs_are_sound, words_and_files_define_one_answer};
 use crate::pools::{LEAST_BITS, MOST_BITS};
 use command_words::{Request, asked_of};
 use file_ports::{Folder, Gate, OutStop, ReadStop, Sink, read_whole, write_whole};
 use pair_pool::Memory;
 use std::alloc::Global;
+use std::thread::Threads;
 
 /// The bytes of the two files.
 #[derive(Drop)]
@@ -57,10 +58,12 @@ fn unread(stop: ReadStop) -> Result<Answer, Memory>
 }
 
 /// The answer to the words of the command line, over the files of a folder, with pools of at most so many bits.
-fn answer_to<F: Folder>(
+fn answer_to<R: Threads + Sync, F: Folder, G: Gate>(
+    rt: &R,
     alloc: Global,
     words: &[String],
     folder: &mut F,
+    gate: &G,
     most_bits: u32,
 ) -> Result<Answer, Memory>
     requires paths { MayAskBoth (F.may_ask folder.old) (asked_of (map string_bytes words.now)) }
@@ -75,7 +78,13 @@ fn answer_to<F: Folder>(
         Ok(files) => files,
         Err(stop) => return unread(stop),
     };
+    let workers = Workers {
+        rt,
+        gate,
+        count: asked.workers,
+    };
     let judgement = judge(
+        &workers,
         alloc,
         &files.problem,
         asked.options,
@@ -105,7 +114,10 @@ fn report<S: Sink>(alloc: Global, answer: &Answer, out: &mut S) -> u8
 /// returns the status with which the program ends.
 ///
 /// `words` are those of the command line without the program's name: `check`, and behind it the paths of the proof and
-/// of the problem, with `--expand-let-bindings`, `--ignore-unknown-rules` and `--strict` in any place; a `--` ends the options.
+/// of the problem, with `--expand-let-bindings`, `--ignore-unknown-rules`, `--strict` and `--num-threads N` in any place; a `--`
+/// ends the options. N workers, 1 to 64, check the proof, and one where it is not said; for each number the answer is the same, but
+/// for statuses 5 to 8.
+/// Each chunk of 64 commands is checked behind the gate.
 /// With `--strict` each step has to meet the strict condition of its rule, and an outermost assume has to be an assertion as it
 /// stands.
 ///
@@ -116,7 +128,7 @@ fn report<S: Sink>(alloc: Global, answer: &Answer, out: &mut S) -> u8
 /// The first that answers decides, in this order: the words, the problem's file, the proof's file, the problem's text,
 /// the proof's text, the verdict. Nothing is written before the answer is known. Where it can't be written whole, the
 /// status is 6, or 7 for out of memory, and what was written is a prefix of its text.
-pub fn carcara<R: AllocGlobal, F: Folder, S: Sink, G: Gate>(
+pub fn carcara<R: AllocGlobal + Threads + Sync, F: Folder, S: Sink, G: Gate>(
     rt: &R,
     words: &[String],
     folder: &mut F,
@@ -144,12 +156,12 @@ pub fn carcara<R: AllocGlobal, F: Folder, S: Sink, G: Gate>(
 
 /// As `carcara`, with pools of at most 2^most_bits places, 12 to 26 bits: status 8 is of texts whose terms have more cells than
 /// that.
-pub fn carcara_within<R: AllocGlobal, F: Folder, S: Sink, G: Gate>(
+pub fn carcara_within<R: AllocGlobal + Threads + Sync, F: Folder, S: Sink, G: Gate>(
     rt: &R,
     words: &[String],
     folder: &mut F,
     out: &mut S,
-    _gate: &G,
+    gate: &G,
     most_bits: u32,
 ) -> u8
     requires paths { MayAskBoth (F.may_ask folder.old) (asked_of (map string_bytes words.now)) }
@@ -165,7 +177,7 @@ pub fn carcara_within<R: AllocGlobal, F: Folder, S: Sink, G: Gate>(
 {
     valid_proofs_are_sound();
     words_and_files_define_one_answer();
-    match answer_to(rt.alloc(), words, folder, most_bits) {
+    match answer_to(rt, rt.alloc(), words, folder, gate, most_bits) {
         Ok(answer) => report(rt.alloc(), &answer, out),
         Err(Memory) => 7,
     }

@@ -6,6 +6,7 @@ use crate::case::{Answer, Call};
 use carcara_cli::carcara;
 use file_ports::{MemoryFolder, MemorySink, OpenGate};
 use std::alloc::{AllocError, Global};
+use std::thread::Threads;
 
 // A short file is read in many pieces, so that its reading is tried too, and a long one in as few as may be.
 const SHORT_BYTES: usize = 65_536;
@@ -16,7 +17,7 @@ const WRITE_PIECE: usize = 16;
 
 /// The answer to the words, where the files at the paths `PROBLEM` and `PROOF` have these bytes.
 pub fn answer(
-    rt: &impl AllocGlobal,
+    rt: &(impl AllocGlobal + Threads + Sync),
     call: Call,
     problem: Option<Vec<u8>>,
     proof: Option<Vec<u8>>,
@@ -40,7 +41,7 @@ pub fn answer(
 
 // The answer to the words, over a folder and an output.
 fn answer_over(
-    rt: &impl AllocGlobal,
+    rt: &(impl AllocGlobal + Threads + Sync),
     words: &[String],
     folder: &mut MemoryFolder,
     out: &mut MemorySink,

@@ -6,6 +6,7 @@ use crate::reading::reading;
 use anyhow::{Context, Result};
 use std::fs;
 use std::rt::Files;
+use std::thread::Threads;
 
 /// How many cases there are, and how many of them pass.
 #[derive(Clone, Copy, Debug, PartialEq, Eq)]
@@ -24,7 +25,7 @@ impl Count {
 }
 
 /// Runs the cases of a file, and prints those that differ, and then how many pass.
-pub fn run(rt: &(impl Files + Print + AllocGlobal), path: &str) -> Result<Count> {
+pub fn run(rt: &(impl Files + Print + AllocGlobal + Threads + Sync), path: &str) -> Result<Count> {
     let text = fs::read_to_string(rt, path).context(format_args!("{path}"))?;
     let mut reader = Reader::new(rt.alloc());
     let counted = run_cases(rt, path, &text, &mut reader);
@@ -40,7 +41,7 @@ pub fn run(rt: &(impl Files + Print + AllocGlobal), path: &str) -> Result<Count>
 
 /// Runs the cases of a text, and prints those that differ.
 fn run_cases(
-    rt: &(impl Print + AllocGlobal),
+    rt: &(impl Print + AllocGlobal + Threads + Sync),
     path: &str,
     text: &str,
     reader: &mut Reader,
@@ -60,7 +61,7 @@ fn run_cases(
 
 /// Runs the case that ended, where one did, and counts it.
 fn run_ended(
-    rt: &(impl Print + AllocGlobal),
+    rt: &(impl Print + AllocGlobal + Threads + Sync),
     ended: Option<Case>,
     count: &mut Count,
 ) -> Result<()> {
@@ -73,7 +74,7 @@ fn run_ended(
 }
 
 /// Whether a case comes to what it wants. Where it doesn't, both are printed. What the call takes is taken out of the case.
-fn passes(rt: &(impl Print + AllocGlobal), case: &mut Case) -> Result<bool> {
+fn passes(rt: &(impl Print + AllocGlobal + Threads + Sync), case: &mut Case) -> Result<bool> {
     let reads = reads(rt, case)?;
     let answers = answers(rt, case)?;
     Ok(reads && answers)
@@ -93,7 +94,7 @@ fn reads(rt: &(impl Print + AllocGlobal), case: &Case) -> Result<bool> {
     Ok(false)
 }
 
-fn answers(rt: &(impl Print + AllocGlobal), case: &mut Case) -> Result<bool> {
+fn answers(rt: &(impl Print + AllocGlobal + Threads + Sync), case: &mut Case) -> Result<bool> {
     let Some(Called { call, wanted }) = case.called.take() else {
         return Ok(true);
     };

@@ -20,6 +20,8 @@ mod reading;
 
 use anyhow::{Result, ensure};
 use std::env;
+use std::rt::Files;
+use std::thread::Threads;
 
 fn main(rt: HostRuntime) -> Result<()> {
     let paths: Vec<String> = env::args(&rt)?.skip(1).collect(rt.alloc())?;
@@ -28,7 +30,7 @@ fn main(rt: HostRuntime) -> Result<()> {
 
 // Runs the cases of all files. The paths are borrowed here: each way out of a function that owns them would be a proof of
 // letting them go.
-fn run(rt: &HostRuntime, paths: &[String]) -> Result<()> {
+fn run(rt: &(impl Files + Print + AllocGlobal + Threads + Sync), paths: &[String]) -> Result<()> {
     let mut passed: usize = 0;
     let mut all: usize = 0;
     for path in paths {
