@@ -1,2 +1,5 @@
+mod GivenNames
+mod Pieces
 mod TermCells
+mod SingleTasks
 mod Turns

@@ -1,80 +1,33 @@
 -- What is printed of a cell, by what its parts are known to be.
-use Rattle.std.proofs.Common.{◌≡◌, ℕ, ◌<◌, ◌≤◌, ◌^◌, pos, Bool, true, false, Some, List, [], ◌∷◌, ◌++◌, refl, sym, ap, ◌∙◌, subst, arith, codes}
-use Rattle.std.proofs.lemmas.List.{append-nil, append_assoc}
-use Rattle.std.proofs.lemmas.Bool.Decides.{nat_tests}
-use Rattle.std.proofs.lemmas.Option.{slice_get_within}
-use Rattle.std.specs.Prelude.{decimal, IsTrue, nat_lt, IsSomeAnd, length}
-use Rattle.sexpr.specs.Printing.{is_plain_symbol, printed_symbol}
+use Rattle.std.proofs.Common.{◌≡◌, ℕ, ◌<◌, ◌≤◌, ◌^◌, pos, true, false, Some, None, List, [], ◌∷◌, ◌++◌, refl, sym, ap, ◌∙◌, subst, arith, codes}
+use Rattle.std.proofs.lemmas.List.{append-nil}
+use Rattle.std.specs.Prelude.{decimal}
+use Rattle.sexpr.specs.Printing.{printed_symbol}
 use Rattle.sexpr.specs.Printed.{symbol_item, printed}
 use Rattle.pair_pool.specs.Trees.{Tree, leaf, cell}
 use Rattle.pair_pool.specs.Views.{Knows, IsOneToOne, HasPartsOfTrees}
 use Rattle.sym_table.specs.Leaf.{Leaf, operator, name_of}
-use Rattle.sym_table.specs.Table.{Table, IsLeaf, LeafMeets}
-use Rattle.sym_table.specs.Words.{operator_symbol}
+use Rattle.sym_table.specs.Table.{Table, IsLeaf}
 use Rattle.term_model.specs.Terms.{Var, Term, numeral, variable, operation, call, let_in, Terms, no_terms, term, Bindings, no_bindings, binding}
 use Rattle.term_pool.specs.StandsFor.{variable_leaf, function_leaf, IsLeafOf, StandsFor, StandsForList, StandsForBindings}
 use Rattle.term_pool.specs.Views.{TermsView, RefersTo, IsKnownCell}
 use Rattle.problem_text.specs.Scripts.{Script, with_term, with_let_name}
-use Rattle.printed_proofs.specs.Parts.{Part, whole, arguments, pairs, body, close, bracket, IsApplied, GoesOn}
-use Rattle.printed_proofs.proofs.PartByPart.{operation_applied, call_applied, unnamed, alone, numeral_whole, variable_whole, let_whole}
-use Rattle.printed_proofs.proofs.PartByPart.{arguments_end, arguments_next, pairs_end, pairs_next, body_next}
-use Rattle.term_printer.specs.Pages.{leaf_text, IsListOf, ArePairsOf, IsTask, BeginsLet, PerformsIn, Performs}
+use Rattle.printed_proofs.specs.Parts.{Part, whole, arguments, pairs, body, close, bracket, naming, IsApplied, GoesOn}
+use Rattle.printed_proofs.specs.Shared.{Plan}
+use Rattle.printed_proofs.proofs.PartByPart.{operation_applied, call_applied, unnamed, first_named, named_again, alone, numeral_whole, variable_whole, let_whole}
+use Rattle.printed_proofs.proofs.PartByPart.{arguments_end, arguments_next, pairs_end, pairs_next}
+use Rattle.term_printer.specs.Names.{name_numbered, entry_at, AreGiven}
+use Rattle.term_printer.specs.Pages.{leaf_text, IsListOf, ArePairsOf, BeginsLet, PerformsIn, Performs}
+use Rattle.term_printer.specs.declared.names.Entry.{Entry}
 use Rattle.term_printer.specs.declared.page.Page.{Page}
 use Rattle.term_printer.specs.declared.page.Task.{Task}
+use Rattle.term_printer.proofs.GivenNames.{unplanned, planned_as}
+use Rattle.term_printer.proofs.Pieces.{few_for_pair, symbol_same}
 
 -- a leaf that stands for something
 pub record HasLeaf (s : Table) (k : ℕ) : Type 0 where
   pub stands_for : Leaf
   pub is : IsLeaf s k stands_for
-
--- what the test of a reference says
-pub is_low : (b : Bool) (r n : ℕ) → b ≡ true → (IsTrue b → r < n) → r < n
-is_low b r n e h = h e
-
-pub is_high : (b : Bool) (r n : ℕ) → b ≡ false → (r < n → IsTrue b) → n ≤ r
-is_high b r n e h = go (nat_lt r n) refl
-  where
-    go : (test : Bool) → nat_lt r n ≡ test → n ≤ r
-    go true l = absurd (let low : r < n = grind (arith, nat_tests) in let f : b ≡ true = h low in let g : true ≡ false = sym f ∙ e in cc)
-    go false l = grind (arith, nat_tests)
-
--- tasks one after another
-pub two_more : (old first second new : List Task) (a b : Task) → first ≡ old ++ a ∷ [] → second ≡ first ++ b ∷ [] → new ≡ second
-    → new ≡ old ++ (a ∷ b ∷ [])
-two_more old first second new a b e f g = g ∙ (f ∙ (ap (λ ts. ts ++ b ∷ []) e ∙ append_assoc old (a ∷ []) (b ∷ [])))
-
-pub three_more : (old first second third new : List Task) (a b c : Task) → first ≡ old ++ a ∷ [] → second ≡ first ++ b ∷ []
-    → third ≡ second ++ c ∷ [] → new ≡ third → new ≡ old ++ (a ∷ b ∷ c ∷ [])
-three_more old first second third new a b c e f g h =
-    h ∙ (g ∙ (ap (λ ts. ts ++ c ∷ []) (two_more old first second second a b e f refl) ∙ append_assoc old (a ∷ b ∷ []) (c ∷ [])))
-
--- what is so of the leaf
-pub of_leaf : (s : Table) (k : ℕ) (l : Leaf) (P : Leaf → Type 0) → LeafMeets s k P → IsLeaf s k l → P l
-of_leaf s k l P meets is = subst (λ o. IsSomeAnd o P) is meets
-
-pub leaf_within : (s : Table) (k : ℕ) (l : Leaf) → IsLeaf s k l → k < length s.leaves
-leaf_within s k l is = slice_get_within s.leaves k l is
-
--- bytes one after another
-pub four_pieces : (old a b c d : List ℕ) → (((old ++ a) ++ b) ++ c) ++ d ≡ old ++ (a ++ (b ++ (c ++ d)))
-four_pieces old a b c d = simp append_assoc
-
-pub pair_text : (o a b c d before name : List ℕ) → a ≡ o ++ before → b ≡ a ++ (40 ∷ []) → c ≡ b ++ name → d ≡ c ++ (32 ∷ [])
-    → d ≡ o ++ (before ++ (40 ∷ (name ++ (32 ∷ []))))
-pair_text o a b c d before name e f g h =
-    h
-    ∙ (ap (λ x. x ++ (32 ∷ [])) (g ∙ ap (λ x. x ++ name) (f ∙ ap (λ x. x ++ (40 ∷ [])) e))
-    ∙ four_pieces o before (40 ∷ []) name (32 ∷ []))
-
-pub two_pieces : (o a b name : List ℕ) → a ≡ o ++ (40 ∷ []) → b ≡ a ++ name → b ≡ o ++ (40 ∷ name)
-two_pieces o a b name e f = f ∙ (ap (λ x. x ++ name) e ∙ append_assoc o (40 ∷ []) name)
-
-pub symbol_same : (name : List ℕ) → printed (symbol_item name) ≡ printed_symbol name
-symbol_same name = go (is_plain_symbol name) refl
-  where
-    go : (b : Bool) → is_plain_symbol name ≡ b → printed (symbol_item name) ≡ printed_symbol name
-    go true e = rw e refl
-    go false e = rw e refl
 
 module _ (v : TermsView) (one : IsOneToOne v.pass) (parts : HasPartsOfTrees v.pass) where
   -- a reference below 2^30 is a leaf, and any other a cell
@@ -101,42 +54,49 @@ module _ (v : TermsView) (one : IsOneToOne v.pass) (parts : HasPartsOfTrees v.pa
       record { first = c.first; second = c.second; stands = subst (λ x. Knows v.pass r x) c.is known }
 
   -- a leaf, printed
-  module _ (s : Table) (old new : Page) (r : ℕ) (low : r < 2 ^ 30)
-      (text : (l : Leaf) → IsLeaf s r l → new.text.items ≡ old.text.items ++ leaf_text l) (same : new.tasks.items ≡ old.tasks.items) where
-    begun : (t : Term) (bytes : List ℕ) (behind : Script → Script) → new.text.items ≡ old.text.items ++ bytes
-        → ((u : Script) (ps : List Part) → GoesOn [] u (whole t ∷ ps) bytes (behind u) ps) → Performs s v old new (whole t)
-    begun t bytes behind printed_so goes u = record {
+  module _ (plan : Plan) (s : Table) (old new : Page) (r : ℕ) (low : r < 2 ^ 30)
+      (text : (l : Leaf) → IsLeaf s r l → new.text.items ≡ old.text.items ++ leaf_text l) (same : new.tasks.items ≡ old.tasks.items)
+      (names : new.names ≡ old.names) where
+    begun : (t : Term) (bytes : List ℕ) → new.text.items ≡ old.text.items ++ bytes
+        → ((u : Script) → AreGiven plan s v old.names u.taken → (ps : List Part) → GoesOn plan u (whole t ∷ ps) bytes (with_term t u) ps)
+        → Performs plan s v old new (whole t)
+    begun t bytes printed_so goes u g = record {
       bytes = bytes;
-      behind = behind u;
+      behind = with_term t u;
       tasks = [];
       parts = [];
       text = printed_so;
       left = same ∙ sym (append-nil old.tasks.items);
       are = tt;
-      goes_on = goes u;
+      few = omega arith;
+      given = subst (λ n. AreGiven plan s v n u.taken) (sym names) g;
+      goes_on = goes u g;
     }
 
     symbol_text : (l : Leaf) → IsLeaf s r l → leaf_text l ≡ printed_symbol (name_of l) → new.text.items ≡ old.text.items ++ printed (symbol_item (name_of l))
     symbol_text l is e = text l is ∙ ap (λ b. old.text.items ++ b) (e ∙ sym (symbol_same (name_of l)))
 
-    leaf_stands : (t : Term) → StandsFor s (leaf r) t → Performs s v old new (whole t)
-    leaf_stands (numeral n) is =
-        begun (numeral n) (decimal n) (with_term (numeral n)) (text (Leaf.numeral (pos n)) is) (λ u ps. numeral_whole [] u ps n)
-    leaf_stands (variable x) is =
-        begun (variable x) (printed (symbol_item x.name)) (with_term (variable x)) (symbol_text (variable_leaf x) is refl)
-        (λ u ps. variable_whole [] u ps x)
-    leaf_stands (operation op no_terms) is =
-        begun (operation op no_terms) (printed (symbol_item (operator_symbol op))) (with_term (operation op no_terms))
-        (symbol_text (operator op) is refl) (λ u ps. alone [] u ps (operation op no_terms) (operator_symbol op) (operation_applied op no_terms) refl)
-    leaf_stands (operation op (term a ts)) is = absurd is
-    leaf_stands (call f no_terms) is =
-        begun (call f no_terms) (printed (symbol_item f.name)) (with_term (call f no_terms)) (symbol_text (function_leaf f) is refl)
-        (λ u ps. alone [] u ps (call f no_terms) f.name (call_applied f no_terms) refl)
-    leaf_stands (call f (term a ts)) is = absurd is
-    leaf_stands (let_in bs t) is = absurd is
+    -- an application of a symbol to nothing
+    symbol_alone : (t : Term) (l : Leaf) → RefersTo s v r t → IsApplied t (name_of l) no_terms → IsLeaf s r l → leaf_text l ≡ printed_symbol (name_of l)
+        → Performs plan s v old new (whole t)
+    symbol_alone t l refers applied is e =
+        begun t (printed (symbol_item (name_of l))) (symbol_text l is e)
+        (λ u g ps. alone plan u ps t (name_of l) applied (unplanned plan s v old.names u.taken g r t refers (g.cells r low)))
 
-    pub leaf_performs : (t : Term) → RefersTo s v r t → Performs s v old new (whole t)
-    leaf_performs t h = leaf_stands t (subst (λ x. StandsFor s x t) (leaf_tree r h.tree h.known low) h.stands)
+    leaf_stands : (t : Term) → RefersTo s v r t → StandsFor s (leaf r) t → Performs plan s v old new (whole t)
+    leaf_stands (numeral n) refers is =
+        begun (numeral n) (decimal n) (text (Leaf.numeral (pos n)) is) (λ u g ps. numeral_whole plan u ps n)
+    leaf_stands (variable x) refers is =
+        begun (variable x) (printed (symbol_item x.name)) (symbol_text (variable_leaf x) is refl) (λ u g ps. variable_whole plan u ps x)
+    leaf_stands (operation op no_terms) refers is =
+        symbol_alone (operation op no_terms) (operator op) refers (operation_applied op no_terms) is refl
+    leaf_stands (operation op (term a ts)) refers is = absurd is
+    leaf_stands (call f no_terms) refers is = symbol_alone (call f no_terms) (function_leaf f) refers (call_applied f no_terms) is refl
+    leaf_stands (call f (term a ts)) refers is = absurd is
+    leaf_stands (let_in bs t) refers is = absurd is
+
+    pub leaf_performs : (t : Term) → RefersTo s v r t → Performs plan s v old new (whole t)
+    leaf_performs t h = leaf_stands t h (subst (λ x. StandsFor s x t) (leaf_tree r h.tree h.known low) h.stands)
 
   -- a leaf that a term is has a symbol
   leaf_there : (s : Table) (r : ℕ) (t : Term) → StandsFor s (leaf r) t → HasLeaf s r
@@ -198,19 +158,69 @@ module _ (v : TermsView) (one : IsOneToOne v.pass) (parts : HasPartsOfTrees v.pa
       application_at s head rest c.first c.second t (first c.first c.second known) (second c.first c.second known) no_let
       (subst (λ x. StandsFor s x t) c.is h.stands)
 
-  pub application_performs : (s : Table) (old new : Page) (head rest : ℕ) (t : Term) → IsApplicationAt s head rest t
-      → ((l : Leaf) → IsLeaf s head l → new.text.items ≡ old.text.items ++ (40 ∷ printed_symbol (name_of l)))
-      → new.tasks.items ≡ old.tasks.items ++ (Task.Close ∷ Task.Arguments rest ∷ []) → Performs s v old new (whole t)
-  application_performs s old new head rest t a text left u = record {
-    bytes = 40 ∷ printed (symbol_item (name_of a.symbol));
-    behind = u;
-    tasks = Task.Close ∷ Task.Arguments rest ∷ [];
-    parts = close t ∷ arguments (term a.first a.others) ∷ [];
-    text = text a.symbol a.leaf_is ∙ ap (λ b. old.text.items ++ (40 ∷ b)) (sym (symbol_same (name_of a.symbol)));
-    left = left;
-    are = (tt, (a.list, tt));
-    goes_on = λ ps. unnamed [] u ps t (name_of a.symbol) a.first a.others a.applied refl;
-  }
+  -- an application without a name, one that is given its name behind it, and one whose name is given
+  module _ (plan : Plan) (s : Table) (old new : Page) (r head rest : ℕ) (t : Term) (a : IsApplicationAt s head rest t) (refers : RefersTo s v r t)
+    where
+      abbrev head_text : List ℕ
+      head_text = printed (symbol_item (name_of a.symbol))
+
+      same_head : (before : List ℕ) → ((l : Leaf) → IsLeaf s head l → new.text.items ≡ old.text.items ++ (before ++ (40 ∷ printed_symbol (name_of l))))
+          → new.text.items ≡ old.text.items ++ (before ++ (40 ∷ head_text))
+      same_head before text =
+          text a.symbol a.leaf_is ∙ ap (λ b. old.text.items ++ (before ++ (40 ∷ b))) (sym (symbol_same (name_of a.symbol)))
+
+      pub application_performs : entry_at old.names r ≡ None
+          → ((l : Leaf) → IsLeaf s head l → new.text.items ≡ old.text.items ++ (40 ∷ printed_symbol (name_of l)))
+          → new.tasks.items ≡ old.tasks.items ++ (Task.Close ∷ Task.Arguments rest ∷ []) → new.names ≡ old.names → Performs plan s v old new (whole t)
+      application_performs none text left names u g = record {
+        bytes = 40 ∷ head_text;
+        behind = u;
+        tasks = Task.Close ∷ Task.Arguments rest ∷ [];
+        parts = close t ∷ arguments (term a.first a.others) ∷ [];
+        text = same_head [] text;
+        left = left;
+        are = (tt, (a.list, tt));
+        few = omega arith;
+        given = subst (λ n. AreGiven plan s v n u.taken) (sym names) g;
+        goes_on = λ ps. unnamed plan u ps t (name_of a.symbol) a.first a.others a.applied (unplanned plan s v old.names u.taken g r t refers none);
+      }
+
+      pub first_performs : (e : Entry) → entry_at old.names r ≡ Some e → e.is_given ≡ false
+          → ((l : Leaf) → IsLeaf s head l → new.text.items ≡ old.text.items ++ (codes "(! " ++ (40 ∷ printed_symbol (name_of l))))
+          → new.tasks.items ≡ old.tasks.items ++ (Task.Naming r ∷ Task.Close ∷ Task.Arguments rest ∷ []) → new.names ≡ old.names
+          → Performs plan s v old new (whole t)
+      first_performs e some not_given text left names u g =
+          let p = planned_as plan s v old.names u.taken g r t e refers some in
+          record {
+            bytes = codes "(! " ++ (40 ∷ head_text);
+            behind = u;
+            tasks = Task.Naming r ∷ Task.Close ∷ Task.Arguments rest ∷ [];
+            parts = naming p.named ∷ close t ∷ arguments (term a.first a.others) ∷ [];
+            text = same_head (codes "(! ") text;
+            left = left;
+            are = (record { means = t; refers = refers; is = p.is }, (tt, (a.list, tt)));
+            few = omega arith;
+            given = subst (λ n. AreGiven plan s v n u.taken) (sym names) g;
+            goes_on = λ ps. first_named plan u ps t (name_of a.symbol) a.first a.others p.named a.applied p.is (p.given ∙ not_given);
+          }
+
+      pub again_performs : (e : Entry) → entry_at old.names r ≡ Some e → e.is_given ≡ true
+          → new.text.items ≡ old.text.items ++ printed_symbol (name_numbered e.number) → new.tasks.items ≡ old.tasks.items → new.names ≡ old.names
+          → Performs plan s v old new (whole t)
+      again_performs e some is_given text same names u g =
+          let p = planned_as plan s v old.names u.taken g r t e refers some in
+          record {
+            bytes = printed (symbol_item p.named.name);
+            behind = with_term t u;
+            tasks = [];
+            parts = [];
+            text = text ∙ ap (λ b. old.text.items ++ b) (sym (symbol_same p.named.name ∙ ap printed_symbol p.name));
+            left = same ∙ sym (append-nil old.tasks.items);
+            are = tt;
+            few = omega arith;
+            given = subst (λ n. AreGiven plan s v n u.taken) (sym names) g;
+            goes_on = λ ps. named_again plan u ps t (name_of a.symbol) (term a.first a.others) p.named a.applied p.is (p.given ∙ is_given);
+          }
 
   -- a cell whose head is a let
   pub record IsLetAt (s : Table) (rest : ℕ) (t : Term) : Type 0 where
@@ -256,12 +266,13 @@ module _ (v : TermsView) (one : IsOneToOne v.pass) (parts : HasPartsOfTrees v.pa
       let_at s head rest c.first c.second t (first c.first c.second known) (second c.first c.second known) is_let there
       (subst (λ x. StandsFor s x t) c.is h.stands)
 
-  pub let_performs : (s : Table) (old new : Page) (rest list of_body : ℕ) (t : Term) → IsLetAt s rest t
+  pub let_performs : (plan : Plan) (s : Table) (old new : Page) (rest list of_body : ℕ) (t : Term) → IsLetAt s rest t
       → ((a b : Tree) → Knows v.pass rest (cell a b) → Knows v.pass list a) → ((a b : Tree) → Knows v.pass rest (cell a b) → Knows v.pass of_body b)
       → new.text.items ≡ old.text.items ++ codes "(let ("
-      → new.tasks.items ≡ old.tasks.items ++ (Task.Close ∷ Task.Body of_body ∷ Task.FirstBindings list ∷ []) → Performs s v old new (whole t)
-  let_performs s old new rest list of_body t h first second text left u =
-      subst (λ x. PerformsIn s v old new (whole x) u) (sym h.is) (record {
+      → new.tasks.items ≡ old.tasks.items ++ (Task.Close ∷ Task.Body of_body ∷ Task.FirstBindings list ∷ []) → new.names ≡ old.names
+      → Performs plan s v old new (whole t)
+  let_performs plan s old new rest list of_body t h first second text left names u g =
+      subst (λ x. PerformsIn plan s v old new (whole x) u) (sym h.is) (record {
         bytes = codes "(let (";
         behind = u;
         tasks = Task.Close ∷ Task.Body of_body ∷ Task.FirstBindings list ∷ [];
@@ -275,16 +286,18 @@ module _ (v : TermsView) (one : IsOneToOne v.pass) (parts : HasPartsOfTrees v.pa
             ((refl, record { tree = h.list; known = first h.list h.of_body h.known; stands = h.pairs_stand }), tt),
           ),
         );
-        goes_on = λ ps. let_whole [] u ps h.bindings h.inside;
+        few = omega arith;
+        given = subst (λ n. AreGiven plan s v n u.taken) (sym names) g;
+        goes_on = λ ps. let_whole plan u ps h.bindings h.inside;
       })
 
   -- lists of arguments
-  pub no_arguments : (s : Table) (old new : Page) (r : ℕ) (ts : Terms) → r < 2 ^ 30 → IsListOf s v r ts → new.text.items ≡ old.text.items
-      → new.tasks.items ≡ old.tasks.items → Performs s v old new (arguments ts)
-  no_arguments s old new r ts low h text tasks = go ts (subst (λ x. StandsForList s x ts) (leaf_tree r h.tree h.known low) h.stands)
+  pub no_arguments : (plan : Plan) (s : Table) (old new : Page) (r : ℕ) (ts : Terms) → r < 2 ^ 30 → IsListOf s v r ts
+      → new.text.items ≡ old.text.items → new.tasks.items ≡ old.tasks.items → new.names ≡ old.names → Performs plan s v old new (arguments ts)
+  no_arguments plan s old new r ts low h text tasks names = go ts (subst (λ x. StandsForList s x ts) (leaf_tree r h.tree h.known low) h.stands)
     where
-      go : (ts : Terms) → StandsForList s (leaf r) ts → Performs s v old new (arguments ts)
-      go no_terms is u = record {
+      go : (ts : Terms) → StandsForList s (leaf r) ts → Performs plan s v old new (arguments ts)
+      go no_terms is u g = record {
         bytes = [];
         behind = u;
         tasks = [];
@@ -292,15 +305,17 @@ module _ (v : TermsView) (one : IsOneToOne v.pass) (parts : HasPartsOfTrees v.pa
         text = text ∙ sym (append-nil old.text.items);
         left = tasks ∙ sym (append-nil old.tasks.items);
         are = tt;
-        goes_on = λ ps. arguments_end [] u ps;
+        few = omega arith;
+        given = subst (λ n. AreGiven plan s v n u.taken) (sym names) g;
+        goes_on = λ ps. arguments_end plan u ps;
       }
-      go (term t ts) is u = absurd is
+      go (term t ts) is u g = absurd is
 
-  pub next_argument : (s : Table) (old new : Page) (r first rest : ℕ) (ts : Terms) → 2 ^ 30 ≤ r → IsListOf s v r ts
+  pub next_argument : (plan : Plan) (s : Table) (old new : Page) (r first rest : ℕ) (ts : Terms) → 2 ^ 30 ≤ r → IsListOf s v r ts
       → ((a b : Tree) → Knows v.pass r (cell a b) → Knows v.pass first a) → ((a b : Tree) → Knows v.pass r (cell a b) → Knows v.pass rest b)
       → new.text.items ≡ old.text.items ++ (32 ∷ []) → new.tasks.items ≡ old.tasks.items ++ (Task.Arguments rest ∷ Task.Term first ∷ [])
-      → Performs s v old new (arguments ts)
-  next_argument s old new r first rest ts high h of_first of_rest text left = go ts (subst (λ x. StandsForList s x ts) c.is h.stands)
+      → new.names ≡ old.names → Performs plan s v old new (arguments ts)
+  next_argument plan s old new r first rest ts high h of_first of_rest text left names = go ts (subst (λ x. StandsForList s x ts) c.is h.stands)
     where
       c : IsCellAt r h.tree
       c = cell_tree r h.tree h.known high
@@ -308,9 +323,9 @@ module _ (v : TermsView) (one : IsOneToOne v.pass) (parts : HasPartsOfTrees v.pa
       known : Knows v.pass r (cell c.first c.second)
       known = subst (λ x. Knows v.pass r x) c.is h.known
 
-      go : (ts : Terms) → StandsForList s (cell c.first c.second) ts → Performs s v old new (arguments ts)
-      go no_terms is u = absurd (let e : cell c.first c.second ≡ leaf 0 = is in cc)
-      go (term t ts) is u = record {
+      go : (ts : Terms) → StandsForList s (cell c.first c.second) ts → Performs plan s v old new (arguments ts)
+      go no_terms is u g = absurd (let e : cell c.first c.second ≡ leaf 0 = is in cc)
+      go (term t ts) is u g = record {
         bytes = 32 ∷ [];
         behind = u;
         tasks = Task.Arguments rest ∷ Task.Term first ∷ [];
@@ -321,16 +336,18 @@ module _ (v : TermsView) (one : IsOneToOne v.pass) (parts : HasPartsOfTrees v.pa
           record { tree = c.second; known = of_rest c.first c.second known; stands = is.1 },
           (record { tree = c.first; known = of_first c.first c.second known; stands = is.0 }, tt),
         );
-        goes_on = λ ps. arguments_next [] u ps t ts;
+        few = omega arith;
+        given = subst (λ n. AreGiven plan s v n u.taken) (sym names) g;
+        goes_on = λ ps. arguments_next plan u ps t ts;
       }
 
   -- lists of bindings
-  pub no_pairs : (s : Table) (old new : Page) (r : ℕ) (before : List ℕ) (bs : Bindings) → r < 2 ^ 30 → ArePairsOf s v r bs
-      → new.text.items ≡ old.text.items → new.tasks.items ≡ old.tasks.items → Performs s v old new (pairs before bs)
-  no_pairs s old new r before bs low h text tasks = go bs (subst (λ x. StandsForBindings s x bs) (leaf_tree r h.tree h.known low) h.stands)
+  pub no_pairs : (plan : Plan) (s : Table) (old new : Page) (r : ℕ) (before : List ℕ) (bs : Bindings) → r < 2 ^ 30 → ArePairsOf s v r bs
+      → new.text.items ≡ old.text.items → new.tasks.items ≡ old.tasks.items → new.names ≡ old.names → Performs plan s v old new (pairs before bs)
+  no_pairs plan s old new r before bs low h text tasks names = go bs (subst (λ x. StandsForBindings s x bs) (leaf_tree r h.tree h.known low) h.stands)
     where
-      go : (bs : Bindings) → StandsForBindings s (leaf r) bs → Performs s v old new (pairs before bs)
-      go no_bindings is u = record {
+      go : (bs : Bindings) → StandsForBindings s (leaf r) bs → Performs plan s v old new (pairs before bs)
+      go no_bindings is u g = record {
         bytes = [];
         behind = u;
         tasks = [];
@@ -338,9 +355,11 @@ module _ (v : TermsView) (one : IsOneToOne v.pass) (parts : HasPartsOfTrees v.pa
         text = text ∙ sym (append-nil old.text.items);
         left = tasks ∙ sym (append-nil old.tasks.items);
         are = tt;
-        goes_on = λ ps. pairs_end [] u ps before;
+        few = omega arith;
+        given = subst (λ n. AreGiven plan s v n u.taken) (sym names) g;
+        goes_on = λ ps. pairs_end plan u ps before;
       }
-      go (binding x t bs) is u = absurd is
+      go (binding x t bs) is u g = absurd is
 
   -- the first pair of a list, and the others
   pub record IsPairAt (s : Table) (r pair rest : ℕ) (bs : Bindings) : Type 0 where
@@ -387,12 +406,13 @@ module _ (v : TermsView) (one : IsOneToOne v.pass) (parts : HasPartsOfTrees v.pa
       → ((a b : Tree) → Knows v.pass pair (cell a b) → Knows v.pass name a) → IsLeaf s name (variable_leaf h.bound)
   pair_leaf s r pair rest name bs h first = head_is s name h.of_name (variable_leaf h.bound) (first h.of_name h.of_value h.known) h.name_stands
 
-  pub pair_performs : (s : Table) (old new : Page) (r pair rest name value : ℕ) (before : List ℕ) (bs : Bindings) (h : IsPairAt s r pair rest bs)
+  pub pair_performs : (plan : Plan) (s : Table) (old new : Page) (r pair rest name value : ℕ) (before : List ℕ) (bs : Bindings) (h : IsPairAt s r pair rest bs)
       → ((a b : Tree) → Knows v.pass pair (cell a b) → Knows v.pass value b)
       → new.text.items ≡ old.text.items ++ (before ++ (40 ∷ (printed_symbol h.bound.name ++ 32 ∷ [])))
-      → new.tasks.items ≡ old.tasks.items ++ (Task.Bindings rest ∷ Task.Close ∷ Task.Term value ∷ []) → Performs s v old new (pairs before bs)
-  pair_performs s old new r pair rest name value before bs h second text left u =
-      subst (λ x. PerformsIn s v old new (pairs before x) u) (sym h.is) (record {
+      → new.tasks.items ≡ old.tasks.items ++ (Task.Bindings rest ∷ Task.Close ∷ Task.Term value ∷ []) → new.names ≡ old.names
+      → Performs plan s v old new (pairs before bs)
+  pair_performs plan s old new r pair rest name value before bs h second text left names u g =
+      subst (λ x. PerformsIn plan s v old new (pairs before x) u) (sym h.is) (record {
         bytes = before ++ (40 ∷ (printed (symbol_item h.bound.name) ++ 32 ∷ []));
         behind = with_let_name h.bound.name u;
         tasks = Task.Bindings rest ∷ Task.Close ∷ Task.Term value ∷ [];
@@ -403,7 +423,9 @@ module _ (v : TermsView) (one : IsOneToOne v.pass) (parts : HasPartsOfTrees v.pa
           (refl, h.list),
           (tt, (record { tree = h.of_value; known = second h.of_name h.of_value h.known; stands = h.value_stands }, tt)),
         );
-        goes_on = λ ps. pairs_next [] u ps before h.bound h.value h.others;
+        few = few_for_pair before (printed (symbol_item h.bound.name));
+        given = subst (λ n. AreGiven plan s v n u.taken) (sym names) g;
+        goes_on = λ ps. pairs_next plan u ps before h.bound h.value h.others;
       })
 
   pub pair_known : (s : Table) (r pair rest : ℕ) (bs : Bindings) → IsPairAt s r pair rest bs → IsKnownCell v.pass pair
@@ -412,44 +434,6 @@ module _ (v : TermsView) (one : IsOneToOne v.pass) (parts : HasPartsOfTrees v.pa
   pub let_known : (s : Table) (rest : ℕ) (t : Term) → IsLetAt s rest t → IsKnownCell v.pass rest
   let_known s rest t h = record { first = h.list; second = h.of_body; stands = h.known }
 
-  pub let_begins : (s : Table) (old new : Page) (rest : ℕ) (t : Term) → IsLetAt s rest t → BeginsLet v old new rest → Performs s v old new (whole t)
-  let_begins s old new rest t h b = let_performs s old new rest b.list b.of_body t h b.first b.second b.text b.left
-
--- tasks by what they are
-pub body_performs : (s : Table) (v : TermsView) (old new : Page) (r : ℕ) (p : Part) → IsTask s v (Task.Body r) p
-    → new.text.items ≡ old.text.items ++ (41 ∷ 32 ∷ []) → new.tasks.items ≡ old.tasks.items ++ (Task.Term r ∷ []) → Performs s v old new p
-body_performs s v old new r (body t) h text left u = record {
-  bytes = 41 ∷ 32 ∷ [];
-  behind = u;
-  tasks = Task.Term r ∷ [];
-  parts = whole t ∷ [];
-  text = text;
-  left = left;
-  are = (h, tt);
-  goes_on = λ ps. body_next [] u ps t;
-}
-body_performs s v old new r _ h text left u = absurd h
-
-pub close_performs : (s : Table) (v : TermsView) (old new : Page) (p : Part) → IsTask s v Task.Close p
-    → new.text.items ≡ old.text.items ++ (41 ∷ []) → new.tasks.items ≡ old.tasks.items → Performs s v old new p
-close_performs s v old new (close t) h text same u = record {
-  bytes = 41 ∷ [];
-  behind = with_term t u;
-  tasks = [];
-  parts = [];
-  text = text;
-  left = same ∙ sym (append-nil old.tasks.items);
-  are = tt;
-  goes_on = λ ps. record { text = refl; behind = refl };
-}
-close_performs s v old new bracket h text same u = record {
-  bytes = 41 ∷ [];
-  behind = u;
-  tasks = [];
-  parts = [];
-  text = text;
-  left = same ∙ sym (append-nil old.tasks.items);
-  are = tt;
-  goes_on = λ ps. record { text = refl; behind = refl };
-}
-close_performs s v old new _ h text same u = absurd h
+  pub let_begins : (plan : Plan) (s : Table) (old new : Page) (rest : ℕ) (t : Term) → IsLetAt s rest t → BeginsLet v old new rest
+      → Performs plan s v old new (whole t)
+  let_begins plan s old new rest t h b = let_performs plan s old new rest b.list b.of_body t h b.first b.second b.text b.left b.names

@@ -1,8 +1,9 @@
 //! Numbers and symbols.
-ghost use Rattle.std.specs.Prelude.{◌≡◌, ◌<◌, ◌++◌, decimal, length, OnOk};
+ghost use Rattle.std.specs.Prelude.{◌≡◌, ◌<◌, ◌++◌, decimal, length, IfOk, OnOk, string_bytes};
 ghost use Rattle.sexpr.specs.Printing.{printed_symbol};
 ghost use Rattle.sym_table.specs.Leaf.{name_of};
 ghost use Rattle.sym_table.specs.Table.{LeafMeets};
+ghost use Rattle.term_printer.specs.Names.{name_numbered};
 
 use sexpr::print_symbol;
 use std::alloc::{AllocError, Global};
@@ -22,4 +23,19 @@ pub fn push_leaf_symbol(symbols: &Symbols, leaf: u32, text: &mut Vec<u8>) -> Res
     ensures { OnOk result (LeafMeets symbols.now leaf (λ l. text.new.items ≡ text.old.items ++ printed_symbol (name_of l))) }
 {
     print_symbol(symbols.name(leaf), text)
+}
+
+/// The name of a number: `@c` and the number.
+pub fn number_name(alloc: Global, number: u64) -> Result<String, AllocError>
+    ensures { IfOk result (λ name. string_bytes name ≡ name_numbered number) }
+{
+    format!(in alloc; "@c{number}")
+}
+
+/// The symbol of the name of a number.
+pub(crate) fn push_name(alloc: Global, number: u64, text: &mut Vec<u8>) -> Result<(), AllocError>
+    ensures { OnOk result (text.new.items ≡ text.old.items ++ printed_symbol (name_numbered number)) }
+{
+    let name = number_name(alloc, number)?;
+    print_symbol(name.as_bytes(), text)
 }

@@ -1,15 +1,18 @@
 //! One task of a term.
-ghost use Rattle.std.specs.Prelude.{◌≡◌, ◌<◌, ◌≤◌, ◌^◌, ◌++◌, ℕ, List, [], ◌∷◌, length, false, OnOk, IfOk};
+ghost use Rattle.std.specs.Prelude.{◌≡◌, ◌<◌, ◌≤◌, ◌^◌, ◌++◌, ℕ, List, [], ◌∷◌, length, true, false, OnOk, IfOk};
+ghost use Rattle.sexpr.specs.Printed.{printed};
+ghost use Rattle.sexpr.specs.Printing.{printed_symbol};
+ghost use Rattle.sym_table.specs.Leaf.{name_of};
 ghost use Rattle.sym_table.specs.Table.{Table, LeafMeets};
 ghost use Rattle.term_model.specs.Terms.{Term, Terms as ModelTerms, Bindings};
 ghost use Rattle.term_pool.specs.Views.{TermsView, IsTerm, IsKnownCell, RefersTo};
-ghost use Rattle.printed_proofs.specs.Parts.{Part, whole, arguments, pairs};
+ghost use Rattle.problem_text.specs.Scripts.{Named, Script};
+ghost use Rattle.printed_proofs.specs.Parts.{Part, whole, arguments, pairs, naming};
+ghost use Rattle.printed_proofs.specs.Shared.{Plan, shared_item, behind_term};
 ghost use Rattle.term_printer.specs.declared.page.Task.TheVariants as Task;
-ghost use Rattle.term_printer.specs.Pages.{leaf_text, IsListOf, IsSomeList, ArePairsOf, AreSomePairs, BeginsLet, IsTask};
-ghost use Rattle.term_printer.specs.Pages.{IsSomeTask, Performs, ComesTo, ComesToSome};
-ghost use Rattle.printed_proofs.specs.Shared.{shared_item, behind_term};
-ghost use Rattle.problem_text.specs.Scripts.{Script};
-ghost use Rattle.sexpr.specs.Printed.{printed};
+ghost use Rattle.term_printer.specs.Names.{AreGiven};
+ghost use Rattle.term_printer.specs.Pages.{leaf_text, IsListOf, IsSomeList, ArePairsOf, AreSomePairs, BeginsLet, IsNamingOf, IsTask};
+ghost use Rattle.term_printer.specs.Pages.{IsSomeTask, Performs, PerformsFor, ComesTo, ComesToSome, IsFurther};
 
 use crate::page::{Page, Task};
 use crate::symbols::{push_leaf_symbol, push_number};
@@ -31,6 +34,7 @@ fn print_leaf(
     requires { leaf < length symbols.now.leaves }
     ensures text { OnOk result (LeafMeets symbols.now leaf (λ l. page.new.text.items ≡ page.old.text.items ++ leaf_text l)) }
     ensures tasks { page.new.tasks.items ≡ page.old.tasks.items }
+    ensures names { page.new.names ≡ page.old.names }
 {
     match symbols.kind(leaf) {
         Kind::Num(n) => push_number(alloc, n.unsigned_abs(), &mut page.text),
@@ -47,7 +51,7 @@ fn print_term(
     r: Ref,
 ) -> Result<(), AllocError>
     requires { IsTerm symbols.now terms.old r }
-    ensures performs { OnOk result ((t : Term) → RefersTo symbols.now terms.old r t → Performs symbols.now terms.old page.old page.new (whole t)) }
+    ensures performs { OnOk result ((t : Term) → RefersTo symbols.now terms.old r t → PerformsFor symbols.now terms.old page.old page.new (whole t)) }
     ensures same { terms.new ≡ terms.old }
 {
     terms.one_to_one();
@@ -57,11 +61,12 @@ fn print_term(
         let leaf = r.number();
         return print_leaf(alloc, symbols, page, leaf);
     }
-    print_cell(symbols, terms, page, r)
+    print_cell(alloc, symbols, terms, page, r)
 }
 
-/// The beginning of a term that is a cell.
+/// A term that is a cell: the beginning of it, or its name where that is given.
 fn print_cell(
+    alloc: Global,
     symbols: &Symbols,
     terms: &mut Terms<'_>,
     page: &mut Page,
@@ -69,7 +74,7 @@ fn print_cell(
 ) -> Result<(), AllocError>
     requires term { IsTerm symbols.now terms.old r }
     requires cell { 2 ^ 30 ≤ r }
-    ensures performs { OnOk result ((t : Term) → RefersTo symbols.now terms.old r t → Performs symbols.now terms.old page.old page.new (whole t)) }
+    ensures performs { OnOk result ((t : Term) → RefersTo symbols.now terms.old r t → PerformsFor symbols.now terms.old page.old page.new (whole t)) }
     ensures same { terms.new ≡ terms.old }
 {
     terms.one_to_one();
@@ -80,6 +85,30 @@ fn print_cell(
     if leaf == LET {
         return print_let(terms, page, rest);
     }
+    let Some(entry) = page.names.entry(r) else {
+        return begin_application(symbols, page, leaf, rest);
+    };
+    if entry.is_given {
+        return page.put_name(alloc, entry.number);
+    }
+    page.then(Task::Naming(r))?;
+    page.put(b"(! ")?;
+    begin_application(symbols, page, leaf, rest)
+}
+
+/// The beginning of an application: its bracket and its head, and its arguments as a task.
+fn begin_application(
+    symbols: &Symbols,
+    page: &mut Page,
+    leaf: u32,
+    rest: Ref,
+) -> Result<(), AllocError>
+    requires { leaf < length symbols.now.leaves }
+    ensures text { OnOk result (LeafMeets symbols.now leaf (λ l.
+        page.new.text.items ≡ page.old.text.items ++ (40 ∷ printed_symbol (name_of l)))) }
+    ensures tasks { OnOk result (page.new.tasks.items ≡ page.old.tasks.items ++ (Task.Close ∷ Task.Arguments rest ∷ [])) }
+    ensures names { page.new.names ≡ page.old.names }
+{
     page.then(Task::Close)?;
     page.then(Task::Arguments(rest))?;
     page.put(b"(")?;
@@ -108,7 +137,7 @@ fn print_arguments(
 ) -> Result<(), AllocError>
     requires { IsSomeList symbols.now terms.old list }
     ensures performs { OnOk result ((ts : ModelTerms) → IsListOf symbols.now terms.old list ts →
-        Performs symbols.now terms.old page.old page.new (arguments ts)) }
+        PerformsFor symbols.now terms.old page.old page.new (arguments ts)) }
     ensures same { terms.new ≡ terms.old }
 {
     terms.one_to_one();
@@ -132,7 +161,7 @@ fn print_bindings(
 ) -> Result<(), AllocError>
     requires { AreSomePairs symbols.now terms.old list }
     ensures performs { OnOk result ((bs : Bindings) → ArePairsOf symbols.now terms.old list bs →
-        Performs symbols.now terms.old page.old page.new (pairs before.now bs)) }
+        PerformsFor symbols.now terms.old page.old page.new (pairs before.now bs)) }
     ensures same { terms.new ≡ terms.old }
 {
     terms.one_to_one();
@@ -154,15 +183,18 @@ fn print_bindings(
 /// Begins to print a term behind what is printed, where nothing is left to be printed.
 pub fn begin_term(page: &mut Page, r: Ref) -> Result<(), AllocError>
     requires { page.old.tasks.items ≡ [] }
-    ensures begun { OnOk result ((s : Table) (v : TermsView) (t : Term) (u : Script) → RefersTo s v r t →
-        ComesTo s v page.new (page.old.text.items ++ printed (shared_item [] u t)) (behind_term [] u t)) }
+    ensures begun { OnOk result ((plan : Plan) (s : Table) (v : TermsView) (t : Term) (u : Script) → RefersTo s v r t →
+        AreGiven plan s v page.old.names u.taken →
+        ComesTo plan s v page.new (page.old.text.items ++ printed (shared_item plan u t)) (behind_term plan u t)) }
     ensures text { page.new.text.items ≡ page.old.text.items }
+    ensures tasks { OnOk result (page.new.tasks.items ≡ Task.Term r ∷ []) }
+    ensures names { page.new.names ≡ page.old.names }
 {
     page.then(Task::Term(r))
 }
 
 /// Prints a part more of what is left, and returns whether there was one. What is printed in the end stays the same, and where
-/// there was none it is printed.
+/// there was none it is printed. A part prints bytes or is done, so some call finds none.
 pub fn print_more(
     alloc: Global,
     symbols: &Symbols,
@@ -170,10 +202,14 @@ pub fn print_more(
     page: &mut Page,
 ) -> Result<bool, AllocError>
     requires { ComesToSome symbols.now terms.old page.old }
-    ensures left { IfOk result (λ found. (bytes : List ℕ) (end : Script) → ComesTo symbols.now terms.old page.old bytes end →
-        ComesTo symbols.now terms.new page.new bytes end) }
-    ensures whole { IfOk result (λ found. found ≡ false → (bytes : List ℕ) (end : Script) → ComesTo symbols.now terms.old page.old bytes end →
-        page.new.text.items ≡ bytes) }
+    ensures left { IfOk result (λ found. (plan : Plan) (bytes : List ℕ) (end : Script) → ComesTo plan symbols.now terms.old page.old bytes end →
+        ComesTo plan symbols.now terms.new page.new bytes end) }
+    ensures whole { IfOk result (λ found. found ≡ false → (plan : Plan) (bytes : List ℕ) (end : Script) →
+        ComesTo plan symbols.now terms.old page.old bytes end → page.new.text.items ≡ bytes) }
+    ensures given { IfOk result (λ found. found ≡ false → (plan : Plan) (bytes : List ℕ) (end : Script) →
+        ComesTo plan symbols.now terms.old page.old bytes end → AreGiven plan symbols.now terms.new page.new.names end.taken) }
+    ensures done { IfOk result (λ found. found ≡ false → page.new.tasks.items ≡ []) }
+    ensures further { IfOk result (λ found. found ≡ true → IsFurther page.old page.new) }
     ensures same { terms.new ≡ terms.old }
 {
     let Some(task) = page.tasks.pop() else {
@@ -192,7 +228,8 @@ pub(crate) fn perform(
     task: Task,
 ) -> Result<(), AllocError>
     requires { IsSomeTask symbols.now terms.old task }
-    ensures performs { OnOk result ((p : Part) → IsTask symbols.now terms.old task p → Performs symbols.now terms.old page.old page.new p) }
+    ensures performs { OnOk result ((plan : Plan) (p : Part) → IsTask plan symbols.now terms.old task p →
+        Performs plan symbols.now terms.old page.old page.new p) }
     ensures same { terms.new ≡ terms.old }
 {
     match task {
@@ -202,14 +239,38 @@ pub(crate) fn perform(
         Task::Bindings(list) => print_bindings(b" ", symbols, terms, page, list),
         Task::Body(body) => print_body(page, body),
         Task::Close => page.put(b")"),
+        Task::Naming(r) => print_naming(alloc, symbols, terms, page, r),
     }
 }
 
 /// The bracket behind the bindings of a let, and its body as a task.
 fn print_body(page: &mut Page, body: Ref) -> Result<(), AllocError>
-    ensures { OnOk result ((page.new.text.items ≡ page.old.text.items ++ 41 ∷ 32 ∷ [])
+    ensures begun { OnOk result ((page.new.text.items ≡ page.old.text.items ++ 41 ∷ 32 ∷ [])
         × (page.new.tasks.items ≡ page.old.tasks.items ++ Task.Term body ∷ [])) }
+    ensures names { page.new.names ≡ page.old.names }
 {
     page.then(Task::Term(body))?;
     page.put(b") ")
+}
+
+/// The name of the term before it, with the bracket that closes the annotated term: from here on the name is given.
+fn print_naming(
+    alloc: Global,
+    symbols: &Symbols,
+    terms: &Terms<'_>,
+    page: &mut Page,
+    r: Ref,
+) -> Result<(), AllocError>
+    ensures { OnOk result ((plan : Plan) (n : Named) → IsNamingOf plan symbols.now terms.now r n →
+        Performs plan symbols.now terms.now page.old page.new (naming n)) }
+{
+    symbols.leaves_differ();
+    terms.equal_exactly_where_terms_are();
+    let Some(entry) = page.names.entry(r) else {
+        return Ok(());
+    };
+    page.put(b" :named ")?;
+    page.put_name(alloc, entry.number)?;
+    page.put(b")")?;
+    page.names.give(r)
 }

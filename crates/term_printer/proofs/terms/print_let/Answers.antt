@@ -1,6 +1,6 @@
 use Rattle.std.proofs.Common.{◌∙◌, ◌++◌, ap, codes}
 use Rattle.std.proofs.lemmas.Result.{on_ok_weaker}
-use Rattle.term_printer.proofs.TermCells.{three_more}
+use Rattle.term_printer.proofs.Pieces.{three_more}
 use Rattle.term_printer.proofs.terms.print_let.Goals as goal
 
 pub returns-clause-performs : goal.returns-clause-performs
@@ -14,4 +14,5 @@ returns-clause-performs c =
       left =
           three_more c.args.page.now.tasks.items c.then.new.self.tasks.items c.then-2.new.self.tasks.items c.then-3.new.self.tasks.items
           c.put.new.self.tasks.items _ _ _ c.in_ok-then.ensures.tasks c.in_ok-then-2.ensures.tasks c.in_ok-then-3.ensures.tasks c.put.ensures.tasks;
+      names = c.put.ensures.names ∙ (c.in_ok-then-3.ensures.names ∙ (c.in_ok-then-2.ensures.names ∙ c.in_ok-then.ensures.names));
     }) c.put.ensures.text

@@ -2,7 +2,8 @@ use Rattle.std.proofs.Common.{◌≡◌, ◌^◌, ◌++◌, sym, subst}
 use Rattle.std.proofs.lemmas.Result.{on_ok_weaker}
 use Rattle.sym_table.specs.Table.{IsLeaf}
 use Rattle.term_printer.specs.Pages.{leaf_text}
-use Rattle.term_printer.proofs.TermCells.{is_low, is_high, of_leaf, leaf_within, has_leaf, leaf_performs}
+use Rattle.term_printer.proofs.Pieces.{is_low, is_high, of_leaf, leaf_within}
+use Rattle.term_printer.proofs.TermCells.{has_leaf, leaf_performs}
 use Rattle.term_printer.proofs.terms.print_term.Goals as goal
 
 pub print_leaf-requires : goal.print_leaf-requires
@@ -16,9 +17,9 @@ print_cell-requires-clause-cell c = is_high c.is_leaf.result c.args.r (2 ^ 30) c
 
 pub returns-then-is_leaf-clause-performs : goal.returns-then-is_leaf-clause-performs
 returns-then-is_leaf-clause-performs c =
-    on_ok_weaker c.print_leaf.result (λ meets t refers.
-    leaf_performs c.args.terms.now c.one_to_one.ensures c.parts_of_trees.ensures c.args.symbols.now c.args.page.now c.print_leaf.new.page c.args.r
+    on_ok_weaker c.print_leaf.result (λ meets t refers plan.
+    leaf_performs c.args.terms.now c.one_to_one.ensures c.parts_of_trees.ensures plan c.args.symbols.now c.args.page.now c.print_leaf.new.page c.args.r
     (is_low c.is_leaf.result c.args.r (2 ^ 30) c.if-is_leaf.true c.is_leaf.ensures.0)
     (λ l there. of_leaf c.args.symbols.now c.number-leaf.result l (λ l. c.print_leaf.new.page.text.items ≡ c.args.page.now.text.items ++ leaf_text l)
     meets (subst (λ k. IsLeaf c.args.symbols.now k l) (sym c.number-leaf.ensures.number) there))
-    c.print_leaf.ensures.tasks t refers) c.print_leaf.ensures.text
+    c.print_leaf.ensures.tasks c.print_leaf.ensures.names t refers) c.print_leaf.ensures.text
