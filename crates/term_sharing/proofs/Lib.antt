@@ -1,0 +1,6 @@
+mod ApartTerms
+mod NameLists
+mod NumberNames
+mod Plans
+mod ClosedTerms
+mod UsesLemmas
