@@ -1,0 +1,17 @@
+pub mod Sorts
+pub mod Pages
+pub mod InStep
+pub mod Appended
+pub mod Listed
+pub mod Doing
+pub mod StageParts
+pub mod ClauseEnds
+pub mod LastParts
+pub mod Lines
+pub mod Meeting
+pub mod NextEvents
+pub mod Turning
+pub mod Beginning
+pub mod Written
+pub mod DeclaredSorts
+pub mod FormedProofs

@@ -1,0 +1,5 @@
+pub mod Printed
+pub mod Stages
+pub mod Steps
+pub mod Places
+pub mod Printing
