@@ -5,6 +5,7 @@
 
 mod commands;
 mod pool;
+mod printing;
 mod propagation;
 mod substitution;
 mod symbols;
@@ -35,14 +36,22 @@ fn run(rt: &HostRuntime, words: &[String]) -> Result<()> {
         "commands" => commands_line(rt, rest),
         "tokens" => tokens_lines(rt, rest),
         "propagation" => propagation_lines(rt, rest),
+        "print" => print_lines(rt, rest),
         _ => usage(),
     }
 }
 
 fn usage() -> Result<()> {
     bail!(
-        "usage: bench_parts (pool | terms | substitution | commands | symbols | tokens | propagation) .."
+        "usage: bench_parts (pool | terms | substitution | commands | symbols | tokens | propagation | print) .."
     )
+}
+
+fn print_lines(rt: &HostRuntime, words: &[String]) -> Result<()> {
+    let [proof, problem] = words else {
+        return usage();
+    };
+    printing::run(rt, proof.as_str(), problem.as_str())
 }
 
 fn tokens_lines(rt: &(impl Files + Clock + Print + AllocGlobal), words: &[String]) -> Result<()> {

@@ -1,0 +1,3 @@
+mod SortedTerms
+mod SortedOver
+mod SameFrames
