@@ -9,7 +9,7 @@ use Rattle.rule_model.specs.declared.rules.Rule.{Rule}
 use Rattle.rule_model.specs.Resolution.{IsFirstsOf, IsJoined}
 use Rattle.clause_chain.specs.declared.signed_term.SignedTerm.{SignedTerm}
 use Rattle.chain_plan.specs.declared.plan.Source.TheVariants.{Added}
-use Rattle.chain_plan.specs.Carried.{Carried, AreSound, IsGoing, IsItem, IsTrueAlone}
+use Rattle.chain_plan.specs.Carried.{Carried, AreSound, IsGoing, IsItem, IsMetAlone, IsTrueAlone}
 use Rattle.chain_plan.specs.Lowering.{HasPlainsOf, AreAlike, HasComeDown}
 use Rattle.chain_plan.specs.Plans.{PlannedStep, IsSource}
 use Rattle.chain_plan.specs.Towers.{Towers, HasNegation, HasRoom, AreTowers, item_of, nots_at, side, plain_of}
@@ -24,7 +24,8 @@ pub tautology_sound : (t : Towers) (given : List (List SignedTerm)) (steps : Lis
     → AreSound t given steps → All (IsItem t) clause → IsTrueAlone t rule clause → AreSound t given (steps ++ alone rule clause ∷ [])
 tautology_sound t given steps rule clause sound items holds =
     sound_more t given steps (alone rule clause) sound items
-    (λ terms named. record { sources = All-nil (IsSource given steps); met = λ anchors. holds terms named anchors })
+    (λ terms named. record { sources = All-nil (IsSource given steps); met = λ anchors. holds.1 terms named anchors })
+    (inr (holds.0, refl))
 
 pub bridge_going : (t : Towers) (given : List (List SignedTerm)) (steps : List PlannedStep) (c : Carried) (rule : Rule)
     (clause : List SignedTerm) (k : ℕ) (sign : Bool) (next : List SignedTerm) → IsGoing t given steps c → HasNegation t k
@@ -54,13 +55,16 @@ bridged t given steps c next rule clause k sign n going negation literals step s
     }
 
 -- not_not on what stands before a pair
-pub lowering_holds : (t : Towers) (k j : ℕ) → HasPair t k j → HasNegation t k → IsTrueAlone t Rule.NotNot (item_of (k + 1) ∷ item_of j ∷ [])
-lowering_holds t k j pair negation terms named anchors =
+lowering_met : (t : Towers) (k j : ℕ) → HasPair t k j → HasNegation t k → IsMetAlone t Rule.NotNot (item_of (k + 1) ∷ item_of j ∷ [])
+lowering_met t k j pair negation terms named anchors =
     record {
       terms = λ letter. terms j;
       units = refl;
       literals = ap (λ u. u ∷ terms j ∷ []) (named.negation k negation ∙ ap not_of (pair_is t terms named k j pair));
     }
+
+pub lowering_holds : (t : Towers) (k j : ℕ) → HasPair t k j → HasNegation t k → IsTrueAlone t Rule.NotNot (item_of (k + 1) ∷ item_of j ∷ [])
+lowering_holds t k j pair negation = (tt, lowering_met t k j pair negation)
 
 pub lowering_items : (t : Towers) (k j : ℕ) → HasPair t k j → HasNegation t k → All (IsItem t) (item_of (k + 1) ∷ item_of j ∷ [])
 lowering_items t k j pair negation =
@@ -127,9 +131,9 @@ lowered_stays k j old new x step there =
     swapped_stays old (item_of (k + 1) ∷ item_of j ∷ []) new (item_of k) (item_of (k + 1)) (item_of j) step (of_two (item_of (k + 1)) (item_of j)) x there
 
 -- not_not on a negation gives two pairs more
-pub raising_holds : (t : Towers) (j : ℕ) → HasNegation t j → HasNegation t (j + 1) → HasNegation t (j + 2) → HasNegation t (j + 3)
-    → IsTrueAlone t Rule.NotNot (item_of (j + 4) ∷ item_of (j + 1) ∷ [])
-raising_holds t j one two three four terms named anchors =
+raising_met : (t : Towers) (j : ℕ) → HasNegation t j → HasNegation t (j + 1) → HasNegation t (j + 2) → HasNegation t (j + 3)
+    → IsMetAlone t Rule.NotNot (item_of (j + 4) ∷ item_of (j + 1) ∷ [])
+raising_met t j one two three four terms named anchors =
     record {
       terms = λ letter. terms (j + 1);
       units = refl;
@@ -144,18 +148,28 @@ raising_holds t j one two three four terms named anchors =
         up (j + 3) (j + 4) four (omega arith)
         ∙ (ap not_of (up (j + 2) (j + 3) three (omega arith)) ∙ ap (λ u. not_of (not_of u)) (up (j + 1) (j + 2) two (omega arith)))
 
+pub raising_holds : (t : Towers) (j : ℕ) → HasNegation t j → HasNegation t (j + 1) → HasNegation t (j + 2) → HasNegation t (j + 3)
+    → IsTrueAlone t Rule.NotNot (item_of (j + 4) ∷ item_of (j + 1) ∷ [])
+raising_holds t j one two three four = (tt, raising_met t j one two three four)
+
 -- `true` holds, and so does the negation of `false`
-pub truth_holds : (t : Towers) → AreTowers t → IsTrueAlone t Rule.True (item_of t.truth ∷ [])
-truth_holds t towers terms named anchors =
+truth_met : (t : Towers) → AreTowers t → IsMetAlone t Rule.True (item_of t.truth ∷ [])
+truth_met t towers terms named anchors =
     record { terms = λ letter. terms 0; units = refl; literals = ap (λ u. u ∷ []) named.truth }
 
-pub falsity_holds : (t : Towers) → AreTowers t → IsTrueAlone t Rule.False (item_of (t.falsity + 1) ∷ [])
-falsity_holds t towers terms named anchors =
+pub truth_holds : (t : Towers) → AreTowers t → IsTrueAlone t Rule.True (item_of t.truth ∷ [])
+truth_holds t towers = (tt, truth_met t towers)
+
+falsity_met : (t : Towers) → AreTowers t → IsMetAlone t Rule.False (item_of (t.falsity + 1) ∷ [])
+falsity_met t towers terms named anchors =
     record {
       terms = λ letter. terms 0;
       units = refl;
       literals = ap (λ u. u ∷ []) (named.negation t.falsity towers.falsity_room.one ∙ ap not_of named.falsity);
     }
+
+pub falsity_holds : (t : Towers) → AreTowers t → IsTrueAlone t Rule.False (item_of (t.falsity + 1) ∷ [])
+falsity_holds t towers = (tt, falsity_met t towers)
 
 pub two_items : (a b x y : SignedTerm) → a ≡ x → b ≡ y → a ∷ b ∷ [] ≡ x ∷ y ∷ []
 two_items a b x y e f = ap (λ z. z ∷ b ∷ []) e ∙ ap (λ z. x ∷ z ∷ []) f

@@ -13,7 +13,7 @@ use Rattle.clause_chain.specs.declared.signed_term.SignedTerm.{SignedTerm}
 use Rattle.chain_plan.specs.declared.plan.Source.{Source}
 use Rattle.chain_plan.specs.declared.plan.Source.TheVariants.{Given, Added}
 use Rattle.chain_plan.specs.Carried.{Carried, taken_by, ComesTo, IsCarriedFrom, IsItem, AreSound, IsGoing, KeepsSources}
-use Rattle.chain_plan.specs.Plans.{PlannedStep, clause_of, IsSource, IsMetStep}
+use Rattle.chain_plan.specs.Plans.{PlannedStep, clause_of, IsSource, IsMetStep, HasPlannedRule}
 use Rattle.chain_plan.specs.Towers.{Towers, HasNegation, AreNumbered, side, term_of, terms_of}
 use Rattle.chain_plan.proofs.Joining.{joined_was, joined_mapped, firsts_had, repeats_play_no_part}
 use Rattle.chain_plan.proofs.Towers.{one_item}
@@ -83,13 +83,18 @@ keeps_one steps s =
 
 -- the steps stay met, and so does one more
 pub sound_more : (t : Towers) (given : List (List SignedTerm)) (steps : List PlannedStep) (s : PlannedStep) → AreSound t given steps
-    → All (IsItem t) s.clause → ((terms : ℕ → Term) → AreNumbered t terms → IsMetStep terms given steps s) → AreSound t given (steps ++ s ∷ [])
-sound_more t given steps s sound literals met =
+    → All (IsItem t) s.clause → ((terms : ℕ → Term) → AreNumbered t terms → IsMetStep terms given steps s) → HasPlannedRule s
+    → AreSound t given (steps ++ s ∷ [])
+sound_more t given steps s sound literals met rule =
     record {
       met = λ terms named k z at. go terms named k z (get_append steps (s ∷ []) k z at);
       items = λ source is. elim (source_was given steps s source is) [
         | inl before ↦ rw (source_stays given steps s source before) (sound.items source before)
         | inr new ↦ rw (new, new_source given steps s) literals
+      ];
+      rules = λ k z at. elim (get_append steps (s ∷ []) k z at) [
+        | inl before ↦ sound.rules k z before.1
+        | inr last ↦ subst HasPlannedRule (get_one s (k - length steps) z last.1).1 rule
       ];
     }
   where

@@ -1,5 +1,5 @@
 -- Private. The last step of a plan.
-use Rattle.std.proofs.Common.{◌≡◌, ℕ, Bool, List, [], ◌∷◌, ◌++◌, refl, subst, All, Contains}
+use Rattle.std.proofs.Common.{◌≡◌, inr, ℕ, Bool, List, [], ◌∷◌, ◌++◌, refl, subst, All, Contains}
 use Rattle.std.proofs.lemmas.List.Elements.{All-nil, All-cons, All-head}
 use Rattle.rule_model.specs.declared.rules.Rule.{Rule}
 use Rattle.rule_model.specs.Resolution.{IsFirstsOf}
@@ -29,6 +29,7 @@ weakening_sound t given steps source goal sound is within items =
             subst (Contains (terms_of terms goal)) i.2 (image_in (term_of terms) goal i.0 (within i.0 i.1));
       };
     })
+    (inr (tt, refl))
 
 -- a clause with which nothing was resolved is that of the one premise
 pub record IsAlone (given : List (List SignedTerm)) (steps : List PlannedStep) (c : Carried) : Type 0 where

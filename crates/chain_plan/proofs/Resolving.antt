@@ -1,5 +1,5 @@
 -- Private. The resolution of a carried clause is met.
-use Rattle.std.proofs.Common.{◌≡◌, ◌≢◌, ℕ, Bool, List, [], ◌∷◌, ◌++◌, map, refl, sym, ap, subst, All, Contains}
+use Rattle.std.proofs.Common.{◌≡◌, ◌≢◌, inl, ℕ, Bool, List, [], ◌∷◌, ◌++◌, map, refl, sym, ap, subst, All, Contains}
 use Rattle.std.proofs.lemmas.List.Elements.{All-head, All-tail, All-contains}
 use Rattle.term_model.specs.Terms.{Var, Term}
 use Rattle.rule_model.specs.declared.rules.Rule.{Rule}
@@ -53,3 +53,4 @@ resolution_sound t given steps c sound going some =
       sources = going.sources;
       met = λ anchors. chain_met t given steps sound terms named c.sources c.pivots c.list anchors going.sources going.pivots some going.carried;
     })
+    (inl refl)

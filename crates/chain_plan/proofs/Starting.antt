@@ -21,7 +21,11 @@ nothing_there : {X : Type 0} (k : ℕ) (x : X) → slice_get [] k ≡ Some x →
 nothing_there k x e = cc
 
 pub nothing_sound : (t : Towers) (given : List (List SignedTerm)) → All (All (IsLiteral t)) given → AreSound t given []
-nothing_sound t given literals = record { met = λ terms named k s at. absurd (nothing_there k s at); items = items }
+nothing_sound t given literals = record {
+  met = λ terms named k s at. absurd (nothing_there k s at);
+  items = items;
+  rules = λ k s at. absurd (nothing_there k s at);
+}
   where
     items : AreAllItems t given []
     items (Given i) is =

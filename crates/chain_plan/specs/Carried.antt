@@ -6,7 +6,7 @@ use Rattle.rule_model.specs.Conditions.{Met}
 use Rattle.rule_model.specs.Resolution.{IsFirstsOf, Joins}
 use Rattle.clause_chain.specs.declared.signed_term.SignedTerm.{SignedTerm}
 use Rattle.chain_plan.specs.declared.plan.Source.{Source}
-use Rattle.chain_plan.specs.Plans.{PlannedStep, clause_of, IsSource, judged, AreMet}
+use Rattle.chain_plan.specs.Plans.{PlannedStep, clause_of, IsSource, judged, AreMet, HavePlannedRules, IsBridgeRule}
 use Rattle.chain_plan.specs.Towers.{Towers, HasNegation, AreNumbered, side}
 
 -- what contracts see of a clause that is carried
@@ -49,6 +49,7 @@ pub record KeepsSources (old new : List PlannedStep) : Type 0 where
 pub record AreSound (t : Towers) (given : List (List SignedTerm)) (steps : List PlannedStep) : Type 0 where
   pub met : (terms : ℕ → Term) → AreNumbered t terms → AreMet terms given steps
   pub items : AreAllItems t given steps
+  pub rules : HavePlannedRules steps
 
 -- the clause is carried from what is given and from these steps
 pub record IsGoing (t : Towers) (given : List (List SignedTerm)) (steps : List PlannedStep) (c : Carried) : Type 0 where
@@ -58,7 +59,11 @@ pub record IsGoing (t : Towers) (given : List (List SignedTerm)) (steps : List P
   pub carried : IsCarriedFrom given steps c.sources c.pivots c.list
 
 -- whatever the terms are, the clause meets the condition of the rule without a premise
-abbrev pub IsTrueAlone : Towers → Rule → List SignedTerm → Type 0
-IsTrueAlone t rule clause =
+abbrev pub IsMetAlone : Towers → Rule → List SignedTerm → Type 0
+IsMetAlone t rule clause =
     (terms : ℕ → Term) → AreNumbered t terms → (anchors : List (List (Var × Term))) →
     Met (judged terms [] [] (record { rule = rule; clause = clause; premises = []; pivots = [] }) anchors)
+
+-- it is by a rule that has no pivots
+abbrev pub IsTrueAlone : Towers → Rule → List SignedTerm → Type 0
+IsTrueAlone t rule clause = IsBridgeRule rule × IsMetAlone t rule clause

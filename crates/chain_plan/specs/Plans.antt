@@ -1,5 +1,5 @@
 -- Public. Steps that are planned over numbered terms, and when each of them meets its condition strictly.
-use Rattle.std.specs.Prelude.{◌≡◌, ◌<◌, ℕ, Bool, false, List, [], ◌∷◌, ◌++◌, map, take, length, slice_get, slice_index_or, Some, None, All}
+use Rattle.std.specs.Prelude.{◌≡◌, ◌<◌, ◌⊎◌, ℕ, Bool, ⊤, false, List, [], ◌∷◌, ◌++◌, map, take, length, slice_get, slice_index_or, Some, None, All}
 use Rattle.std.specs.Option.{option_map_or}
 use Rattle.term_model.specs.Terms.{Var, Term}
 use Rattle.rule_model.specs.declared.rules.Mode.{Mode}
@@ -48,6 +48,21 @@ pub record IsMetStep (terms : ℕ → Term) (given : List (List SignedTerm)) (be
 pub record AreNumbers (t : Towers) (steps : List PlannedStep) : Type 0 where
   pub unsigned : (k : ℕ) (s : PlannedStep) → slice_get steps k ≡ Some s → All (λ x. x.negative ≡ false) s.clause
   pub within : (k : ℕ) (s : PlannedStep) → slice_get steps k ≡ Some s → All (λ x. x.term < length t.nots) s.clause
+
+-- the rules of the steps that take spellings apart and of the last step, which have no pivots
+abbrev pub IsBridgeRule : Rule → Type 0
+IsBridgeRule Rule.True = ⊤
+IsBridgeRule Rule.False = ⊤
+IsBridgeRule Rule.NotNot = ⊤
+IsBridgeRule Rule.Weakening = ⊤
+IsBridgeRule _ = ⊥
+
+-- the step is a resolution, or by one of these rules and without pivots
+abbrev pub HasPlannedRule : PlannedStep → Type 0
+HasPlannedRule s = (s.rule ≡ Rule.Resolution) ⊎ (IsBridgeRule s.rule × (s.pivots ≡ []))
+
+abbrev pub HavePlannedRules : List PlannedStep → Type 0
+HavePlannedRules steps = (k : ℕ) (s : PlannedStep) → slice_get steps k ≡ Some s → HasPlannedRule s
 
 -- the last step has the clause
 pub record EndsIn (clause : List SignedTerm) (steps : List PlannedStep) : Type 0 where

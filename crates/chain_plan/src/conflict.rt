@@ -5,7 +5,7 @@ ghost use Rattle.term_model.specs.Terms.{Term};
 ghost use Rattle.clause_chain.specs.Chaining.{clauses_of};
 ghost use Rattle.clause_chain.specs.declared.signed_term.SignedTerm.{SignedTerm};
 ghost use Rattle.chain_plan.specs.Carried.{AreSound};
-ghost use Rattle.chain_plan.specs.Plans.{AreMet, AreNumbers, EndsIn};
+ghost use Rattle.chain_plan.specs.Plans.{AreMet, AreNumbers, EndsIn, HavePlannedRules};
 ghost use Rattle.chain_plan.specs.Towers.{AreNumbered, AreTowers, IsLiteral, nots_in, nots_of};
 ghost use Rattle.chain_plan.specs.Trails.{FollowsBy, IsPlace};
 
@@ -57,7 +57,7 @@ pub(crate) fn from_conflict(
 
 /// Steps to a clause that follows from given ones by unit propagation, as a trail shows: the places of the units, each by the
 /// place of its clause and its own place there, and the place of the clause that is false then, or None where the goal
-/// contradicts itself. The last step has the goal.
+/// contradicts itself. The last step has the goal. They are resolutions, and steps of the rules not_not, true, false and weakening.
 ///
 /// Terms are numbers by `spellings`. Each pair of `not` of a given clause costs a step and each of the goal two, and there are
 /// four more steps at most.
@@ -77,6 +77,7 @@ pub fn plan_steps(
     requires follows { FollowsBy spellings.now (clauses_of given.now) goal.now units.now last }
     ensures met { (terms : ℕ → Term) → AreNumbered spellings.now terms → IfOk result (λ steps. AreMet terms (clauses_of given.now) steps.items) }
     ensures numbers { IfOk result (λ steps. AreNumbers spellings.now steps.items) }
+    ensures rules { IfOk result (λ steps. HavePlannedRules steps.items) }
     ensures ends { IfOk result (λ steps. EndsIn goal.now steps.items) }
     ensures count { IfOk result (λ steps. vec_len steps ≤ nots_in spellings.now (clauses_of given.now) + nots_of spellings.now goal.now + 4) }
 {

@@ -48,3 +48,12 @@ returns-in_ok-steps-in-None-clause-numbers c =
     let given = clauses_of c.args.given.now in
     numbers_of t given c.in_ok-steps-in-None.steps.items
     (c.in_ok-steps-in-None.ensures.sound given (nothing_sound t given (All-map (All (IsLiteral t)) (λ v. v.items) c.args.given.now c.requires.literals)))
+
+pub returns-in_ok-steps-in-Some-clause-rules : goal.returns-in_ok-steps-in-Some-clause-rules
+returns-in_ok-steps-in-Some-clause-rules c = c.in_ok-steps-in-Some.ensures.sound.rules
+
+pub returns-in_ok-steps-in-None-clause-rules : goal.returns-in_ok-steps-in-None-clause-rules
+returns-in_ok-steps-in-None-clause-rules c =
+    let t = c.args.spellings.now in
+    let given = clauses_of c.args.given.now in
+    (c.in_ok-steps-in-None.ensures.sound given (nothing_sound t given (All-map (All (IsLiteral t)) (λ v. v.items) c.args.given.now c.requires.literals))).rules

@@ -1,0 +1,10 @@
+pub mod CountLemmas
+pub mod TopLemmas
+pub mod LevelLemmas
+pub mod NumberLemmas
+pub mod Results
+pub mod TowerLemmas
+pub mod RootLemmas
+pub mod LoadLemmas
+pub mod AddLemmas
+pub mod StepLemmas
