@@ -1,5 +1,5 @@
 -- Steps are added one by one, and nothing is written at first.
-use Rattle.std.proofs.Common.{◌≡◌, ◌<◌, ◌≤◌, ◌+◌, ◌-◌, ◌^◌, ℕ, zero, suc, List, [], ◌∷◌, ◌++◌, length, take, slice_get, slice_index_or, Some, refl, sym, ◌∙◌, ap, subst, arith}
+use Rattle.std.proofs.Common.{◌≡◌, ◌<◌, ◌≤◌, ◌+◌, ◌-◌, ◌^◌, ℕ, zero, suc, List, [], ◌∷◌, ◌++◌, length, take, slice_get, slice_index_or, Some, refl, sym, ◌∙◌, ap, subst, arith, inr}
 use Rattle.std.proofs.lemmas.List.{length-take-le, take_more}
 use Rattle.std.proofs.lemmas.List.Elements.{All-nil}
 use Rattle.proof_store.specs.AddedSteps.{AddedStep}
@@ -46,9 +46,13 @@ nothing_yet job o = record {
     open_ids = All-nil _;
   };
   around = tt;
-  level = record { keeps = λ c. nothing_kept outermost outermost; sees = All-nil _; assumes = Rattle.std.proofs.Common.inr refl };
+  level = record { keeps = λ c. nothing_kept outermost outermost; sees = All-nil _; assumes = inr refl; last = tt };
   places = omega arith;
   opened = omega arith;
+  number = refl;
+  order = λ i j p q less e f. absurd (cc);
+  told = λ j p e. absurd (cc);
+  sources = λ k line e. absurd (cc);
   room = refl;
 }
 

@@ -3,25 +3,10 @@ use Rattle.std.proofs.Common.{◌≡◌, ◌<◌, ◌≤◌, ◌+◌, ℕ, zero,
 use Rattle.std.specs.Borrow.{Bor}
 use Rattle.std.specs.declared.alloc.Global.{Global}
 use Rattle.std.proofs.lemmas.Grind.{flat_map-append}
-use Rattle.std.proofs.lemmas.List.{append_assoc, append-nil, map-append, take_more}
+use Rattle.std.proofs.lemmas.List.{append-nil, map-append, take_more}
 use Rattle.proof_store.specs.AddedSteps.{AddedStep}
 use Rattle.elaborator.specs.Blocks.{blocks_of, commands_for, commands_needed}
 use Rattle.elaborator.specs.Steps.{blocks_in, block_at}
-
-pub piece_next : (first : List (List AddedStep)) (bs : List (Bor (List AddedStep))) (b : Bor (List AddedStep)) (piece : List (Vec AddedStep Global)) (k : ℕ) (x : Vec AddedStep Global)
-    → blocks_in bs ≡ first ++ map (λ (block : Vec AddedStep Global). block.items) (take k piece) → k < length piece → x ≡ slice_index_or piece k x → b.now ≡ x.items
-    → blocks_in (bs ++ b ∷ []) ≡ first ++ map (λ (block : Vec AddedStep Global). block.items) (take (k + 1) piece)
-piece_next first bs b piece k x before less is same =
-    let next = take_more piece k x less in
-    let taken : map (λ (block : Vec AddedStep Global). block.items) (take (k + 1) piece) ≡ map (λ (block : Vec AddedStep Global). block.items) (take k piece) ++ x.items ∷ [] =
-    ap (map (λ (block : Vec AddedStep Global). block.items)) next
-    ∙ (map-append (λ (block : Vec AddedStep Global). block.items) (take k piece) (slice_index_or piece k x ∷ [])
-    ∙ ap (λ (y : Vec AddedStep Global). map (λ (block : Vec AddedStep Global). block.items) (take k piece) ++ y.items ∷ []) (sym is)) in
-    map-append (λ (y : Bor (List AddedStep)). y.now) bs (b ∷ [])
-    ∙ (ap (λ ys. ys ++ b.now ∷ []) before
-    ∙ (append_assoc first (map (λ (block : Vec AddedStep Global). block.items) (take k piece)) (b.now ∷ [])
-    ∙ (ap (λ y. first ++ (map (λ (block : Vec AddedStep Global). block.items) (take k piece) ++ y ∷ [])) same
-    ∙ ap (λ ys. first ++ ys) (sym taken))))
 
 -- a block by its index
 pub block_is : (bs : List (Bor (List AddedStep))) (i : ℕ) (b : Bor (List AddedStep)) → i < length bs → b ≡ slice_index_or bs i b → b.now ≡ block_at (blocks_in bs) i

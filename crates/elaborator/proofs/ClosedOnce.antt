@@ -1,4 +1,4 @@
--- A scope is closed by one step.
+-- Cited by crates above. A scope is closed by one step.
 use Rattle.std.proofs.Common.{◌≡◌, ◌≢◌, ◌<◌, ◌≤◌, ◌+◌, ◌-◌, ◌⊎◌, inl, inr, ℕ, List, [], ◌∷◌, ◌++◌, length, slice_get, Option, Some, None, Result, Ok, Err, OnOk, refl, sym, ◌∙◌, ap, subst, arith, below_more}
 use Rattle.std.specs.List.{AllByRecursion}
 use Rattle.std.proofs.lemmas.Option.{slice_get_within}
@@ -162,6 +162,13 @@ module _ (proof : ProofItems ℕ ℕ) where
       let l = line_of i k closes in
       let both = all_at _ (lines_in outermost proof) i l.0 (closed_in outermost proof) l.1 k (sym (closes_is proof i l.0 l.1) ∙ closes) in
       let most = both.1 in omega arith
+
+  -- the outermost scope is not closed
+  pub closed_above : (i k : ℕ) → closes_at proof i ≡ Some k → 0 < k
+  closed_above i k closes =
+      let l = line_of i k closes in
+      let both = all_at _ (lines_in outermost proof) i l.0 (closed_in outermost proof) l.1 k (sym (closes_is proof i l.0 l.1) ∙ closes) in
+      let least = both.0 in omega arith
 
   pub ok_noted : {T E : Type 0} (i scope : ℕ) (old new : List ℕ) (r : Result T E) → ((j k : ℕ) → j < i → closes_at proof j ≡ Some k → slice_get old k ≡ Some j)
       → closes_at proof i ≡ Some scope → OnOk r (slice_get new scope ≡ Some i)

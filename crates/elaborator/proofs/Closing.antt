@@ -2,23 +2,26 @@
 use Rattle.std.proofs.Common.{◌≡◌, ◌<◌, ◌+◌, ◌-◌, ◌⊎◌, inl, inr, ℕ, zero, suc, List, [], ◌∷◌, ◌++◌, map, length, slice_get, slice_index, slice_index_or, Some, All, Contains, refl, sym, ◌∙◌, ap, subst, arith}
 use Rattle.std.specs.List.{AllZip, AllByRecursion}
 use Rattle.std.proofs.lemmas.List.{length-append, length-map}
-use Rattle.std.proofs.lemmas.List.Elements.{All-push, All-map, All-weaker, All-contains, Contains-push}
+use Rattle.std.proofs.lemmas.List.Elements.{All-push, All-map, All-weaker, All-contains, Contains-push, recursion_from_All}
 use Rattle.std.proofs.lemmas.Option.{slice_get_within}
-use Rattle.term_model.proofs.Lists.{slice_get-last, all_joined}
-use Rattle.rule_model.specs.Commands.{IndexedCommand, assume, step, closing, Line, lines_in}
+use Rattle.term_model.proofs.Lists.{slice_get-last, slice_get-left, all_joined}
+use Rattle.rule_model.specs.Commands.{IndexedCommand, assume, step, closing, Line, lines_in, lines_to}
 use Rattle.rule_model.specs.Elaboration.{Keeps, subproof_kept, TakesPlace, IsSamePlace}
 use Rattle.rule_model.specs.Proofs.{Step, ProofItems, no_items, with_assume, with_step, with_subproof}
+use Rattle.rule_model.specs.Reading.{clause_at}
 use Rattle.rule_model.specs.Scopes.{Anchor, Nesting, outermost, inside, Scope, at, inner, commands_in, first_index, next_index}
 use Rattle.rule_model.specs.Statuses.{Checking}
 use Rattle.rule_model.specs.Visibility.{visible, assumes_in}
+use Rattle.rule_model.proofs.Numbers.{lines_count}
 use Rattle.rule_model.proofs.Standing.{all_at}
-use Rattle.rule_model.proofs.Writing.{same_nesting}
-use Rattle.elaborator.specs.Reached.{State, one_more, placed, IsPlacedIn, Job, IsJob, IsLevel, IsOpened, AreAround, IsReached, ahead, needed_to}
+use Rattle.rule_model.proofs.Writing.{same_nesting, lines_close}
+use Rattle.elaborator.specs.Reached.{State, one_more, placed, IsPlacedIn, Job, IsJob, IsLevel, IsOpened, AreAround, IsReached, LineSource, ahead, needed_to}
 use Rattle.elaborator.specs.Steps.{block_at}
-use Rattle.elaborator.proofs.Levels.{Grows, around_more, all_placed, assumes_more}
+use Rattle.elaborator.proofs.Levels.{Grows, around_more, all_placed, assumes_more, outer_back}
 use Rattle.elaborator.proofs.OldLines.{index_is}
-use Rattle.elaborator.proofs.Rooms.{needed_suc, front_length}
+use Rattle.elaborator.proofs.Rooms.{needed_suc, front_length, closer_of_line}
 use Rattle.elaborator.proofs.Seeing.{contains_left, index_of_get, visible_subproof}
+use Rattle.elaborator.proofs.Sourcing.{order_next, sources_next, told_last, told_next}
 use Rattle.elaborator.proofs.Tidy.{tidy_close, tidy_placed}
 
 -- a closing step has the id of the anchor
@@ -112,6 +115,9 @@ module _ (job : Job) (is : IsJob job) (i : ℕ) (less : i < commands_in job.proo
   module _ (new : Step ℕ) (new_id : new.id ≡ h.anchor.id) (takes : (c : Checking) → TakesPlace c h.old new)
       (discharged : new.discharged ≡ map (slice_index s.places) h.old.discharged)
       (allowed : All (Contains (assumes_in (inside h.old_around h.old_before h.old_anchor) h.old_items)) h.old.discharged) where
+    abbrev pub new_line : Line ℕ ℕ
+    new_line = record { scope = at (inside h.around h.before h.anchor) h.items; command = closing new }
+
     abbrev pub scope : Scope ℕ ℕ
     scope = at h.around (with_subproof h.before h.anchor.bindings h.items new)
 
@@ -135,7 +141,7 @@ module _ (job : Job) (is : IsJob job) (i : ℕ) (less : i < commands_in job.proo
         let b = assumes_in (inside h.around h.before h.anchor) h.items in
         let same : AllZip (IsSamePlace a b) h.old.discharged new.discharged =
         subst (AllZip (IsSamePlace a b) h.old.discharged) (sym discharged)
-        (discharged_same s.places a b h.old.discharged zip (Rattle.std.proofs.lemmas.List.Elements.recursion_from_All (Contains a) h.old.discharged allowed)) in
+        (discharged_same s.places a b h.old.discharged zip (recursion_from_All (Contains a) h.old.discharged allowed)) in
         let inner_keeps : Keeps c (inner h.old_around h.old_before h.old_anchor.bindings h.old) h.old_items (inner h.around h.before h.old_anchor.bindings new) h.items =
         subst (λ n. Keeps c n h.old_items (inner h.around h.before h.old_anchor.bindings new) h.items) (sym old_nest)
         (subst (λ n. Keeps c (inside h.old_around h.old_before h.old_anchor) h.old_items n h.items) (sym new_nest) (h.level.keeps c)) in
@@ -146,22 +152,20 @@ module _ (job : Job) (is : IsJob job) (i : ℕ) (less : i < commands_in job.proo
         (subproof_kept h.old_around h.around h.old_before h.opened.kept h.before h.old_items h.items h.old_anchor.bindings h.old new
         (h.opened.level.keeps c) (h.opened.adds c) inner_keeps (takes c) same_places)
 
-    grows : Grows s v
-    grows = record {
-      places = λ j q e. Rattle.term_model.proofs.Lists.slice_get-left s.places (p ∷ []) j q e;
-      opened = λ k o e. e;
-      lines = λ k l e.
-          subst (λ ls. slice_get ls k ≡ Some l) (sym lines)
-          (Rattle.term_model.proofs.Lists.slice_get-left (Rattle.rule_model.specs.Commands.lines_to (at (inside h.around h.before h.anchor) h.items)) _ k l
-          (subst (λ (b : Scope ℕ ℕ). slice_get (Rattle.rule_model.specs.Commands.lines_to b) k ≡ Some l) h.builder e));
-    }
-      where
-        lines : Rattle.rule_model.specs.Commands.lines_to scope ≡ Rattle.rule_model.specs.Commands.lines_to (at (inside h.around h.before h.anchor) h.items)
-            ++ record { scope = at (inside h.around h.before h.anchor) h.items; command = closing new } ∷ []
-        lines = Rattle.rule_model.proofs.Writing.lines_close h.around h.before h.anchor h.items new new_id
+    lines : lines_to scope ≡ lines_to s.builder ++ new_line ∷ []
+    lines =
+        lines_close h.around h.before h.anchor h.items new new_id ∙ ap (λ (b : Scope ℕ ℕ). lines_to b ++ new_line ∷ []) (sym h.builder)
 
-    pub reached_closed : IsReached job (at h.old_around (with_subproof h.old_before h.old_anchor.bindings h.old_items h.old)) (placed p (one_more scope s))
-    reached_closed =
+    pub grows : Grows s v
+    grows = record {
+      places = λ j q e. slice_get-left s.places (p ∷ []) j q e;
+      opened = λ k o e. e;
+      lines = λ k l e. subst (λ ls. slice_get ls k ≡ Some l) (sym lines) (slice_get-left (lines_to s.builder) (new_line ∷ []) k l e);
+    }
+
+    pub reached_closed : new.clause ≡ clause_at job.proof i → LineSource job (s.places ++ p ∷ []) (lines_to scope) p new_line
+        → IsReached job (at h.old_around (with_subproof h.old_before h.old_anchor.bindings h.old_items h.old)) (placed p (one_more scope s))
+    reached_closed clause source =
         record {
           tidy = tidy_placed (one_more scope s) p (tidy_close s h.around h.before h.items h.anchor new h.reached.tidy h.builder new_id);
           around = around_more s v grows job h.old_around h.around h.surround;
@@ -170,9 +174,17 @@ module _ (job : Job) (is : IsJob job) (i : ℕ) (less : i < commands_in job.proo
             sees = subst (All (IsPlacedIn (s.places ++ p ∷ []) (visible h.around (with_subproof h.before h.anchor.bindings h.items new))))
                 (sym (visible_subproof h.old_around h.old_before h.old_anchor.bindings h.old_items h.old)) all_seen;
             assumes = assumes;
+            last = subst (λ k. slice_get (s.places ++ p ∷ []) k ≡ Some (first_index h.around + (commands_in h.before + commands_in h.items))) (sym old_index)
+                (subst (λ q. slice_get (s.places ++ p ∷ []) (length s.places) ≡ Some q) (sym new_index) (slice_get-last s.places p));
           };
+          order = order_next s v grows job h.reached.told h.reached.order s.places refl p (let a = count_here in omega arith);
           places = let n = h.reached.places in let m = length-append s.places (p ∷ []) in omega arith;
           opened = let n = h.reached.opened in omega arith;
+          number = h.opened.number;
+          told = told_next s v grows job h.reached.told s.places refl (length s.places) p refl
+              (told_last (lines_to s.builder) (lines_to scope) new_line p (clause_at job.proof (length s.places)) lines count_here
+              (clause ∙ ap (clause_at job.proof) (sym (h.reached.places ∙ index_is job.proof i _ h.there))));
+          sources = sources_next s v grows job new_line p lines h.reached.sources count_here source;
           room = room;
         }
       where
@@ -180,6 +192,10 @@ module _ (job : Job) (is : IsJob job) (i : ℕ) (less : i < commands_in job.proo
         seen_stays q has =
             subst (λ xs. Contains xs q) (sym (visible_subproof h.around h.before h.anchor.bindings h.items new))
             (contains_left (visible h.around h.before) _ q (h.opened.sees q has))
+
+        count_here : length (lines_to s.builder) ≡ p
+        count_here =
+            ap (λ (b : Scope ℕ ℕ). length (lines_to b)) h.builder ∙ lines_count (at (inside h.around h.before h.anchor) h.items)
 
         new_index : first_index h.around + (commands_in h.before + commands_in h.items) ≡ p
         new_index = omega arith
@@ -207,7 +223,7 @@ module _ (job : Job) (is : IsJob job) (i : ℕ) (less : i < commands_in job.proo
                 → (assumes_in h.around h.before ≡ assumes_in h.around h.opened.kept) ⊎ (h.around ≡ outermost)
                 → AllZip (λ j q. slice_get (s.places ++ p ∷ []) j ≡ Some q) (assumes_in h.old_around h.old_before) (assumes_in h.around h.before) ⊎ (h.old_around ≡ outermost)
             go (inr outer) _ = inr outer
-            go (inl z) (inr outer) = inr (Rattle.elaborator.proofs.Levels.outer_back job s h.old_around h.around h.surround outer)
+            go (inl z) (inr outer) = inr (outer_back job s h.old_around h.around h.surround outer)
             go (inl z) (inl stay) =
                 inl (subst (AllZip (λ j q. slice_get (s.places ++ p ∷ []) j ≡ Some q) (assumes_in h.old_around h.old_before)) (sym stay)
                 (assumes_more s v grows (assumes_in h.old_around h.old_before) (assumes_in h.around h.opened.kept) z))
@@ -221,7 +237,7 @@ module _ (job : Job) (is : IsJob job) (i : ℕ) (less : i < commands_in job.proo
             let next : next_index (at h.old_around (with_subproof h.old_before h.old_anchor.bindings h.old_items h.old)) ≡ suc i = omega arith in
             let last = ap (needed_to job) next in
             let more = needed_suc job is i less in
-            let closer = Rattle.elaborator.proofs.Rooms.closer_of_line job is i h.old_around h.old_before h.old_anchor h.old_items h.old h.there in
+            let closer = closer_of_line job is i h.old_around h.old_before h.old_anchor h.old_items h.old h.there in
             let own = ap (λ k. length (block_at job.blocks k) - 1) closer in
             let size = front_length (block_at job.blocks i) in
             omega arith

@@ -1,35 +1,43 @@
 -- A step that closes a scope: what it asks for, and what is reached behind it.
-use Rattle.std.proofs.Common.{◌≡◌, ◌<◌, ◌+◌, ◌-◌, ◌^◌, inl, inr, ℕ, Bool, true, false, List, [], map, length, slice_get, slice_index, Some, None, All, Contains, refl, sym, ◌∙◌, ap, subst, arith, add-one, if◌then◌else◌}
+use Rattle.std.proofs.Common.{◌≡◌, ◌<◌, ◌+◌, ◌-◌, ◌^◌, inl, inr, ℕ, Bool, true, false, List, [], ◌∷◌, ◌++◌, map, length, slice_get, slice_index, Some, None, All, Contains, refl, sym, ◌∙◌, ap, subst, arith, add-one, if◌then◌else◌}
+use Rattle.std.specs.List.{AllZip}
 use Rattle.std.specs.Str.{bytes_eq}
-use Rattle.std.proofs.lemmas.List.Elements.{All-map, All-weaker}
+use Rattle.std.proofs.lemmas.List.Elements.{All-map, All-weaker, All-contains}
 use Rattle.std.proofs.lemmas.Option.{slice_get_within}
 use Rattle.std.proofs.lemmas.Slice.Eq.{bytes_eq-Decides}
-use Rattle.term_model.proofs.Lists.{nth_there}
+use Rattle.term_model.proofs.Lists.{nth_there, slice_get-last}
+use Rattle.term_model.proofs.Zips.{zip_weaken}
+use Rattle.proof_store.specs.AddedSteps.{AddedStep}
 use Rattle.proof_store.specs.declared.added.Link.{Link}
 use Rattle.rule_model.specs.Commands.{IndexedCommand, assume, step, closing, Line, lines_in, lines_to}
 use Rattle.rule_model.specs.Elaboration.{TakesPlace}
 use Rattle.rule_model.specs.Proofs.{Step, ProofItems, with_subproof}
-use Rattle.rule_model.specs.Reading.{discharged_at, closes_at}
-use Rattle.rule_model.specs.Scopes.{Nesting, outermost, inside, Scope, at, scope_number, next_index}
+use Rattle.rule_model.specs.Judged.{open_anchors, anchors_at}
+use Rattle.rule_model.specs.Reading.{clause_at, discharged_at, scope_at, closes_at, bindings_at, last_inside_at}
+use Rattle.rule_model.specs.Scopes.{Nesting, outermost, inside, Scope, at, scope_number, last_index, next_index}
 use Rattle.rule_model.specs.Statuses.{Checking}
 use Rattle.rule_model.specs.Visibility.{visible, assumes_in}
 use Rattle.rule_model.specs.WellFormed.{MayClose}
 use Rattle.rule_model.specs.Writing.{add_step, close_scope, take_step, MayTake}
-use Rattle.rule_model.proofs.LineReading.{closes_is, premises_are, discharged_are}
+use Rattle.rule_model.proofs.LineReading.{clause_is, closes_is, scope_is, anchors_are, premises_are, discharged_are, bindings_are, last_is}
 use Rattle.rule_model.proofs.Numbers.{lines_count}
 use Rattle.rule_model.proofs.Standing.{command_may}
 use Rattle.elaborator.specs.declared.putting.Opened.{Opened}
 use Rattle.elaborator.specs.Blocks.{IsLink, IsAddedStep, IsBlockOf}
 use Rattle.elaborator.specs.Links.{IsWithin, target}
 use Rattle.elaborator.specs.Names.{name_of}
-use Rattle.elaborator.specs.Reached.{State, one_more, placed, IsPlacedIn, Job, IsJob, IsOpened, AreAround, IsReached, IsAtLine, closer_of, ahead, needed_to, written_to}
+use Rattle.elaborator.specs.Reached.{State, one_more, placed, IsPlacedIn, Job, IsJob, IsOpened, AreAround, IsReached, IsAtLine, closer_of, ahead, needed_to, written_to, IsLevel}
+use Rattle.elaborator.specs.Reached.{IsTold, LooksAs, IsLineFrom, IsLineInPlace, LineSource, line_of_proof, line_of_last}
+use Rattle.elaborator.specs.Sources.{Looked, looked_at, looked_of, IsAt, AreAt}
 use Rattle.elaborator.specs.Steps.{added_step, kept_step, front, block_at, last_of, step_in_place, IsInPlace}
 use Rattle.elaborator.proofs.AddedRules.{added_rule}
-use Rattle.elaborator.proofs.Closing.{IsClosing, has_id, discharged_seen, zip, reached_closed}
+use Rattle.elaborator.proofs.Closing.{IsClosing, has_id, discharged_seen, zip, v, grows, reached_closed, in_step}
+use Rattle.elaborator.proofs.Levels.{Grows, at_more, same_anchors}
 use Rattle.elaborator.proofs.OldLines.{index_is, written_next, line_closes}
 use Rattle.elaborator.proofs.Rooms.{closer_of_line, front_length, room_inside}
 use Rattle.elaborator.proofs.Seeing.{index_of_get}
-use Rattle.elaborator.proofs.StandingSteps.{moved_step, kept_is_moved, moved_rule, moved_takes, added_takes, all_within, all_seen, all_placed_in, added_judged, by_last, within}
+use Rattle.elaborator.proofs.Sourcing.{all_at_places, found_may, looks_added, looks_kept, told_more, told_on}
+use Rattle.elaborator.proofs.InPlace.{block_there, get_front, moved_step, kept_is_moved, moved_rule, moved_takes, added_takes, all_within, all_seen, all_placed_in, added_judged, by_last, within}
 
 true_false : true ≡ false → ⊥
 true_false e = cc
@@ -74,7 +82,7 @@ module _ (job : Job) (is : IsJob job) (i k : ℕ) (s : State) where
               reached = reached;
               surround = all.0;
               opened = all.1;
-              level = subst (λ (b : Scope ℕ ℕ). Rattle.elaborator.specs.Reached.IsLevel job.proof s (inside old_around old_before old_anchor) old_items b.nesting b.items) builder reached.level;
+              level = subst (λ (b : Scope ℕ ℕ). IsLevel job.proof s (inside old_around old_before old_anchor) old_items b.nesting b.items) builder reached.level;
               id = has_id job.proof i _ there;
             };
             number = same_some (sym (closes_is job.proof i _ there) ∙ closes);
@@ -145,18 +153,90 @@ module _ (job : Job) (is : IsJob job) (i : ℕ) (s : State) (h : IsClosing job i
     where
       one : (j : ℕ) → Contains (assumes_in (inside h.old_around h.old_before h.old_anchor) h.old_items) j → j < length s.places
       one j has =
-          let found = Rattle.elaborator.proofs.Closing.in_step (λ j p. slice_get s.places j ≡ Some p) _ _ has.0 j (zip job is i (within job is i _ h.there) s h) has.1 has.2 in
+          let found = in_step (λ j p. slice_get s.places j ≡ Some p) _ _ has.0 j (zip job is i (within job is i _ h.there) s h) has.1 has.2 in
           slice_get_within s.places j found.0 found.3
+
+  abbrev closing_line : Step ℕ → Line ℕ ℕ
+  closing_line new =
+      record { scope = at (inside h.around h.before h.anchor) h.items; command = closing new }
+
+  abbrev p_now : ℕ
+  p_now = next_index (at (inside h.around h.before h.anchor) h.items)
+
+  block_is : slice_get job.blocks i ≡ Some (block_at job.blocks i)
+  block_is = block_there job.blocks i (let w = within job is i _ h.there in let count = is.blocks.count in omega arith)
+
+  -- where the closing step that is written comes from
+  module _ (new : Step ℕ) (own : new.id ≡ h.anchor.id) (takes : (c : Checking) → TakesPlace c h.old new) (discharged : new.discharged ≡ map (slice_index s.places) h.old.discharged) where
+    abbrev u : State
+    u = v job is i (within job is i _ h.there) s h new own takes discharged may_old.discharged
+
+    grown : Grows s u
+    grown = grows job is i (within job is i _ h.there) s h new own takes discharged may_old.discharged
+
+    told : (j p : ℕ) → slice_get s.places j ≡ Some p → IsTold (lines_to u.builder) p (clause_at job.proof j)
+    told = told_on s u grown job h.reached.told s.places refl
+
+    anchored : open_anchors (inside h.around h.before h.anchor) ≡ open_anchors (inside h.old_around h.old_before h.old_anchor)
+    anchored =
+        same_anchors job s (inside h.old_around h.old_before h.old_anchor) (inside h.around h.before h.anchor) (h.surround, h.opened)
+
+    from_old : (x : Looked) → LooksAs (lines_to u.builder) (closing_line new) x → IsLineFrom (lines_to u.builder) (closing_line new) x (scope_at job.proof i) (closes_at job.proof i)
+    from_old x looks = record {
+      looks = looks;
+      own = h.opened.number ∙ sym (scope_is job.proof i _ h.there);
+      closing = ap (λ (n : ℕ). Some n) (ap (λ (b : Scope ℕ ℕ). scope_number b.nesting) (sym h.builder) ∙ h.reached.number) ∙ sym (closes_is job.proof i _ h.there);
+    }
+
+    -- it closes the scope of the proof's closing step
+    in_its_place : IsLineInPlace job.proof u.places i p_now (closing_line new)
+    in_its_place = record {
+      place = subst (λ k. slice_get (s.places ++ p_now ∷ []) k ≡ Some p_now) (h.reached.places ∙ index_is job.proof i _ h.there) (slice_get-last s.places p_now);
+      discharged = subst (λ ds. AllZip (IsAt u.places) ds new.discharged) (sym (discharged_are job.proof i _ h.there))
+          (zip_weaken (IsAt s.places) (IsAt u.places) grown.places h.old.discharged new.discharged
+          (subst (AllZip (IsAt s.places) h.old.discharged) (sym discharged) (all_at_places s.places h.old.discharged discharged_within)));
+      bindings = λ k e. h.opened.bindings
+          ∙ sym (subst (λ n. bindings_at job.proof n ≡ h.old_anchor.bindings) (number_is k e) (bindings_are job.proof i _ h.old h.there refl));
+      last = λ k e. subst (λ o. AreAt u.places o (last_index (inside h.around h.before h.anchor) h.items))
+          (sym (subst (λ n. last_inside_at job.proof n ≡ last_index (inside h.old_around h.old_before h.old_anchor) h.old_items) (number_is k e) (last_is job.proof i _ h.old h.there refl)))
+          (at_more s u grown (last_index (inside h.old_around h.old_before h.old_anchor) h.old_items) (last_index (inside h.around h.before h.anchor) h.items) h.level.last);
+    }
+      where
+        number_is : (k : ℕ) → closes_at job.proof i ≡ Some k → scope_number (inside h.old_around h.old_before h.old_anchor) ≡ k
+        number_is k e = same_some (sym (closes_is job.proof i _ h.there) ∙ e)
+
+    kept_source : block_at job.blocks i ≡ [] → LooksAs (lines_to u.builder) (closing_line new) (looked_at job.proof i) → LineSource job u.places (lines_to u.builder) p_now (closing_line new)
+    kept_source empty looks =
+        line_of_proof i (block_is ∙ ap (λ (b : List AddedStep). Some b) empty) in_its_place (from_old (looked_at job.proof i) looks)
+
+    last_source : (b : IsBlockOf old_line (block_at job.blocks i)) → new ≡ added_step s.places h.opened.opened.start b.last new.id new.discharged
+        → LineSource job u.places (lines_to u.builder) p_now (closing_line new)
+    last_source b is_new =
+        let block = block_at job.blocks i in
+        let start = h.opened.opened.start in
+        line_of_last i block b.last block_is b.is_last in_its_place (from_old (looked_of job.proof block (anchors_at job.proof i) b.last)
+        (looks_added (lines_to u.builder) s.places job.proof told block start (length block - 1) (omega arith) news b.last (closing_line new) (anchors_at job.proof i)
+        (ap (λ (x : Step ℕ). x.rule) is_new) (ap (λ (x : Step ℕ). x.clause) is_new) (ap (λ (x : Step ℕ). x.premises) is_new) (ap (λ (x : Step ℕ). x.pivots) is_new)
+        (ap (λ (x : Step ℕ). x.ratios) is_new)
+        (found_may s.places (visible h.around h.before) (at h.old_around h.old_before) (length block - 1) b.last sees_now (b.each (length block - 1) b.last b.is_last))
+        (anchored ∙ sym (anchors_are job.proof i _ h.there))))
+      where
+        news : (n : ℕ) (a : AddedStep) → n < length (block_at job.blocks i) - 1 → slice_get (block_at job.blocks i) n ≡ Some a → IsTold (lines_to u.builder) (h.opened.opened.start + n) a.clause
+        news n a below e =
+            let closer = closer_of_line job is i h.old_around h.old_before h.old_anchor h.old_items h.old h.there in
+            let seen = h.opened.moved n a (subst (λ k. slice_get (front (block_at job.blocks k)) n ≡ Some a) (sym closer) (get_front (block_at job.blocks i) n a below e)) in
+            told_more s u grown (h.opened.opened.start + n) a.clause (record { line = seen.line; there = seen.there; clause_is = seen.clause_is })
 
   closed_by : (new : Step ℕ) → new.id ≡ h.anchor.id → ((c : Checking) → TakesPlace c h.old new) → new.discharged ≡ map (slice_index s.places) h.old.discharged
       → MayClose h.around h.before (inside h.around h.before h.anchor) h.items new
+      → new.clause ≡ h.old.clause → LineSource job (s.places ++ p_now ∷ []) (lines_to (at h.around (with_subproof h.before h.anchor.bindings h.items new))) p_now (closing_line new)
       → MayTake s.builder new × IsReached job (written_to job.proof (i + 1)) (placed (next_index s.builder) (one_more (take_step s.builder new) s))
-  closed_by new own takes discharged may = (
+  closed_by new own takes discharged may clause source = (
     may_take_close new own may,
     subst (λ o. IsReached job o (placed (next_index s.builder) (one_more (take_step s.builder new) s))) next_written
         (subst (λ b. IsReached job (at h.old_around (with_subproof h.old_before h.old_anchor.bindings h.old_items h.old)) (placed (next_index s.builder) (one_more b s))) (sym (takes_close new own))
         (subst (λ n. IsReached job (at h.old_around (with_subproof h.old_before h.old_anchor.bindings h.old_items h.old)) (placed n (one_more (at h.around (with_subproof h.before h.anchor.bindings h.items new)) s))) (sym (ap next_index h.builder))
-        (reached_closed job is i (within job is i _ h.there) s h new own takes discharged may_old.discharged))),
+        (reached_closed job is i (within job is i _ h.there) s h new own takes discharged may_old.discharged (clause ∙ sym (clause_is job.proof i _ h.there)) source))),
   )
 
   abbrev new_discharged : List ℕ
@@ -166,7 +246,7 @@ module _ (job : Job) (is : IsJob job) (i : ℕ) (s : State) (h : IsClosing job i
   linked : (b : IsBlockOf old_line (block_at job.blocks i)) (l : Link) → IsLink (visible h.old_around h.old_before) (length (block_at job.blocks i) - 1) l
       → IsWithin (length s.places) h.opened.opened.start l × Contains (visible h.around h.before) (target s.places h.opened.opened.start l)
   linked b (Link.Old j) x =
-      let seen = Rattle.std.proofs.lemmas.List.Elements.All-contains (IsPlacedIn s.places (visible h.around h.before)) (visible h.old_around h.old_before) j sees_now x in (
+      let seen = All-contains (IsPlacedIn s.places (visible h.around h.before)) (visible h.old_around h.old_before) j sees_now x in (
         slice_get_within s.places j seen.place seen.is,
         subst (Contains (visible h.around h.before)) (sym (index_of_get s.places j seen.place seen.is)) seen.seen,
       )
@@ -182,6 +262,7 @@ module _ (job : Job) (is : IsJob job) (i : ℕ) (s : State) (h : IsClosing job i
 
   closed_none : block_at job.blocks i ≡ [] → IsClosed job i s h.opened.opened
   closed_none none =
+      let within_old = all_within s.places (visible h.around h.before) h.old.premises (all_placed_in s.places (visible h.around h.before) (visible h.old_around h.old_before) h.old.premises sees_now may_old.premises) in
       let last : None ≡ last_of (block_at job.blocks i) = sym (ap last_of none) in
       let o = h.opened.opened in
       let same_discharged = discharged_are job.proof i _ h.there in
@@ -192,13 +273,16 @@ module _ (job : Job) (is : IsJob job) (i : ℕ) (s : State) (h : IsClosing job i
         rule = moved_rule s.places h.old (name_of o.name) new_discharged may_old.rule;
         premises = all_seen s.places (visible h.around h.before) h.old.premises premises;
         discharged = discharged_now;
-      }) in
+      }) refl (kept_source new id (λ c. moved_takes c s.places h.old (name_of o.name) new_discharged) refl none
+      (looks_kept (lines_to (at h.around (with_subproof h.before h.anchor.bindings h.items new))) s.places job.proof (told new id (λ c. moved_takes c s.places h.old (name_of o.name) new_discharged) refl) i
+      old_line (closing_line new) h.there (record { rule = refl; clause_is = refl; premises = refl; pivots = refl; ratios = refl }) within_old
+      (anchored new id (λ c. moved_takes c s.places h.old (name_of o.name) new_discharged) refl))) in
       let kept : kept_step s.places job.proof i (name_of o.name) (map (slice_index s.places) (discharged_at job.proof i)) ≡ new =
       kept_is_moved s.places job.proof i _ h.old h.there refl (name_of o.name) (map (slice_index s.places) (discharged_at job.proof i))
       ∙ ap (λ ds. moved_step s.places h.old (name_of o.name) (map (slice_index s.places) ds)) same_discharged in
       record {
         in_place = subst (IsInPlace s.places job.proof i o.start) last
-            (subst (All (λ j. j < length s.places)) (sym (premises_are job.proof i _ h.there)) (all_within s.places (visible h.around h.before) h.old.premises premises));
+            (subst (All (λ j. j < length s.places)) (sym (premises_are job.proof i _ h.there)) within_old);
         discharged = subst (All (λ j. j < length s.places)) (sym same_discharged) discharged_within;
         may = subst (λ x. MayTake s.builder (step_in_place s.places job.proof i o.start x (name_of o.name) (map (slice_index s.places) (discharged_at job.proof i)))) last
             (subst (MayTake s.builder) (sym kept) both.0);
@@ -223,7 +307,7 @@ module _ (job : Job) (is : IsJob job) (i : ℕ) (s : State) (h : IsClosing job i
         rule = added_rule s.places o.start a (name_of o.name) new_discharged b.judged added.pivots;
         premises = seen;
         discharged = discharged_now;
-      }) in
+      }) b.clause (last_source new id (λ c. added_takes c h.old new b.clause b.replaced b.judged) refl b refl) in
       let same : added_step s.places o.start a (name_of o.name) (map (slice_index s.places) (discharged_at job.proof i)) ≡ new =
       ap (λ ds. added_step s.places o.start a (name_of o.name) (map (slice_index s.places) ds)) same_discharged in
       let last : Some a ≡ last_of (block_at job.blocks i) = sym b.is_last in

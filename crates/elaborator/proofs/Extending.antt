@@ -1,5 +1,5 @@
 -- Added steps, one behind the other.
-use Rattle.std.proofs.Common.{◌≡◌, ◌<◌, ◌≤◌, ◌+◌, ◌-◌, ◌^◌, ◌⊎◌, inl, inr, ℕ, Bool, true, false, List, [], ◌∷◌, ◌++◌, length, slice_get, slice_index, Some, Contains, refl, sym, ◌∙◌, ap, subst, arith, if◌then◌else◌}
+use Rattle.std.proofs.Common.{◌≡◌, ◌<◌, ◌≤◌, ◌+◌, ◌-◌, ◌^◌, ◌⊎◌, inl, inr, ℕ, Bool, true, false, List, [], ◌∷◌, ◌++◌, length, slice_get, slice_index, Some, Contains, refl, sym, ◌∙◌, ap, subst, arith, if◌then◌else◌, map}
 use Rattle.std.proofs.lemmas.List.{append_assoc, append-nil, length-append}
 use Rattle.std.proofs.lemmas.List.Elements.{All-map, All-weaker, Contains-push}
 use Rattle.std.proofs.lemmas.Option.{slice_get_within}
@@ -14,7 +14,7 @@ use Rattle.rule_model.specs.Elaboration.{Adds, none_added, step_added, assume_ad
 use Rattle.rule_model.specs.Proofs.{Step, with_assume}
 use Rattle.rule_model.specs.Reading.{clause_of, is_assume}
 use Rattle.rule_model.specs.RuleNames.{kind_of, IsJudged}
-use Rattle.rule_model.specs.Scopes.{outermost, Scope, next_index}
+use Rattle.rule_model.specs.Scopes.{outermost, Scope, next_index, scope_number}
 use Rattle.rule_model.specs.Statuses.{Checking, kind_of_rule, kind_under}
 use Rattle.rule_model.specs.Visibility.{assumes_in}
 use Rattle.rule_model.specs.Writing.{add_assume, add_step, MayTake}
@@ -23,7 +23,7 @@ use Rattle.rule_model.proofs.Numbers.{lines_count}
 use Rattle.rule_model.proofs.Writing.{lines_assume, lines_step}
 use Rattle.elaborator.specs.Links.{IsWithin, target}
 use Rattle.elaborator.specs.Names.{name_of}
-use Rattle.elaborator.specs.Reached.{State, seen_in, one_more, new_name, IsTidy, IsStepNow, MayAddNow, with_added, IsLinkHere, MayAddHere, IsSeenAs, IsExtended}
+use Rattle.elaborator.specs.Reached.{State, seen_in, one_more, new_name, IsTidy, IsStepNow, MayAddNow, with_added, IsLinkHere, MayAddHere, IsSeenAs, IsAddedLine, IsExtended}
 use Rattle.elaborator.specs.Steps.{added_step}
 use Rattle.elaborator.proofs.AddedRules.{judged_no_assume, added_rule}
 use Rattle.elaborator.proofs.Seeing.{visible_assume, visible_step, contains_left, index_of_get}
@@ -81,7 +81,7 @@ pub record IsMore (t u : State) (clause : List ℕ) : Type 0 where
   pub clause_is : clause_of line.command ≡ clause
   pub count : next_index u.builder ≡ next_index t.builder + 1
 
-pub more_step : (t : State) (s : Step ℕ) → IsTidy t → next_index t.builder + 1 < 2 ^ 32 - 1 → s.id ≡ name_of (new_name t)
+abbrev pub more_step : (t : State) (s : Step ℕ) → IsTidy t → next_index t.builder + 1 < 2 ^ 32 - 1 → s.id ≡ name_of (new_name t)
     → IsMore t (one_more (add_step t.builder s) t) s.clause
 more_step t s h few e = record {
   nesting = refl;
@@ -95,9 +95,9 @@ more_step t s h few e = record {
   count = omega arith;
 }
 
-pub more_assume : (t : State) (r : ℕ) → IsTidy t → next_index t.builder + 1 < 2 ^ 32 - 1
-    → IsMore t (one_more (add_assume t.builder (name_of (new_name t)) r) t) (r ∷ [])
-more_assume t r h few = record {
+abbrev pub more_assume : (t : State) (r : ℕ) (ts : List ℕ) → r ∷ [] ≡ ts → IsTidy t → next_index t.builder + 1 < 2 ^ 32 - 1
+    → IsMore t (one_more (add_assume t.builder (name_of (new_name t)) r) t) ts
+more_assume t r ts same h few = record {
   nesting = refl;
   places = refl;
   opened = refl;
@@ -105,7 +105,7 @@ more_assume t r h few = record {
   seen = visible_assume t.builder.nesting t.builder.items (name_of (new_name t)) r;
   line = record { scope = t.builder; command = assume (name_of (new_name t)) r };
   lines = lines_assume t.builder (name_of (new_name t)) r;
-  clause_is = refl;
+  clause_is = same;
   count = omega arith;
 }
 
@@ -127,9 +127,6 @@ seen_last t u clause h = record {
   clause_is = h.clause_is;
 }
 
-some_added : {a b : AddedStep} → Some a ≡ Some b → a ≡ b
-some_added e = cc
-
 pub extended_none : (s : State) → IsTidy s → IsExtended [] s s
 extended_none s h = record {
   nesting = refl;
@@ -143,17 +140,19 @@ extended_none s h = record {
   lines = sym (append-nil (lines_to s.builder));
   assumes = inl refl;
   each = λ m a e. absurd (nothing m a e);
+  more_count = refl;
+  written = λ m a e. absurd (nothing m a e);
   count = omega arith;
 }
   where
     nothing : (m : ℕ) (a : AddedStep) → slice_get [] m ≡ Some a → ⊥
     nothing m a e = cc
 
-extended_by : (added : List AddedStep) (a : AddedStep) (s t u : State) → IsExtended added s t → IsMore t u a.clause
+extended_by : (added : List AddedStep) (a : AddedStep) (s t u : State) → IsExtended added s t → (m : IsMore t u a.clause) → IsAddedLine s (next_index s.builder) a m.line
     → ((c : Checking) → Adds c s.builder.nesting s.builder.items u.builder.items)
     → (assumes_in s.builder.nesting u.builder.items ≡ assumes_in s.builder.nesting s.builder.items) ⊎ (s.builder.nesting ≡ outermost)
     → IsExtended (added ++ a ∷ []) s u
-extended_by added a s t u h m adds assumes = record {
+extended_by added a s t u h m own adds assumes = record {
   nesting = m.nesting ∙ h.nesting;
   places = m.places ∙ h.places;
   opened = m.opened ∙ h.opened;
@@ -165,6 +164,8 @@ extended_by added a s t u h m adds assumes = record {
   lines = m.lines ∙ (ap (λ ls. ls ++ m.line ∷ []) h.lines ∙ append_assoc (lines_to s.builder) h.more_lines (m.line ∷ []));
   assumes = assumes;
   each = each;
+  more_count = let c = h.more_count in let d = length-append h.more_lines (m.line ∷ []) in let e = length-append added (a ∷ []) in omega arith;
+  written = written;
   count = let c = h.count in let d = m.count in let e = length-append added (a ∷ []) in omega arith;
 }
   where
@@ -179,6 +180,24 @@ extended_by added a s t u h m adds assumes = record {
         let here : next_index t.builder ≡ next_index s.builder + k = let c = h.count in let z = same.0 in omega arith in
         subst (λ (x : AddedStep). IsSeenAs (lines_to u.builder) (seen_in u) x.clause (next_index s.builder + k)) same.1
         (subst (IsSeenAs (lines_to u.builder) (seen_in u) a.clause) here (seen_last t u a.clause m))
+
+    written : (k : ℕ) (b : AddedStep) → slice_get (added ++ a ∷ []) k ≡ Some b
+        → (line : Line ℕ ℕ) × (slice_get (lines_to u.builder) (next_index s.builder + k) ≡ Some line) × IsAddedLine s (next_index s.builder) b line
+    written k b e = go (get_append added (a ∷ []) k b e)
+      where
+        go : ((k < length added) × (slice_get added k ≡ Some b)) ⊎ ((length added ≤ k) × (slice_get (a ∷ []) (k - length added) ≡ Some b))
+            → (line : Line ℕ ℕ) × (slice_get (lines_to u.builder) (next_index s.builder + k) ≡ Some line) × IsAddedLine s (next_index s.builder) b line
+        go (inl p) =
+            let w = h.written k b p.1 in
+            (w.0, subst (λ ls. slice_get ls (next_index s.builder + k) ≡ Some w.0) (sym m.lines) (slice_get-left (lines_to t.builder) (m.line ∷ []) (next_index s.builder + k) w.0 w.1), w.2)
+        go (inr p) =
+            let one = get_one a (k - length added) b p.1 in
+            let more = p.0 in
+            let here : next_index t.builder ≡ next_index s.builder + k = (let c = h.count in let z = one.0 in omega arith) in
+            let there : slice_get (lines_to u.builder) (next_index t.builder) ≡ Some m.line =
+            subst (λ ls. slice_get ls (next_index t.builder) ≡ Some m.line) (sym m.lines)
+            (subst (λ n. slice_get (lines_to t.builder ++ m.line ∷ []) n ≡ Some m.line) (lines_count t.builder) (slice_get-last (lines_to t.builder) m.line)) in
+            (m.line, subst (λ n. slice_get (lines_to u.builder) n ≡ Some m.line) here there, subst (λ (x : AddedStep). IsAddedLine s (next_index s.builder) x m.line) one.1 own)
 
     each : (k : ℕ) (b : AddedStep) → slice_get (added ++ a ∷ []) k ≡ Some b → IsSeenAs (lines_to u.builder) (seen_in u) b.clause (next_index s.builder + k)
     each k b e = go (get_append added (a ∷ []) k b e)
@@ -222,6 +241,16 @@ extended_more added a s t u h (inl p) few is =
     let v = one_more (add_step t.builder written) t in
     subst (IsExtended (added ++ a ∷ []) s) (sym (is ∙ ap (λ (b : Scope ℕ ℕ). one_more b t) (added_as_step t (next_index s.builder) a p.judged)))
     (extended_by added a s t v h (more_step t written h.tidy few refl)
+    (record {
+      nesting = h.nesting;
+      own = ap scope_number h.nesting;
+      closes = refl;
+      rule = refl;
+      clause_is = refl;
+      premises = ap (λ ps. map (target ps (next_index s.builder)) a.premises) h.places;
+      pivots = refl;
+      ratios = refl;
+    })
     (λ c. step_added s.builder.nesting s.builder.items t.builder.items written (h.adds c) (no_hole c a.rule p.judged)) h.assumes)
 extended_more added a s t u h (inr p) few is =
     let id = name_of (new_name t) in
@@ -230,7 +259,17 @@ extended_more added a s t u h (inr p) few is =
     let same : r ≡ p.term = ap (λ ts. slice_index ts 0) p.clause in
     let clause : a.clause ≡ r ∷ [] = p.clause ∙ ap (λ x. x ∷ []) (sym same) in
     subst (IsExtended (added ++ a ∷ []) s) (sym (is ∙ ap (λ (b : Scope ℕ ℕ). one_more b t) (added_as_assume t (next_index s.builder) a p.rule)))
-    (extended_by added a s t v h (subst (IsMore t v) (sym clause) (more_assume t r h.tidy few))
+    (extended_by added a s t v h (more_assume t r a.clause (sym clause) h.tidy few)
+    (record {
+      nesting = h.nesting;
+      own = ap scope_number h.nesting;
+      closes = refl;
+      rule = sym p.rule;
+      clause_is = sym clause;
+      premises = ap (map (target s.places (next_index s.builder))) (sym p.premises);
+      pivots = sym p.pivots;
+      ratios = refl;
+    })
     (λ c. subst (λ n. Adds c n s.builder.items (with_assume t.builder.items id r)) (sym p.outer)
     (assume_added s.builder.items t.builder.items id r (subst (λ n. Adds c n s.builder.items t.builder.items) p.outer (h.adds c))))
     (inr p.outer))

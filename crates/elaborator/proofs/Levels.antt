@@ -1,18 +1,20 @@
 -- What corresponds between the proof and what is written goes on doing so as more is written.
-use Rattle.std.proofs.Common.{◌≡◌, ◌+◌, inl, inr, ℕ, List, [], ◌∷◌, ◌++◌, slice_get, Some, All, Contains, refl, sym, ◌∙◌, ap, subst}
+use Rattle.std.proofs.Common.{◌≡◌, ◌+◌, inl, inr, ℕ, List, [], ◌∷◌, ◌++◌, slice_get, Option, Some, None, All, Contains, refl, sym, ◌∙◌, ap, subst}
 use Rattle.std.specs.List.{AllZip}
-use Rattle.std.proofs.lemmas.List.Elements.{All-weaker}
+use Rattle.std.proofs.lemmas.List.Elements.{All-weaker, All-contains}
 use Rattle.term_model.proofs.Lists.{slice_get-left}
 use Rattle.term_model.proofs.Zips.{zip_weaken}
 use Rattle.proof_store.specs.AddedSteps.{AddedStep}
 use Rattle.proof_store.specs.declared.added.Link.{Link}
 use Rattle.rule_model.specs.Commands.{Line, lines_to}
+use Rattle.rule_model.specs.Judged.{open_anchors}
 use Rattle.rule_model.specs.Proofs.{ProofItems}
-use Rattle.rule_model.specs.Scopes.{Nesting, outermost, inside, Scope}
+use Rattle.rule_model.specs.Scopes.{Nesting, outermost, inside, Scope, last_index}
 use Rattle.rule_model.specs.Visibility.{visible, open_bindings, assumes_in}
 use Rattle.elaborator.specs.declared.putting.Opened.{Opened}
 use Rattle.elaborator.specs.Blocks.{IsLink, MayBeAdded}
 use Rattle.elaborator.specs.Reached.{State, seen_in, placed, IsPlacedIn, IsLinkHere, MayAddHere, IsSeenAs, IsExtended, Job, IsLevel, AreAround, IsReached}
+use Rattle.elaborator.specs.Sources.{AreAt}
 use Rattle.elaborator.proofs.Extending.{IsMore}
 
 -- what stands at a place stays there
@@ -62,6 +64,12 @@ module _ (s t : State) (g : Grows s t) where
   pub seen_as_more : (seen clause : List ℕ) (p : ℕ) → IsSeenAs (lines_to s.builder) seen clause p → IsSeenAs (lines_to t.builder) seen clause p
   seen_as_more seen clause p h = record { seen = h.seen; line = h.line; there = g.lines p h.line h.there; clause_is = h.clause_is }
 
+  pub at_more : (o q : Option ℕ) → AreAt s.places o q → AreAt t.places o q
+  at_more None None h = tt
+  at_more None (Some p) h = absurd h
+  at_more (Some i) None h = absurd h
+  at_more (Some i) (Some p) h = g.places i p h
+
   pub level_more : (proof : ProofItems ℕ ℕ) (old_nesting : Nesting ℕ ℕ) (old : ProofItems ℕ ℕ) (nesting : Nesting ℕ ℕ) (items : ProofItems ℕ ℕ)
       → IsLevel proof s old_nesting old nesting items → IsLevel proof t old_nesting old nesting items
   level_more proof old_nesting old nesting items h = record {
@@ -71,6 +79,7 @@ module _ (s t : State) (g : Grows s t) where
       | inl zip ↦ inl (assumes_more (assumes_in old_nesting old) (assumes_in nesting items) zip)
       | inr outer ↦ inr outer
     ];
+    last = at_more (last_index old_nesting old) (last_index nesting items) h.last;
   }
 
   pub around_more : (job : Job) (old_nesting nesting : Nesting ℕ ℕ) → AreAround job s old_nesting nesting → AreAround job t old_nesting nesting
@@ -87,6 +96,7 @@ module _ (s t : State) (g : Grows s t) where
           sees = o.sees;
           assumes = o.assumes;
           bindings = o.bindings;
+          number = o.number;
           opened = o.opened;
           is_opened = g.opened _ o.opened o.is_opened;
           id = o.id;
@@ -119,6 +129,13 @@ same_open job s (inside around before anchor) outermost h = absurd h
 same_open job s (inside old_around old_before old_anchor) (inside around before anchor) h =
     ap (λ bs. bs ++ anchor.bindings) (same_open job s old_around around h.0) ∙ ap (λ bs. open_bindings old_around ++ bs) h.1.bindings
 
+pub same_anchors : (job : Job) (s : State) (old_nesting nesting : Nesting ℕ ℕ) → AreAround job s old_nesting nesting → open_anchors nesting ≡ open_anchors old_nesting
+same_anchors job s outermost outermost h = refl
+same_anchors job s outermost (inside around before anchor) h = absurd h
+same_anchors job s (inside around before anchor) outermost h = absurd h
+same_anchors job s (inside old_around old_before old_anchor) (inside around before anchor) h =
+    ap (λ bs. bs ∷ open_anchors around) h.1.bindings ∙ ap (λ bss. old_anchor.bindings ∷ bss) (same_anchors job s old_around around h.0)
+
 -- a step that may be added in a scope of the proof may be added where it is written
 pub may_add_here : (job : Job) (old : Scope ℕ ℕ) (s : State) (k : ℕ) (a : AddedStep) → IsReached job old s → MayBeAdded old k a → MayAddHere s k a
 may_add_here job old s k a reached (inl h) = inl (record {
@@ -129,7 +146,7 @@ may_add_here job old s k a reached (inl h) = inl (record {
   where
     by_link : (l : Link) → IsLink (visible old.nesting old.items) k l → IsLinkHere s.places (seen_in s) k l
     by_link (Link.Old j) x =
-        Rattle.std.proofs.lemmas.List.Elements.All-contains (IsPlacedIn s.places (seen_in s)) (visible old.nesting old.items) j reached.level.sees x
+        All-contains (IsPlacedIn s.places (seen_in s)) (visible old.nesting old.items) j reached.level.sees x
     by_link (Link.New n) x = x
 may_add_here job old s k a reached (inr h) = inr (record {
   rule = h.rule;

@@ -2,17 +2,23 @@ mod OldLines
 mod Names
 mod Seeing
 mod Rooms
-mod AddedRules
+pub mod AddedRules
 mod Tidy
 mod Extending
 mod Levels
+pub mod Sourcing
+mod InPlace
+pub mod AddedSources
 mod Standing
 mod Closing
 mod OpenedScopes
 mod StandingSteps
 mod ClosingSteps
-mod ClosedOnce
+pub mod ClosedOnce
 mod BlockLists
 mod Adding
 mod OpenCalls
+mod FoundSources
 mod WritingCalls
+mod WrittenSteps
+mod MadeBlocks

@@ -4,11 +4,11 @@ use Rattle.std.proofs.lemmas.List.{length-append}
 use Rattle.term_model.proofs.Lists.{slice_get-left, slice_get-last}
 use Rattle.proof_store.specs.AddedSteps.{AddedStep}
 use Rattle.proof_store.specs.Steps.{anchor_with}
-use Rattle.rule_model.specs.Commands.{Line, lines_in, lines_to}
+use Rattle.rule_model.specs.Commands.{Line, closing, lines_in, lines_to}
 use Rattle.rule_model.specs.Elaboration.{Adds, nothing_kept}
 use Rattle.rule_model.specs.Proofs.{no_items}
 use Rattle.rule_model.specs.Reading.{bindings_at}
-use Rattle.rule_model.specs.Scopes.{Anchor, outermost, inside, Scope, commands_in, scope_number, next_index, next_scope}
+use Rattle.rule_model.specs.Scopes.{Anchor, outermost, inside, Scope, at, commands_in, scope_number, next_index, next_scope}
 use Rattle.rule_model.specs.Visibility.{visible, open_bindings, assumes_in}
 use Rattle.rule_model.specs.WellFormed.{MayOpen}
 use Rattle.rule_model.specs.Writing.{open_anchor}
@@ -16,13 +16,17 @@ use Rattle.rule_model.proofs.LineReading.{bindings_are}
 use Rattle.rule_model.proofs.Writing.{lines_open}
 use Rattle.elaborator.specs.declared.putting.Opened.{Opened}
 use Rattle.elaborator.specs.Names.{name_of}
-use Rattle.elaborator.specs.Reached.{State, seen_in, new_name, IsTidy, MayAddHere, IsPlacedIn, IsExtended, Job, IsJob, AreAround, IsReached, Opens, ahead, needed_to, IsOnWay, closer_of}
+use Rattle.elaborator.specs.Reached.{State, seen_in, new_name, IsTidy, MayAddHere, IsPlacedIn, IsExtended, Job, IsJob, AreAround, IsReached, Opens, ahead, needed_to, IsOnWay, closer_of, IsLevel, IsSeenAs}
 use Rattle.elaborator.specs.Steps.{front, block_at}
-use Rattle.elaborator.proofs.Levels.{Grows, grows_then, extended_grows, all_placed, level_more, around_more, same_open}
+use Rattle.elaborator.proofs.AddedSources.{sources_front}
+use Rattle.elaborator.proofs.Levels.{Grows, grows_then, extended_grows, all_placed, level_more, around_more, same_open, seen_as_more}
 use Rattle.elaborator.proofs.OldLines.{IsClosedAt, Closes, opens_further, opens_index, opens_closes, line_closes, closes_less, index_is, end_of, end_behind}
-use Rattle.elaborator.proofs.Rooms.{closer_same, room_inside, front_length}
+use Rattle.elaborator.proofs.Rooms.{closer_same, room_inside, front_length, closer_is}
 use Rattle.elaborator.proofs.Seeing.{visible_opened, contains_left}
+use Rattle.elaborator.proofs.Sourcing.{source_more, told_on}
 use Rattle.elaborator.proofs.Tidy.{new_id, tidy_open}
+use Rattle.rule_model.proofs.Numbers.{lines_in_count}
+use Rattle.std.proofs.lemmas.Option.{slice_get_within}
 
 -- the scope that is opened next, and the step that is to close it
 pub record IsNext (job : Job) (i : ℕ) (s : State) : Type 0 where
@@ -72,12 +76,12 @@ module _ (job : Job) (is : IsJob job) (i : ℕ) (s : State) (h : IsNext job i s)
   pub closer_there : slice_get job.closers (length s.opened) ≡ Some h.closer
   closer_there =
       subst (λ k. slice_get job.closers k ≡ Some h.closer) number
-      (Rattle.elaborator.proofs.Rooms.closer_is job is h.scope.nesting h.scope.items h.anchor h.closer h.closed)
+      (closer_is job is h.scope.nesting h.scope.items h.anchor h.closer h.closed)
 
   pub closer_within : h.closer < commands_in job.proof
   closer_within =
-      let within = Rattle.std.proofs.lemmas.Option.slice_get_within (lines_in outermost job.proof) h.closer _ h.closed.there in
-      let lines = Rattle.rule_model.proofs.Numbers.lines_in_count outermost job.proof in omega arith
+      let within = slice_get_within (lines_in outermost job.proof) h.closer _ h.closed.there in
+      let lines = lines_in_count outermost job.proof in omega arith
 
   -- its moved steps and its closing step have room
   pub room_here : next_index s.builder + length (front (block_at job.blocks h.closer)) + 1 < 2 ^ 32 - 1
@@ -142,7 +146,7 @@ module _ (job : Job) (is : IsJob job) (i : ℕ) (s : State) (h : IsNext job i s)
           subst (AreAround job u h.scope.nesting) (sym ext.nesting) (around_more s u grows job h.scope.nesting s.builder.nesting h.reached.around),
           record {
             kept = s.builder.items;
-            level = subst (λ n. Rattle.elaborator.specs.Reached.IsLevel job.proof u h.scope.nesting h.scope.items n s.builder.items) (sym ext.nesting)
+            level = subst (λ n. IsLevel job.proof u h.scope.nesting h.scope.items n s.builder.items) (sym ext.nesting)
                 (level_more s u grows job.proof h.scope.nesting h.scope.items s.builder.nesting s.builder.items h.reached.level);
             adds = λ c. subst (λ n. Adds c n s.builder.items t.builder.items) (sym ext.nesting) (ext.adds c);
             sees = λ j has. seen_stays j (subst (λ n. Contains (visible n s.builder.items) j) ext.nesting has);
@@ -151,6 +155,7 @@ module _ (job : Job) (is : IsJob job) (i : ℕ) (s : State) (h : IsNext job i s)
               | inr outer ↦ inr (ext.nesting ∙ outer)
             ];
             bindings = same;
+            number = ap scope_number ext.nesting ∙ h.reached.number;
             opened = o;
             is_opened = subst (λ k. slice_get (t.opened ++ o ∷ []) k ≡ Some o) (opened_same ∙ sym number) (slice_get-last t.opened o);
             id = ap name_of (sym name);
@@ -164,9 +169,14 @@ module _ (job : Job) (is : IsJob job) (i : ℕ) (s : State) (h : IsNext job i s)
               (all_placed s t (extended_grows (front (block_at job.blocks h.closer)) s t ext) (visible s.builder.nesting s.builder.items) (visible t.builder.nesting t.builder.items)
               (visible h.scope.nesting h.scope.items) seen_stays h.reached.level.sees));
           assumes = inl tt;
+          last = tt;
         };
+        order = subst (λ (ps : List ℕ). (i j p q : ℕ) → i < j → slice_get ps i ≡ Some p → slice_get ps j ≡ Some q → p < q) (sym ext.places) h.reached.order;
         places = let e = ap length ext.places in let f = h.reached.places in omega arith;
         opened = let e = opened_same in let f = h.reached.opened in let g = length-append t.opened (o ∷ []) in omega arith;
+        number = let a = ext.tidy.scopes in let e = opened_same in let f = h.reached.opened in omega arith;
+        told = told_on s u grows job h.reached.told t.places ext.places;
+        sources = λ k l e. source_more t u grows_here job k l (sources_front job is h.closer closing_line h.closed.there s t h.scope h.reached refl ext k l (subst (λ ls. slice_get ls k ≡ Some l) (lines_open t.builder new_anchor) e));
         room =
             let own = ap (λ j. length (block_at job.blocks j) - 1) closer_same_here in
             let size = front_length (block_at job.blocks h.closer) in
@@ -177,11 +187,15 @@ module _ (job : Job) (is : IsJob job) (i : ℕ) (s : State) (h : IsNext job i s)
             omega arith;
       }
         where
+          closing_line : Line ℕ ℕ
+          closing_line =
+              record { scope = at (inside h.scope.nesting h.scope.items h.anchor) h.closed.items; command = closing h.closed.last }
+
           closer_same_here : closer_of job (inside h.scope.nesting h.scope.items h.anchor) ≡ h.closer
           closer_same_here = closer_same job is h.scope.nesting h.scope.items h.anchor h.closer h.closed
 
           moved : (m : ℕ) (a : AddedStep) → slice_get (front (block_at job.blocks h.closer)) m ≡ Some a →
-              Rattle.elaborator.specs.Reached.IsSeenAs (lines_to u.builder) (visible t.builder.nesting t.builder.items) a.clause (o.start + m)
+              IsSeenAs (lines_to u.builder) (visible t.builder.nesting t.builder.items) a.clause (o.start + m)
           moved m a e =
-              subst (λ k. Rattle.elaborator.specs.Reached.IsSeenAs (lines_to u.builder) (visible t.builder.nesting t.builder.items) a.clause (k + m)) (sym start)
-              (Rattle.elaborator.proofs.Levels.seen_as_more t u grows_here (visible t.builder.nesting t.builder.items) a.clause (next_index s.builder + m) (ext.each m a e))
+              subst (λ k. IsSeenAs (lines_to u.builder) (visible t.builder.nesting t.builder.items) a.clause (k + m)) (sym start)
+              (seen_as_more t u grows_here (visible t.builder.nesting t.builder.items) a.clause (next_index s.builder + m) (ext.each m a e))

@@ -4,6 +4,7 @@ use Rattle.std.proofs.lemmas.List.{append_assoc, append-nil, map-append, length-
 use Rattle.rule_model.specs.Proofs.{Step, ProofItems, no_items, with_assume, with_step, with_subproof}
 use Rattle.rule_model.specs.Scopes.{Anchor, Nesting, inside, commands_in, first_index}
 use Rattle.rule_model.specs.Visibility.{Sight, sight, direct, seen_around, visible, visible_ids}
+use Rattle.std.proofs.Math.ListN.{get_or-append}
 
 joined_more : {X Y : Type 0} (f : X → Y) (xs ys : List X) (x : X) → map f (xs ++ (ys ++ x ∷ [])) ≡ map f (xs ++ ys) ++ f x ∷ []
 joined_more f xs ys x = ap (map f) (sym (append_assoc xs ys (x ∷ []))) ∙ map-append f (xs ++ ys) (x ∷ [])
@@ -44,12 +45,12 @@ module _ (around : Nesting ℕ ℕ) (before : ProofItems ℕ ℕ) (anchor : Anch
 -- what holds of joined lists holds of the first
 pub all_left : {X : Type 0} (P : X → Type 0) (xs ys : List X) → All P (xs ++ ys) → All P xs
 all_left P xs ys h k d less =
-    subst P (Rattle.std.proofs.Math.ListN.get_or-append xs ys d k less)
+    subst P (get_or-append xs ys d k less)
     (h k d (let n = length-append xs ys in omega arith))
 
 pub contains_left : {X : Type 0} (xs ys : List X) (x : X) → Contains xs x → Contains (xs ++ ys) x
 contains_left xs ys x (k, h, e) =
-    (k, let n = length-append xs ys in omega arith, Rattle.std.proofs.Math.ListN.get_or-append xs ys x k h ∙ e)
+    (k, let n = length-append xs ys in omega arith, get_or-append xs ys x k h ∙ e)
 
 pub index_of_get : (xs : List ℕ) (k x : ℕ) → slice_get xs k ≡ Some x → slice_index xs k ≡ x
 index_of_get [] k x e = absurd (cc)

@@ -4,17 +4,22 @@ use Rattle.std.specs.List.{AllZip}
 use Rattle.std.proofs.lemmas.List.{length-append}
 use Rattle.std.proofs.lemmas.List.Elements.{All-push, Contains-push}
 use Rattle.term_model.proofs.Lists.{slice_get-last}
+use Rattle.rule_model.specs.Commands.{lines_to}
+use Rattle.rule_model.specs.Reading.{clause_at}
+use Rattle.rule_model.proofs.Numbers.{lines_count}
 use Rattle.rule_model.specs.Elaboration.{Keeps}
 use Rattle.rule_model.specs.Proofs.{ProofItems}
-use Rattle.rule_model.specs.Scopes.{outermost, Scope, at, commands_in, next_index, next_scope}
+use Rattle.rule_model.specs.Scopes.{outermost, Scope, at, commands_in, last_index, next_index, next_scope, scope_number}
 use Rattle.rule_model.specs.Statuses.{Checking}
 use Rattle.rule_model.specs.Visibility.{visible, assumes_in}
-use Rattle.elaborator.specs.Reached.{State, seen_in, placed, IsPlacedIn, IsExtended, Job, IsJob, AreAround, IsReached, needed_to}
+use Rattle.elaborator.specs.Reached.{State, seen_in, placed, IsPlacedIn, IsExtended, Job, IsJob, AreAround, IsReached, needed_to, LineSource, AreSourced}
+use Rattle.elaborator.specs.Sources.{IsAt, AreAt}
 use Rattle.elaborator.specs.Steps.{front, block_at}
 use Rattle.elaborator.proofs.Extending.{IsMore}
 use Rattle.elaborator.proofs.Levels.{Grows, grows_then, extended_grows, more_grows, placed_grows, all_placed, assumes_more, around_more, outer_back}
 use Rattle.elaborator.proofs.Rooms.{needed_suc}
 use Rattle.elaborator.proofs.Seeing.{contains_left}
+use Rattle.elaborator.proofs.Sourcing.{order_next, sources_next, told_last, told_next}
 use Rattle.elaborator.proofs.Tidy.{tidy_placed}
 
 module _ (job : Job) (is : IsJob job) (old : Scope ℕ ℕ) (i : ℕ) (index : next_index old ≡ i) (less : i < commands_in job.proof)
@@ -48,9 +53,11 @@ module _ (job : Job) (is : IsJob job) (old : Scope ℕ ℕ) (i : ℕ) (index : n
       → visible old.nesting items ≡ visible old.nesting old.items ++ i ∷ []
       → ((c : Checking) → Keeps c old.nesting items u.builder.nesting u.builder.items)
       → AllZip (λ j q. slice_get (u.places ++ p ∷ []) j ≡ Some q) (assumes_in old.nesting items) (assumes_in u.builder.nesting u.builder.items) ⊎ (old.nesting ≡ outermost)
+      → clause ≡ clause_at job.proof i → AreSourced job t → (IsAt (u.places ++ p ∷ []) i p → LineSource job (u.places ++ p ∷ []) (lines_to u.builder) p m.line)
+      → last_index old.nesting items ≡ Some i → last_index u.builder.nesting u.builder.items ≡ Some p
       → IsReached job (at old.nesting items) (placed p u)
   unfolding v
-  reached_next items next scope visible_old keeps assumes = record {
+  reached_next items next scope visible_old keeps assumes clause_same sources source ends ends_new = record {
     tidy = tidy_placed u p m.tidy;
     around = subst (AreAround job v old.nesting) (sym nest) (around_more s v grows job old.nesting s.builder.nesting reached.around);
     level = record {
@@ -60,11 +67,19 @@ module _ (job : Job) (is : IsJob job) (old : Scope ℕ ℕ) (i : ℕ) (index : n
           (all_placed s v grows (seen_in s) (seen_in u) (visible old.nesting old.items) seen_stays reached.level.sees)
           (record { place = p; is = placed_here; seen = subst (λ xs. Contains xs p) (sym m.seen) (Contains-push (seen_in t) p) }));
       assumes = assumes;
+      last = subst (λ o. AreAt (u.places ++ p ∷ []) o (last_index u.builder.nesting u.builder.items)) (sym ends)
+          (subst (AreAt (u.places ++ p ∷ []) (Some i)) (sym ends_new) placed_here);
     };
+    order = order_next s v grows job reached.told reached.order u.places (m.places ∙ ext.places) p
+        (let a = lines_count s.builder in let c = ext.count in omega arith);
     places =
         let count : length u.places ≡ i = ap length (m.places ∙ ext.places) ∙ (reached.places ∙ index) in
         let longer = length-append u.places (p ∷ []) in omega arith;
     opened = ap length (m.opened ∙ ext.opened) ∙ (reached.opened ∙ sym scope);
+    number = ap scope_number nest ∙ reached.number;
+    told = told_next s v grows job reached.told u.places (m.places ∙ ext.places) i p (reached.places ∙ index)
+        (told_last (lines_to t.builder) (lines_to u.builder) m.line p (clause_at job.proof i) m.lines (lines_count t.builder) (m.clause_is ∙ clause_same));
+    sources = sources_next t v (grows_then t u v (more_grows t u clause m) (placed_grows u p)) job m.line p m.lines sources (lines_count t.builder) (source placed_here);
     room =
         let before = reached.room in
         let same = ap (needed_to job) index in

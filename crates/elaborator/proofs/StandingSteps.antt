@@ -1,156 +1,45 @@
 -- A command that closes nothing: what its steps ask for, and what is reached behind it.
-use Rattle.std.proofs.Common.{◌≡◌, ◌<◌, ◌+◌, ◌-◌, ◌^◌, ◌⊎◌, inl, inr, ℕ, zero, suc, true, false, List, [], ◌∷◌, ◌++◌, map, length, slice_get, slice_index, Some, None, All, Contains, refl, sym, ◌∙◌, ap, subst, arith, add-one}
+use Rattle.std.proofs.Common.{◌≡◌, ◌<◌, ◌+◌, ◌-◌, ◌^◌, ◌⊎◌, inl, inr, ℕ, suc, true, false, List, [], ◌∷◌, ◌++◌, length, slice_get, slice_index, Some, None, All, Contains, refl, sym, ◌∙◌, ap, subst, arith, add-one}
 use Rattle.std.specs.List.{AllZip}
-use Rattle.std.specs.Option.{option_map}
 use Rattle.std.proofs.lemmas.List.{map-append}
-use Rattle.std.proofs.lemmas.List.Elements.{All-map, All-weaker, All-contains}
-use Rattle.std.proofs.lemmas.Option.{slice_get-map, slice_get_within}
+use Rattle.std.proofs.lemmas.List.Elements.{All-nil}
+use Rattle.term_model.proofs.Lists.{slice_get-last}
 use Rattle.term_model.proofs.Zips.{zip_push}
 use Rattle.proof_store.specs.AddedSteps.{AddedStep}
-use Rattle.rule_model.specs.Commands.{IndexedCommand, assume, step, closing, Line, entry_of, entries, lines_in}
-use Rattle.rule_model.specs.Elaboration.{Adds, Keeps, assume_kept, assume_derived, step_kept, TakesPlace}
+use Rattle.rule_model.specs.Commands.{IndexedCommand, assume, step, closing, Line, lines_in, lines_to}
+use Rattle.rule_model.specs.Elaboration.{Keeps, Adds, assume_kept, assume_derived, step_kept, TakesPlace}
+use Rattle.rule_model.specs.Judged.{open_anchors, anchors_at}
 use Rattle.rule_model.specs.Proofs.{Step, ProofItems, with_assume, with_step}
-use Rattle.rule_model.specs.Reading.{clause_of, is_assume, rule_at, rule_name_at, clause_at, premises_at, pivots_at, ratios_at, closes_at}
-use Rattle.rule_model.specs.RuleNames.{kind_of, IsJudged}
-use Rattle.rule_model.specs.Scopes.{Nesting, outermost, Scope, at, commands_in, first_index, next_index, next_scope}
+use Rattle.rule_model.specs.Reading.{is_assume, rule_at, clause_at, premises_at, discharged_at, scope_at, closes_at, step_of}
+use Rattle.rule_model.specs.RuleNames.{kind_of, IsJudged, rule_named}
+use Rattle.rule_model.specs.Scopes.{Nesting, outermost, Scope, at, commands_in, first_index, scope_number, last_index, next_index, next_scope, inside}
 use Rattle.rule_model.specs.Statuses.{Checking}
 use Rattle.rule_model.specs.Visibility.{Sight, sight, direct_assumes, visible, assumes_in}
 use Rattle.rule_model.specs.WellFormed.{HasRule, MayStand}
 use Rattle.rule_model.specs.Writing.{add_assume, add_step, add_command, take_step, MayTake, MayAddHere as MayStandHere}
-use Rattle.rule_model.proofs.LineReading.{closes_is}
-use Rattle.rule_model.proofs.Numbers.{lines_in_count}
-use Rattle.rule_model.proofs.Standing.{command_may, slice_get_taken}
-use Rattle.elaborator.specs.Blocks.{standing, IsAddedStep, IsAddedAssume, MayBeAdded, IsBlockOf}
+use Rattle.rule_model.proofs.LineReading.{rule_is, clause_is, premises_are, discharged_are, closes_is, scope_is, anchors_are}
+use Rattle.rule_model.proofs.Standing.{command_may}
+use Rattle.elaborator.specs.Blocks.{standing, IsAddedAssume, MayBeAdded, IsBlockOf}
 use Rattle.elaborator.specs.Names.{name_of}
-use Rattle.elaborator.specs.Reached.{State, seen_in, one_more, placed, new_name, IsStepNow, MayAddHere, IsPlacedIn, IsExtended, Job, IsJob, IsReached, IsAtLine, needed_to, written_to}
-use Rattle.elaborator.specs.Steps.{added_step, kept_step, front, block_at, last_of, step_in_place, IsInPlace}
+use Rattle.elaborator.specs.Reached.{State, seen_in, one_more, placed, new_name, IsStepNow, MayAddHere, IsPlacedIn, IsExtended, Job, IsJob, IsReached, IsAtLine, written_to}
+use Rattle.elaborator.specs.Reached.{IsTold, LooksAs, IsLineInPlace, LineSource, line_of_proof, line_of_last}
+use Rattle.elaborator.specs.Sources.{looked_at, IsAt}
+use Rattle.elaborator.specs.Steps.{added_step, front, block_at, last_of, step_in_place, IsInPlace}
 use Rattle.elaborator.proofs.AddedRules.{judged_no_assume}
+use Rattle.elaborator.proofs.AddedSources.{sources_front}
 use Rattle.elaborator.proofs.Extending.{no_hole, may_take, more_step, more_assume, may_now, extended_none}
-use Rattle.elaborator.proofs.Levels.{may_add_here, outer_forth, assumes_more}
-use Rattle.elaborator.proofs.OldLines.{index_is, written_next, line_closes}
-use Rattle.elaborator.proofs.Rooms.{front_length, needed_suc, room_of}
-use Rattle.elaborator.proofs.Seeing.{contains_left, index_of_get, visible_assume, visible_step}
+use Rattle.elaborator.proofs.InPlace.{block_there, moved_step, kept_is_moved, moved_rule, moved_takes, added_takes, all_within, all_seen, all_placed_in, added_judged, get_front, by_last, within}
+use Rattle.elaborator.proofs.Levels.{Grows, grows_then, extended_grows, more_grows, placed_grows, all_placed, may_add_here, outer_forth, assumes_more, same_anchors}
+use Rattle.elaborator.proofs.OldLines.{index_is, written_next}
+use Rattle.elaborator.proofs.Rooms.{front_length}
+use Rattle.elaborator.proofs.Seeing.{contains_left, visible_assume, visible_step}
+use Rattle.elaborator.proofs.Sourcing.{found_may, looks_added, looks_kept, told_more, told_on}
 use Rattle.elaborator.proofs.Standing.{reached_next, assumes_step}
 use Rattle.elaborator.proofs.Tidy.{new_id, shut, stands}
+use Rattle.rule_model.proofs.RuleWords.{named_no_assume}
 
 true_false : true ≡ false → ⊥
 true_false e = cc
-
-pub block_there : (blocks : List (List AddedStep)) (i : ℕ) → i < length blocks → slice_get blocks i ≡ Some (block_at blocks i)
-block_there [] i less = absurd (omega arith)
-block_there (b ∷ blocks) zero less = refl
-block_there (b ∷ blocks) (suc i) less = block_there blocks i (omega arith)
-
--- the entry of a line, and a step that is kept
-pub entry_there : (proof : ProofItems ℕ ℕ) (i : ℕ) (l : Line ℕ ℕ) → slice_get (lines_in outermost proof) i ≡ Some l → slice_get (entries proof) i ≡ Some (entry_of l)
-entry_there proof i l there = slice_get-map entry_of (lines_in outermost proof) i ∙ ap (option_map entry_of) there
-
--- a step of the proof with another id, and premises and discharged assumes at their new indices
-abbrev pub moved_step : List ℕ → Step ℕ → List ℕ → List ℕ → Step ℕ
-moved_step places s id discharged = record {
-  id = id;
-  rule = s.rule;
-  rule_name = s.rule_name;
-  clause = s.clause;
-  premises = map (slice_index places) s.premises;
-  discharged = discharged;
-  pivots = s.pivots;
-  ratios = s.ratios;
-}
-
-pub kept_is_moved : (places : List ℕ) (proof : ProofItems ℕ ℕ) (i : ℕ) (l : Line ℕ ℕ) (s : Step ℕ) → slice_get (lines_in outermost proof) i ≡ Some l
-    → Rattle.rule_model.specs.Reading.step_of l.command ≡ s → (id discharged : List ℕ) → kept_step places proof i id discharged ≡ moved_step places s id discharged
-kept_is_moved places proof i l s there same id discharged =
-    (let e = entry_there proof i l there in rw e refl) ∙ ap (λ x. moved_step places x id discharged) same
-
-pub moved_rule : (places : List ℕ) (s : Step ℕ) (id discharged : List ℕ) → HasRule s → HasRule (moved_step places s id discharged)
-moved_rule places s id discharged h =
-    record { named = h.named; symbol = h.symbol; kept = h.kept; pivots = h.pivots; ratios = h.ratios; lowest = h.lowest }
-
-pub moved_takes : (c : Checking) (places : List ℕ) (s : Step ℕ) (id discharged : List ℕ) → TakesPlace c s (moved_step places s id discharged)
-moved_takes c places s id discharged = record { clause = refl; hole = λ e. (e, refl); no_hole = λ e. e }
-
-pub added_takes : (c : Checking) (old new : Step ℕ) → new.clause ≡ old.clause → IsJudged (kind_of old.rule) → IsJudged (kind_of new.rule) → TakesPlace c old new
-added_takes c old new clause before after = record {
-  clause = clause;
-  hole = λ e. absurd (no_hole c old.rule before e);
-  no_hole = λ e. absurd (no_hole c new.rule after e);
-}
-
--- commands of the proof that are seen
-pub all_within : (places seen : List ℕ) (js : List ℕ) → All (IsPlacedIn places seen) js → All (λ j. j < length places) js
-all_within places seen js h =
-    All-weaker (IsPlacedIn places seen) (λ j. j < length places) (λ j x. slice_get_within places j x.place x.is) js h
-
-pub all_seen : (places seen : List ℕ) (js : List ℕ) → All (IsPlacedIn places seen) js → All (Contains seen) (map (slice_index places) js)
-all_seen places seen js h =
-    All-map (Contains seen) (slice_index places) js
-    (All-weaker (IsPlacedIn places seen) (λ j. Contains seen (slice_index places j))
-    (λ j x. subst (Contains seen) (sym (index_of_get places j x.place x.is)) x.seen) js h)
-
-pub all_placed_in : (places seen js ks : List ℕ) → All (IsPlacedIn places seen) js → All (Contains js) ks → All (IsPlacedIn places seen) ks
-all_placed_in places seen js ks h all =
-    All-weaker (Contains js) (IsPlacedIn places seen) (λ k x. All-contains (IsPlacedIn places seen) js k h x) ks all
-
--- a step that may be added and has a condition is no assume
-pub added_judged : (scope : Scope ℕ ℕ) (k : ℕ) (a : AddedStep) → IsJudged (kind_of a.rule) → MayBeAdded scope k a → IsAddedStep scope k a
-added_judged scope k a judged (inl h) = h
-added_judged scope k a judged (inr h) =
-    absurd (true_false (sym (ap is_assume h.rule) ∙ judged_no_assume a.rule judged))
-
--- the steps of a block before its last
-pub front_get : (block : List AddedStep) (m : ℕ) (a : AddedStep) → slice_get (front block) m ≡ Some a → slice_get block m ≡ Some a
-front_get block m a e = slice_get_taken (length block - 1) block m a e
-
-last_none : (block : List AddedStep) → last_of block ≡ None → block ≡ []
-last_none [] e = refl
-last_none (a ∷ block) e = absurd (nothing (a ∷ block) (length (a ∷ block) - 1) (omega arith) e)
-  where
-    nothing : (xs : List AddedStep) (k : ℕ) → k < length xs → slice_get xs k ≡ None → ⊥
-    nothing [] k less e = absurd (omega arith)
-    nothing (x ∷ xs) zero less e = cc
-    nothing (x ∷ xs) (suc k) less e = nothing xs k (omega arith) e
-
-some_last : {a b : AddedStep} → Some a ≡ Some b → a ≡ b
-some_last e = cc
-
--- A block by its last step: none, or the steps that may be put in the place of the command.
-pub by_last : (job : Job) (is : IsJob job) (i : ℕ) (l : Line ℕ ℕ) → slice_get (lines_in outermost job.proof) i ≡ Some l
-    → (block_at job.blocks i ≡ []) ⊎ IsBlockOf l (block_at job.blocks i)
-by_last job is i l there =
-    let within = slice_get_within (lines_in outermost job.proof) i l there in
-    let lines = lines_in_count outermost job.proof in
-    let count = is.blocks.count in
-    is.blocks.each i l (block_at job.blocks i) there (block_there job.blocks i (omega arith))
-
-module _ (job : Job) (is : IsJob job) (i : ℕ) (l : Line ℕ ℕ) (there : slice_get (lines_in outermost job.proof) i ≡ Some l) where
-  pub within : i < commands_in job.proof
-  within =
-      let less = slice_get_within (lines_in outermost job.proof) i l there in
-      let lines = lines_in_count outermost job.proof in omega arith
-
-  -- the steps of the block before its last may be added
-  pub front_may : (s : State) (old : Scope ℕ ℕ) → IsReached job old s → standing l l.command ≡ old → (m : ℕ) (a : AddedStep)
-      → slice_get (front (block_at job.blocks i)) m ≡ Some a → MayAddHere s m a
-  front_may s old reached same m a e = go (by_last job is i l there)
-    where
-      nothing : (m : ℕ) → slice_get [] m ≡ Some a → ⊥
-      nothing m e = cc
-
-      go : (block_at job.blocks i ≡ []) ⊎ IsBlockOf l (block_at job.blocks i) → MayAddHere s m a
-      go (inl none) = absurd (nothing m (subst (λ b. slice_get (front b) m ≡ Some a) none e))
-      go (inr b) =
-          may_add_here job old s m a reached (subst (λ o. MayBeAdded o m a) same (b.each m a (front_get (block_at job.blocks i) m a e)))
-
-  -- they have room, with the command behind them
-  pub front_room : (s : State) → IsReached job l.scope s → Rattle.elaborator.proofs.OldLines.Closes job.proof l.scope.nesting (suc i)
-      → next_index s.builder + (length (front (block_at job.blocks i)) + 1) < 2 ^ 32 - 1
-  front_room s reached closes =
-      let room = room_of job is l.scope.nesting (suc i) closes in
-      let next = needed_suc job is i within in
-      let index = ap (needed_to job) (index_is job.proof i l there) in
-      let before = reached.room in
-      let few = is.few in omega arith
 
 -- what the step in the place of command i asks for, and what is reached when it is written
 pub record IsStood (job : Job) (i : ℕ) (t : State) (new : Step ℕ) : Type 0 where
@@ -169,7 +58,7 @@ module _ (job : Job) (is : IsJob job) (i : ℕ) (scope : Scope ℕ ℕ) (command
   -- the commands that are visible in the proof are so here
   sees_now : All (IsPlacedIn t.places (seen_in t)) (visible scope.nesting scope.items)
   sees_now =
-      Rattle.elaborator.proofs.Levels.all_placed s t (Rattle.elaborator.proofs.Levels.extended_grows (front (block_at job.blocks i)) s t ext)
+      all_placed s t (extended_grows (front (block_at job.blocks i)) s t ext)
       (seen_in s) (seen_in t) (visible scope.nesting scope.items)
       (λ q has. subst (λ xs. Contains xs q) (sym ext.seen) (contains_left (seen_in s) ext.more_seen q has)) reached.level.sees
 
@@ -188,14 +77,84 @@ module _ (job : Job) (is : IsJob job) (i : ℕ) (scope : Scope ℕ ℕ) (command
       go (inl h) = h
       go (inr h) = absurd (true_false (sym (ap is_assume h.rule) ∙ judged_no_assume a.rule judged))
 
+  -- where a step is written, its line comes from command i
+  module _ (new : Step ℕ) (own : new.id ≡ name_of (new_name t)) where
+    abbrev u : State
+    u = one_more (add_step t.builder new) t
+
+    abbrev p : ℕ
+    p = next_index t.builder
+
+    abbrev new_line : Line ℕ ℕ
+    new_line = record { scope = t.builder; command = step new }
+
+    grows : Grows s u
+    grows =
+        grows_then s t u (extended_grows (front (block_at job.blocks i)) s t ext) (more_grows t u new.clause (more_step t new ext.tidy few own))
+
+    told : (j p : ℕ) → slice_get t.places j ≡ Some p → IsTold (lines_to u.builder) p (clause_at job.proof j)
+    told = told_on s u grows job reached.told t.places ext.places
+
+    block_is : slice_get job.blocks i ≡ Some (block_at job.blocks i)
+    block_is = block_there job.blocks i (let w = less in let count = is.blocks.count in omega arith)
+
+    module _ (same : standing (record { scope = scope; command = command }) command ≡ scope) (none : closes_at job.proof i ≡ None)
+        (number : scope_at job.proof i ≡ scope_number scope.nesting) where
+      anchored : open_anchors t.builder.nesting ≡ open_anchors scope.nesting
+      anchored =
+          ap open_anchors ext.nesting ∙ same_anchors job s scope.nesting s.builder.nesting reached.around
+
+      numbered : scope_number t.builder.nesting ≡ scope_at job.proof i
+      numbered = ap scope_number ext.nesting ∙ (reached.number ∙ sym number)
+
+      -- it stands in its place, and neither discharges anything nor closes a scope
+      in_its_place : discharged_at job.proof i ≡ [] → new.discharged ≡ [] → IsAt (t.places ++ p ∷ []) i p → IsLineInPlace job.proof (t.places ++ p ∷ []) i p new_line
+      in_its_place old_none new_none place = record {
+        place = place;
+        discharged = subst (AllZip (IsAt (t.places ++ p ∷ [])) (discharged_at job.proof i)) (sym new_none)
+            (subst (λ ds. AllZip (IsAt (t.places ++ p ∷ [])) ds []) (sym old_none) tt);
+        bindings = λ k e. absurd (nothing (sym none ∙ e));
+        last = λ k e. absurd (nothing (sym none ∙ e));
+      }
+        where
+          nothing : {k : ℕ} → None ≡ Some k → ⊥
+          nothing e = cc
+
+      kept_source : block_at job.blocks i ≡ [] → discharged_at job.proof i ≡ [] → new.discharged ≡ [] → LooksAs (lines_to u.builder) new_line (looked_at job.proof i)
+          → IsAt (t.places ++ p ∷ []) i p → LineSource job (t.places ++ p ∷ []) (lines_to u.builder) p new_line
+      kept_source empty old_none new_none looks place =
+          line_of_proof i (block_is ∙ ap (λ (b : List AddedStep). Some b) empty) (in_its_place old_none new_none place) (record { looks = looks; own = numbered; closing = sym none })
+
+      last_source : (b : IsBlockOf (record { scope = scope; command = command }) (block_at job.blocks i)) → new ≡ added_step t.places (next_index s.builder) b.last new.id []
+          → discharged_at job.proof i ≡ [] → IsAt (t.places ++ p ∷ []) i p → LineSource job (t.places ++ p ∷ []) (lines_to u.builder) p new_line
+      last_source b is_new old_none place =
+          let block = block_at job.blocks i in
+          let may : MayBeAdded scope (length block - 1) b.last = subst (λ o. MayBeAdded o (length block - 1) b.last) same (b.each (length block - 1) b.last b.is_last) in
+          line_of_last i block b.last block_is b.is_last (in_its_place old_none (ap (λ (x : Step ℕ). x.discharged) is_new) place) (record {
+            looks = looks_added (lines_to u.builder) t.places job.proof told block (next_index s.builder) (length block - 1) (omega arith) news b.last new_line (anchors_at job.proof i)
+                (ap (λ (x : Step ℕ). x.rule) is_new) (ap (λ (x : Step ℕ). x.clause) is_new) (ap (λ (x : Step ℕ). x.premises) is_new) (ap (λ (x : Step ℕ). x.pivots) is_new)
+                (ap (λ (x : Step ℕ). x.ratios) is_new) (found_may t.places (seen_in t) scope (length block - 1) b.last sees_now may) (anchored ∙ sym (anchors_are job.proof i _ there));
+            own = numbered;
+            closing = sym none;
+          })
+        where
+          news : (n : ℕ) (a : AddedStep) → n < length (block_at job.blocks i) - 1 → slice_get (block_at job.blocks i) n ≡ Some a → IsTold (lines_to u.builder) (next_index s.builder + n) a.clause
+          news n a below e =
+              let seen = ext.each n a (get_front (block_at job.blocks i) n a below e) in
+              told_more t u (more_grows t u new.clause (more_step t new ext.tidy few own)) (next_index s.builder + n) a.clause
+              (record { line = seen.line; there = seen.there; clause_is = seen.clause_is })
+
   -- a step is written that keeps the proof's command
   stood : (new : Step ℕ) (items : ProofItems ℕ ℕ) → new.id ≡ name_of (new_name t) → MayTake t.builder new
       → at scope.nesting items ≡ written_to job.proof (i + 1) → next_index (at scope.nesting items) ≡ suc i → next_scope (at scope.nesting items) ≡ next_scope scope
       → visible scope.nesting items ≡ visible scope.nesting scope.items ++ i ∷ []
       → ((c : Checking) → Keeps c scope.nesting items s.builder.nesting (with_step t.builder.items new))
       → (assumes_in scope.nesting items ≡ assumes_in scope.nesting scope.items) ⊎ (scope.nesting ≡ outermost)
-      → IsStood job i t new
-  stood new items own may written next numbers seen keeps same =
+      → new.clause ≡ clause_at job.proof i → standing (record { scope = scope; command = command }) command ≡ scope
+      → (IsAt (t.places ++ next_index t.builder ∷ []) i (next_index t.builder)
+      → LineSource job (t.places ++ next_index t.builder ∷ []) (lines_to (add_step t.builder new)) (next_index t.builder) (record { scope = t.builder; command = step new }))
+      → last_index scope.nesting items ≡ Some i → IsStood job i t new
+  stood new items own may written next numbers seen keeps same clause_same stands_here source ends =
       let u = one_more (add_step t.builder new) t in
       let m = more_step t new ext.tidy few own in
       let old_assumes = assumes_step job is scope i index less s t u new.clause reached ext m refl in
@@ -209,7 +168,8 @@ module _ (job : Job) (is : IsJob job) (i : ℕ) (scope : Scope ℕ ℕ) (command
             (elim same [
               | inl e ↦ subst (λ js. AllZip (λ j q. slice_get (t.places ++ p ∷ []) j ≡ Some q) js (assumes_in t.builder.nesting t.builder.items) ⊎ (scope.nesting ≡ outermost)) (sym e) old_assumes
               | inr outer ↦ inr outer
-            ])));
+            ])
+            clause_same (sources_front job is i (record { scope = scope; command = command }) there s t scope reached stands_here ext) source ends refl));
       }
 
 -- a step in the place of command i, behind the steps that were added before it
@@ -259,16 +219,32 @@ module _ (job : Job) (is : IsJob job) (i : ℕ) (s t : State) where
       next : next_index (at scope.nesting (with_step scope.items old)) ≡ suc i
       next = let e = index in omega arith
 
-      stood_by : (new : Step ℕ) → new.id ≡ name_of (new_name t) → MayTake t.builder new → ((c : Checking) → TakesPlace c old new) → IsStood job i t new
-      stood_by new own may takes =
+      none : closes_at job.proof i ≡ None
+      none = closes_is job.proof i (record { scope = scope; command = step old }) there
+
+      number : scope_at job.proof i ≡ scope_number scope.nesting
+      number = scope_is job.proof i (record { scope = scope; command = step old }) there
+
+      clause_old : clause_at job.proof i ≡ old.clause
+      clause_old = clause_is job.proof i (record { scope = scope; command = step old }) there
+
+      discharges_none : discharged_at job.proof i ≡ []
+      discharges_none = discharged_are job.proof i (record { scope = scope; command = step old }) there ∙ may_old.discharged
+
+      stood_by : (new : Step ℕ) → new.id ≡ name_of (new_name t) → MayTake t.builder new → ((c : Checking) → TakesPlace c old new) → new.clause ≡ old.clause
+          → (IsAt (t.places ++ next_index t.builder ∷ []) i (next_index t.builder)
+          → LineSource job (t.places ++ next_index t.builder ∷ []) (lines_to (add_step t.builder new)) (next_index t.builder) (record { scope = t.builder; command = step new }))
+          → IsStood job i t new
+      stood_by new own may takes clause source =
           stood job is i scope (step old) there s t reached ext few new (with_step scope.items old) own may
           (next_written job is i scope (step old) there s t reached ext few) next refl seen
           (λ c. step_kept scope.nesting s.builder.nesting scope.items s.builder.items t.builder.items old new (reached.level.keeps c) (ext.adds c) (takes c))
-          (inl refl)
+          (inl refl) (clause ∙ sym clause_old) refl source (ap (λ (n : ℕ). Some n) index)
 
       go : (block_at job.blocks i ≡ []) ⊎ IsBlockOf (record { scope = scope; command = step old }) (block_at job.blocks i) → IsStepStood job i s t
-      go (inl none) =
+      go (inl empty) =
           let id = name_of (new_name t) in
+          let new = moved_step t.places old id [] in
           let sees = sees_now job is i scope (step old) there s t reached ext few in
           let premises = all_placed_in t.places (seen_in t) (visible scope.nesting scope.items) old.premises sees may_old.premises in
           let same = kept_is_moved t.places job.proof i (record { scope = scope; command = step old }) old there refl id [] in
@@ -281,17 +257,22 @@ module _ (job : Job) (is : IsJob job) (i : ℕ) (s t : State) where
               discharged = refl;
             };
           } in
-          from_none none
-          (subst (All (λ j. j < length t.places)) (sym (Rattle.rule_model.proofs.LineReading.premises_are job.proof i (record { scope = scope; command = step old }) there))
-          (all_within t.places (seen_in t) old.premises premises))
-          (subst (IsStood job i t) (sym same) (stood_by (moved_step t.places old id []) refl may (λ c. moved_takes c t.places old id [])))
+          let within_old = all_within t.places (seen_in t) old.premises premises in
+          let looks = looks_kept (lines_to (add_step t.builder new)) t.places job.proof (told job is i scope (step old) there s t reached ext few new refl) i
+          (record { scope = scope; command = step old }) (record { scope = t.builder; command = step new }) there
+          (record { rule = refl; clause_is = refl; premises = refl; pivots = refl; ratios = refl }) within_old (anchored job is i scope (step old) there s t reached ext few new refl refl none number) in
+          from_none empty
+          (subst (All (λ j. j < length t.places)) (sym (premises_are job.proof i (record { scope = scope; command = step old }) there)) within_old)
+          (subst (IsStood job i t) (sym same) (stood_by new refl may (λ c. moved_takes c t.places old id []) refl
+          (kept_source job is i scope (step old) there s t reached ext few new refl refl none number empty discharges_none refl looks)))
       go (inr b) =
           let id = name_of (new_name t) in
           let now = last_now job is i scope (step old) there s t reached ext few b.last b.is_last b.judged
           (b.each (length (block_at job.blocks i) - 1) b.last b.is_last) in
           let new = added_step t.places (next_index s.builder) b.last id [] in
           from_some b.last b.is_last now.within
-          (stood_by new refl (may_take t (next_index s.builder) b.last ext.tidy few now) (λ c. added_takes c old new b.clause b.replaced b.judged))
+          (stood_by new refl (may_take t (next_index s.builder) b.last ext.tidy few now) (λ c. added_takes c old new b.clause b.replaced b.judged) b.clause
+          (last_source job is i scope (step old) there s t reached ext few new refl refl none number b refl discharges_none))
 
   -- where an assume is replaced
   assume_stood : (scope : Scope ℕ ℕ) (own_id : List ℕ) (r : ℕ) → 0 < length (block_at job.blocks i) → Written scope (assume own_id r)
@@ -327,7 +308,10 @@ module _ (job : Job) (is : IsJob job) (i : ℕ) (s t : State) where
           (assume_derived scope.items s.builder.items t.builder.items own_id r new
           (subst (λ n. Keeps c outermost scope.items n s.builder.items) outer_new (subst (λ n. Keeps c n scope.items s.builder.nesting s.builder.items) outer (reached.level.keeps c)))
           (subst (λ n. Adds c n s.builder.items t.builder.items) outer_new (ext.adds c)) b.clause (no_hole c b.last.rule b.judged))))
-          (inr outer))
+          (inr outer) (b.clause ∙ sym (clause_is job.proof i (record { scope = scope; command = assume own_id r }) there)) refl
+          (last_source job is i scope (assume own_id r) there s t reached ext few new refl refl
+          (closes_is job.proof i (record { scope = scope; command = assume own_id r }) there) (scope_is job.proof i (record { scope = scope; command = assume own_id r }) there) b refl
+          (discharged_are job.proof i (record { scope = scope; command = assume own_id r }) there)) (ap (λ (n : ℕ). Some n) index))
 
   -- a command that closes nothing
   pub stands_at : (at_line : IsAtLine job i s) → closes_at job.proof i ≡ None → (is_assume (rule_at job.proof i) ≡ false) ⊎ (0 < length (block_at job.blocks i))
@@ -340,7 +324,7 @@ module _ (job : Job) (is : IsJob job) (i : ℕ) (s t : State) where
       go scope (assume own_id r) there reached =
           elim step_or_block [
             | inl no_assume ↦
-                absurd (true_false (sym (ap is_assume (Rattle.rule_model.proofs.LineReading.rule_is job.proof i (record { scope = scope; command = assume own_id r }) there)) ∙ no_assume))
+                absurd (true_false (sym (ap is_assume (rule_is job.proof i (record { scope = scope; command = assume own_id r }) there)) ∙ no_assume))
             | inr some ↦ assume_stood scope own_id r some there reached ext few
           ]
       go scope (closing old) there reached =
@@ -366,13 +350,13 @@ module _ (job : Job) (is : IsJob job) (i : ℕ) (s : State) where
       let ext : IsExtended (front (block_at job.blocks i)) s s = subst (λ b. IsExtended (front b) s s) (sym none) (extended_none s reached.tidy) in
       let id = name_of (new_name s) in
       let u = one_more (add_assume s.builder id r) s in
-      let m = more_assume s r reached.tidy few in
+      let m = more_assume s r (r ∷ []) refl reached.tidy few in
       let p = next_index s.builder in
       let next : next_index (at scope.nesting (with_assume scope.items own_id r)) ≡ suc i = omega arith in
       let seen : visible scope.nesting (with_assume scope.items own_id r) ≡ visible scope.nesting scope.items ++ i ∷ [] =
       subst (λ k. visible scope.nesting (with_assume scope.items own_id r) ≡ visible scope.nesting scope.items ++ k ∷ []) index (visible_assume scope.nesting scope.items own_id r) in
       let place : slice_get (s.places ++ p ∷ []) (first_index scope.nesting + commands_in scope.items) ≡ Some p =
-      subst (λ k. slice_get (s.places ++ p ∷ []) k ≡ Some p) reached.places (Rattle.term_model.proofs.Lists.slice_get-last s.places p) in
+      subst (λ k. slice_get (s.places ++ p ∷ []) k ≡ Some p) reached.places (slice_get-last s.places p) in
       subst (λ o. IsReached job o (placed p u)) (next_written job is i scope (assume own_id r) there s s reached ext few)
       (reached_next job is scope i index less s s u (r ∷ []) reached ext m (with_assume scope.items own_id r) next refl seen
       (λ c. assume_kept scope.nesting s.builder.nesting scope.items s.builder.items s.builder.items own_id id r (reached.level.keeps c) (ext.adds c))
@@ -382,25 +366,53 @@ module _ (job : Job) (is : IsJob job) (i : ℕ) (s : State) where
             (subst (λ qs. AllZip (λ j q. slice_get (s.places ++ p ∷ []) j ≡ Some q) (assumes_in scope.nesting scope.items ++ (first_index scope.nesting + commands_in scope.items) ∷ []) qs)
             (sym (assumes_assume s.builder.nesting s.builder.items id r))
             (zip_push (λ j q. slice_get (s.places ++ p ∷ []) j ≡ Some q) (assumes_in scope.nesting scope.items) (assumes_in s.builder.nesting s.builder.items) _ p
-            (assumes_more s (placed p s) (Rattle.elaborator.proofs.Levels.placed_grows s p) (assumes_in scope.nesting scope.items) (assumes_in s.builder.nesting s.builder.items) zip) place)))
+            (assumes_more s (placed p s) (placed_grows s p) (assumes_in scope.nesting scope.items) (assumes_in s.builder.nesting s.builder.items) zip) place)))
         | inr outer ↦ inr outer
-      ]))
+      ])
+      (sym (clause_is job.proof i line there)) (sources_front job is i line there s s scope reached refl ext) (kept_assume s.builder.nesting (reached.number ∙ sym (scope_is job.proof i line there))
+      (same_anchors job s scope.nesting s.builder.nesting reached.around)) (ap (λ (n : ℕ). Some n) index) refl)
+    where
+      nothing : {k : ℕ} → None ≡ Some k → ⊥
+      nothing e = cc
+
+      kept_assume : (n : Nesting ℕ ℕ) → scope_number n ≡ scope_at job.proof i → open_anchors n ≡ open_anchors scope.nesting
+          → IsAt (s.places ++ next_index s.builder ∷ []) i (next_index s.builder)
+          → LineSource job (s.places ++ next_index s.builder ∷ []) (lines_to (add_assume s.builder (name_of (new_name s)) r)) (next_index s.builder)
+          (record { scope = at n s.builder.items; command = assume (name_of (new_name s)) r })
+      kept_assume n number anchored place =
+          let line : Line ℕ ℕ = record { scope = scope; command = assume own_id r } in
+          let u = one_more (add_assume s.builder (name_of (new_name s)) r) s in
+          let g = more_grows s u (r ∷ []) (more_assume s r (r ∷ []) refl reached.tidy few) in
+          let count = is.blocks.count in
+          let less = within job is i line there in
+          let closes : closes_at job.proof i ≡ None = closes_is job.proof i line there in
+          line_of_proof i (block_there job.blocks i (omega arith) ∙ ap (λ (b : List AddedStep). Some b) none) (record {
+            place = place;
+            discharged = subst (λ ds. AllZip (IsAt (s.places ++ next_index s.builder ∷ [])) ds []) (sym (discharged_are job.proof i line there)) tt;
+            bindings = λ k e. absurd (nothing (sym closes ∙ e));
+            last = λ k e. absurd (nothing (sym closes ∙ e));
+          }) (record {
+            looks = looks_kept (lines_to u.builder) s.places job.proof (told_on s u g job reached.told s.places refl) i line (record { scope = at n s.builder.items; command = assume (name_of (new_name s)) r }) there
+                (record { rule = refl; clause_is = refl; premises = refl; pivots = refl; ratios = refl }) (All-nil _) anchored;
+            own = number;
+            closing = sym closes;
+          })
 
   pub assume_stands : (at_line : IsAtLine job i s) → is_assume (rule_at job.proof i) ≡ true → block_at job.blocks i ≡ [] → next_index s.builder + 1 < 2 ^ 32 - 1
       → IsReached job (written_to job.proof (i + 1)) (placed (next_index s.builder) (one_more (add_assume s.builder (name_of (new_name s)) (slice_index (clause_at job.proof i) 0)) s))
   assume_stands at_line assumed none few = go at_line.line.scope at_line.line.command at_line.there at_line.reached
     where
-      no_step : (scope : Scope ℕ ℕ) (command : IndexedCommand ℕ) (old : Step ℕ) → Rattle.rule_model.specs.Reading.step_of command ≡ old → HasRule old
+      no_step : (scope : Scope ℕ ℕ) (command : IndexedCommand ℕ) (old : Step ℕ) → step_of command ≡ old → HasRule old
           → slice_get (lines_in outermost job.proof) i ≡ Some (record { scope = scope; command = command }) → ⊥
       no_step scope command old same has there =
-          let rule = Rattle.rule_model.proofs.LineReading.rule_is job.proof i (record { scope = scope; command = command }) there in
-          let named : rule_at job.proof i ≡ Rattle.rule_model.specs.RuleNames.rule_named old.rule_name = rule ∙ (ap (λ (x : Step ℕ). x.rule) same ∙ has.named) in
-          true_false (sym assumed ∙ (ap is_assume named ∙ Rattle.rule_model.proofs.RuleWords.named_no_assume old.rule_name))
+          let rule = rule_is job.proof i (record { scope = scope; command = command }) there in
+          let named : rule_at job.proof i ≡ rule_named old.rule_name = rule ∙ (ap (λ (x : Step ℕ). x.rule) same ∙ has.named) in
+          true_false (sym assumed ∙ (ap is_assume named ∙ named_no_assume old.rule_name))
 
       go : (scope : Scope ℕ ℕ) (command : IndexedCommand ℕ) → slice_get (lines_in outermost job.proof) i ≡ Some (record { scope = scope; command = command }) → IsReached job scope s
           → IsReached job (written_to job.proof (i + 1)) (placed (next_index s.builder) (one_more (add_assume s.builder (name_of (new_name s)) (slice_index (clause_at job.proof i) 0)) s))
       go scope (assume own_id r) there reached =
-          let clause = Rattle.rule_model.proofs.LineReading.clause_is job.proof i (record { scope = scope; command = assume own_id r }) there in
+          let clause = clause_is job.proof i (record { scope = scope; command = assume own_id r }) there in
           let first : r ≡ slice_index (clause_at job.proof i) 0 = sym (ap (λ ts. slice_index ts 0) clause) in
           subst (λ x. IsReached job (written_to job.proof (i + 1)) (placed (next_index s.builder) (one_more (add_assume s.builder (name_of (new_name s)) x) s))) first
           (assume_reached scope own_id r there reached none few)
@@ -411,4 +423,4 @@ module _ (job : Job) (is : IsJob job) (i : ℕ) (s : State) where
         where
           closes : (n : Nesting ℕ ℕ) (items : ProofItems ℕ ℕ) → MayStandHere (at n items) (closing old) → ⊥
           closes outermost items may = absurd may
-          closes (Rattle.rule_model.specs.Scopes.inside around before anchor) items may = no_step scope (closing old) old refl may.rule there
+          closes (inside around before anchor) items may = no_step scope (closing old) old refl may.rule there

@@ -8,7 +8,7 @@ use Rattle.rule_model.specs.Proofs.{Step, ProofItems, with_subproof}
 use Rattle.rule_model.specs.Scopes.{Anchor, Nesting, outermost, inside, Scope, at, next_index, next_scope}
 use Rattle.rule_model.specs.Visibility.{Sight, direct, visible_ids, open_ids}
 use Rattle.rule_model.specs.WellFormed.{IsNewId}
-use Rattle.rule_model.specs.Writing.{add_assume, add_step, open_anchor, is_open_id, take_step}
+use Rattle.rule_model.specs.Writing.{add_assume, add_step, open_anchor, is_open_id, take_step, close_scope}
 use Rattle.elaborator.specs.declared.putting.Opened.{Opened}
 use Rattle.elaborator.specs.Names.{name_of, number_of}
 use Rattle.elaborator.specs.Reached.{State, one_more, placed, new_name, IsTidy}
@@ -50,7 +50,7 @@ module _ (s : State) (h : IsTidy s) (few : next_index s.builder + 1 < 2 ^ 32 - 1
   pub stands : (step : Step ℕ) → step.id ≡ name_of (new_name s) → take_step s.builder step ≡ add_step s.builder step
   stands step e = by_test (is_open_id s.builder.nesting step.id) (ap (is_open_id s.builder.nesting) e ∙ shut)
     where
-      by_test : (b : Bool) → b ≡ false → (if b then Rattle.rule_model.specs.Writing.close_scope s.builder.nesting s.builder.items step else add_step s.builder step) ≡ add_step s.builder step
+      by_test : (b : Bool) → b ≡ false → (if b then close_scope s.builder.nesting s.builder.items step else add_step s.builder step) ≡ add_step s.builder step
       by_test true f = absurd (cc)
       by_test false f = refl
 

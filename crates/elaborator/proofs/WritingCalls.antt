@@ -1,8 +1,8 @@
 -- What the calls ask for by which a command is written.
-use Rattle.std.proofs.Common.{◌≡◌, ◌<◌, ◌+◌, ◌-◌, ◌^◌, ℕ, zero, suc, true, false, List, [], ◌∷◌, length, slice_get, slice_index, slice_index_or, Option, Some, None, Result, Ok, Err, IfOk, OnOk, refl, sym, ◌∙◌, ap, subst, arith}
+use Rattle.std.proofs.Common.{◌≡◌, ◌<◌, ◌+◌, ◌-◌, ◌^◌, ℕ, zero, suc, true, false, List, [], ◌∷◌, ◌++◌, length, slice_get, slice_index, slice_index_or, Option, Some, None, Result, Ok, Err, IfOk, OnOk, refl, sym, ◌∙◌, ap, subst, arith}
 use Rattle.std.proofs.lemmas.List.{take_all}
 use Rattle.proof_store.specs.AddedSteps.{AddedStep}
-use Rattle.rule_model.specs.Commands.{IndexedCommand, assume, step, closing, Line, lines_in}
+use Rattle.rule_model.specs.Commands.{IndexedCommand, assume, step, closing, Line, lines_around, lines_in, lines_to}
 use Rattle.rule_model.specs.Elaboration.{Keeps}
 use Rattle.rule_model.specs.Proofs.{Step, ProofItems}
 use Rattle.rule_model.specs.Reading.{is_assume, step_of, rule_at, clause_at, closes_at}
@@ -15,13 +15,14 @@ use Rattle.rule_model.proofs.RuleWords.{named_no_assume}
 use Rattle.rule_model.proofs.Standing.{command_may}
 use Rattle.elaborator.specs.Assembled.{IsAssembled}
 use Rattle.elaborator.specs.Blocks.{standing, commands_needed}
-use Rattle.elaborator.specs.Reached.{State, placed, MayAddHere, Job, IsJob, IsReached, IsAtLine, needed_to}
+use Rattle.elaborator.specs.Reached.{State, placed, MayAddHere, Job, IsJob, IsReached, IsAtLine, IsTold, LineSource, needed_to}
 use Rattle.elaborator.specs.Steps.{front, block_at, new_step, step_in_place}
 use Rattle.elaborator.specs.declared.putting.Opened.{Opened}
 use Rattle.elaborator.specs.declared.steps.NewStep.{NewStep}
 use Rattle.elaborator.proofs.Levels.{outer_forth}
 use Rattle.elaborator.proofs.OldLines.{Closes, line_closes, closes_less, index_is}
-use Rattle.elaborator.proofs.StandingSteps.{front_may, front_room, within}
+use Rattle.elaborator.proofs.FoundSources.{told_clause, all_have_sources}
+use Rattle.elaborator.proofs.InPlace.{front_may, front_room, within}
 
 -- what is written where a call succeeds
 pub ok_reached : {E : Type 0} (job : Job) (r : Result ℕ E) (old : Scope ℕ ℕ) (p : ℕ) (u v : State) → IfOk r (λ i. i ≡ p) → OnOk r (u ≡ v) → IsReached job old (placed p v)
@@ -101,6 +102,9 @@ module _ (job : Job) (is : IsJob job) (s : State) (reached : IsReached job (at o
   pub outer_now : s.builder.nesting ≡ outermost
   outer_now = outer_forth job s outermost s.builder.nesting reached.around refl
 
+  lines_now : lines_to s.builder ≡ lines_in outermost s.builder.items
+  lines_now = ap (λ n. lines_around n ++ lines_in n s.builder.items) outer_now
+
   pub assembled_is : IsWellFormed s.builder.items → IsAssembled job.proof job.blocks s.builder.items
   assembled_is formed = record {
     formed = formed;
@@ -112,6 +116,14 @@ module _ (job : Job) (is : IsJob job) (s : State) (reached : IsReached job (at o
         let count = is.blocks.count in
         let whole = ap commands_needed (take_all (commands_in job.proof) job.blocks (omega arith)) in
         let own = ap (λ n. next_index (at n s.builder.items)) outer_now in omega arith;
+    places = s.places;
+    indices = record {
+      count = let n : next_index (at outermost job.proof) ≡ commands_in job.proof = omega arith in reached.places ∙ n;
+      order = reached.order;
+      clause = λ j p e. told_clause s.builder.items p (clause_at job.proof j) (subst (λ ls. IsTold ls p (clause_at job.proof j)) lines_now (reached.told j p e));
+    };
+    sources = all_have_sources job s.places s.builder.items
+        (subst (λ ls. (k : ℕ) (line : Line ℕ ℕ) → slice_get ls k ≡ Some line → LineSource job s.places ls k line) lines_now reached.sources);
   }
 
 pub ok_assembled : {E : Type 0} (r : Result (ProofItems ℕ ℕ) E) (items proof : ProofItems ℕ ℕ) (blocks : List (List AddedStep)) → IfOk r (λ p. p ≡ items) → IfOk r (λ p. IsWellFormed p)

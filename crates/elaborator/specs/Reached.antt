@@ -1,17 +1,19 @@
 -- Private. How far the assembled proof is written.
 use Rattle.std.specs.Prelude.{◌≡◌, ◌<◌, ◌+◌, ◌-◌, ◌^◌, ◌⊎◌, ◌∷◌, ◌++◌, if◌then◌else◌}
-use Rattle.std.specs.Prelude.{ℕ, zero, suc, List, [], length, map, take, slice_get, slice_index, Some, All, Contains, ⊤}
+use Rattle.std.specs.Prelude.{ℕ, zero, suc, List, [], length, map, take, slice_get, slice_index, Option, Some, None, All, Contains, ⊤}
 use Rattle.std.specs.List.{AllZip}
 use Rattle.std.specs.Option.{option_map_or}
 use Rattle.proof_store.specs.AddedSteps.{AddedStep}
 use Rattle.proof_store.specs.declared.added.Link.{Link}
 use Rattle.rule_model.specs.declared.rules.Rule.{Rule}
-use Rattle.rule_model.specs.Commands.{Line, lines_in, lines_to}
+use Rattle.rule_model.specs.Commands.{Line, lines_in, lines_to, own_scope, closed_scope}
+use Rattle.rule_model.specs.Judged.{open_anchors, anchors_at}
 use Rattle.rule_model.specs.Elaboration.{Adds, Keeps}
 use Rattle.rule_model.specs.Proofs.{ProofItems}
-use Rattle.rule_model.specs.Reading.{clause_of, is_assume}
+use Rattle.rule_model.specs.Reading.{rule_of, clause_of, premises_of, pivots_of, ratios_of, discharged_of}
+use Rattle.rule_model.specs.Reading.{clause_at, discharged_at, scope_at, closes_at, bindings_at, last_inside_at, is_assume}
 use Rattle.rule_model.specs.RuleNames.{kind_of, IsJudged}
-use Rattle.rule_model.specs.Scopes.{Anchor, Nesting, outermost, inside, Scope, subproofs_in, scope_number, next_index, next_scope}
+use Rattle.rule_model.specs.Scopes.{Anchor, Nesting, outermost, inside, Scope, subproofs_in, scope_number, own_bindings, last_index, next_index, next_scope}
 use Rattle.rule_model.specs.Statuses.{Checking}
 use Rattle.rule_model.specs.Visibility.{visible, visible_ids, open_ids, assumes_in}
 use Rattle.rule_model.specs.WellFormed.{IsWellFormed}
@@ -23,6 +25,7 @@ use Rattle.elaborator.specs.Blocks.{IsAddedAssume, AreBlocksOf, commands_needed}
 use Rattle.elaborator.specs.Closers.{AreClosers}
 use Rattle.elaborator.specs.Links.{IsWithin, target}
 use Rattle.elaborator.specs.Names.{name_of, number_of}
+use Rattle.elaborator.specs.Sources.{Looked, looked_at, looked_of, own_anchors, IsAt, AreAt, AreInOrder}
 use Rattle.elaborator.specs.Steps.{added_step, front, block_at, blocks_in}
 
 -- What is written: the scope, the new indices of the proof's commands, for each scope where its moved steps begin and the
@@ -101,6 +104,17 @@ pub record IsSeenAs (lines : List (Line ℕ ℕ)) (list clause : List ℕ) (plac
   pub there : slice_get lines place ≡ Some line
   pub clause_is : clause_of line.command ≡ clause
 
+-- the line of an added step, where those of its block begin at a new index
+pub record IsAddedLine (s : State) (start : ℕ) (a : AddedStep) (line : Line ℕ ℕ) : Type 0 where
+  pub nesting : line.scope.nesting ≡ s.builder.nesting
+  pub own : own_scope line.scope.nesting line.command ≡ scope_number s.builder.nesting
+  pub closes : closed_scope line.scope.nesting line.command ≡ None
+  pub rule : rule_of line.command ≡ a.rule
+  pub clause_is : clause_of line.command ≡ a.clause
+  pub premises : premises_of line.command ≡ map (target s.places start) a.premises
+  pub pivots : pivots_of line.command ≡ a.pivots
+  pub ratios : ratios_of line.command ≡ None
+
 -- some steps were added to what was written before
 pub record IsExtended (added : List AddedStep) (s t : State) : Type 0 where
   pub nesting : t.builder.nesting ≡ s.builder.nesting
@@ -116,6 +130,9 @@ pub record IsExtended (added : List AddedStep) (s t : State) : Type 0 where
   pub each : (m : ℕ) (a : AddedStep) → slice_get added m ≡ Some a →
       IsSeenAs (lines_to t.builder) (seen_in t) a.clause (next_index s.builder + m)
   pub count : next_index t.builder ≡ next_index s.builder + length added
+  pub more_count : length more_lines ≡ length added
+  pub written : (m : ℕ) (a : AddedStep) → slice_get added m ≡ Some a →
+      (line : Line ℕ ℕ) × (slice_get (lines_to t.builder) (next_index s.builder + m) ≡ Some line) × IsAddedLine s (next_index s.builder) a line
 
 -- what is to be assembled
 pub record Job : Type 0 where
@@ -133,6 +150,54 @@ pub record IsJob (job : Job) : Type 0 where
   pub few : commands_needed job.blocks < 2 ^ 32 - 1
   pub few_scopes : subproofs_in job.proof < 2 ^ 32 - 2
 
+-- a new index is that of a command with this clause
+pub record IsTold (lines : List (Line ℕ ℕ)) (place : ℕ) (clause : List ℕ) : Type 0 where
+  pub line : Line ℕ ℕ
+  pub there : slice_get lines place ≡ Some line
+  pub clause_is : clause_of line.command ≡ clause
+
+-- this is what the rule of the line's command looks at
+pub record LooksAs (lines : List (Line ℕ ℕ)) (line : Line ℕ ℕ) (x : Looked) : Type 0 where
+  pub rule : rule_of line.command ≡ x.rule
+  pub clause_is : clause_of line.command ≡ x.clause
+  pub premises : AllZip (IsTold lines) (premises_of line.command) x.premises
+  pub pivots : pivots_of line.command ≡ x.pivots
+  pub ratios : ratios_of line.command ≡ x.ratios
+  pub anchors : open_anchors line.scope.nesting ≡ x.anchors
+
+-- it looks at this, in the scope of this number, and closes that scope, or none
+pub record IsLineFrom (lines : List (Line ℕ ℕ)) (line : Line ℕ ℕ) (x : Looked) (scope : ℕ) (closes : Option ℕ) : Type 0 where
+  pub looks : LooksAs lines line x
+  pub own : own_scope line.scope.nesting line.command ≡ scope
+  pub closing : closed_scope line.scope.nesting line.command ≡ closes
+
+-- it stands in the place of a command of the proof: it discharges what that one does, and closes a scope that is alike
+pub record IsLineInPlace (proof : ProofItems ℕ ℕ) (places : List ℕ) (i p : ℕ) (line : Line ℕ ℕ) : Type 0 where
+  pub place : IsAt places i p
+  pub discharged : AllZip (IsAt places) (discharged_at proof i) (discharged_of line.command)
+  pub bindings : (k : ℕ) → closes_at proof i ≡ Some k → own_bindings line.scope.nesting ≡ bindings_at proof k
+  pub last : (k : ℕ) → closes_at proof i ≡ Some k → AreAt places (last_inside_at proof k) (last_index line.scope.nesting line.scope.items)
+
+-- where the command of the line of an index comes from
+pub data LineSource (job : Job) (places : List ℕ) (lines : List (Line ℕ ℕ)) (p : ℕ) (line : Line ℕ ℕ) : Type 0 where
+  line_of_proof : (i : ℕ) → slice_get job.blocks i ≡ Some [] → IsLineInPlace job.proof places i p line →
+      IsLineFrom lines line (looked_at job.proof i) (scope_at job.proof i) (closes_at job.proof i) → LineSource job places lines p line
+  line_of_block : (i number : ℕ) (block : List AddedStep) (a : AddedStep) → slice_get job.blocks i ≡ Some block →
+      slice_get block number ≡ Some a → number + 1 < length block →
+      IsLineFrom lines line (looked_of job.proof block (own_anchors job.proof i) a) (scope_at job.proof i) None →
+      LineSource job places lines p line
+  line_of_last : (i : ℕ) (block : List AddedStep) (a : AddedStep) → slice_get job.blocks i ≡ Some block →
+      slice_get block (length block - 1) ≡ Some a → IsLineInPlace job.proof places i p line →
+      IsLineFrom lines line (looked_of job.proof block (anchors_at job.proof i) a) (scope_at job.proof i) (closes_at job.proof i) →
+      LineSource job places lines p line
+
+-- at each new index stands a command with the clause of the proof's, and each line has a source
+abbrev pub AreTold : Job → State → Type 0
+AreTold job s = (j p : ℕ) → slice_get s.places j ≡ Some p → IsTold (lines_to s.builder) p (clause_at job.proof j)
+
+abbrev pub AreSourced : Job → State → Type 0
+AreSourced job s = (k : ℕ) (line : Line ℕ ℕ) → slice_get (lines_to s.builder) k ≡ Some line → LineSource job s.places (lines_to s.builder) k line
+
 -- a scope of the proof and what is written of it correspond
 pub record IsLevel (proof : ProofItems ℕ ℕ) (s : State) (old_nesting : Nesting ℕ ℕ) (old : ProofItems ℕ ℕ) (nesting : Nesting ℕ ℕ)
     (items : ProofItems ℕ ℕ) : Type 0 where
@@ -140,6 +205,7 @@ pub record IsLevel (proof : ProofItems ℕ ℕ) (s : State) (old_nesting : Nesti
   pub sees : All (λ j. IsPlacedIn s.places (visible nesting items) j) (visible old_nesting old)
   pub assumes : AllZip (λ j p. slice_get s.places j ≡ Some p) (assumes_in old_nesting old) (assumes_in nesting items)
       ⊎ (old_nesting ≡ outermost)
+  pub last : AreAt s.places (last_index old_nesting old) (last_index nesting items)
 
 -- the index of the step that closes a scope
 abbrev pub closer_of : Job → Nesting ℕ ℕ → ℕ
@@ -154,6 +220,7 @@ pub record IsOpened (job : Job) (s : State) (old_around : Nesting ℕ ℕ) (old_
   pub sees : (j : ℕ) → Contains (visible around kept) j → Contains (visible around before) j
   pub assumes : assumes_in around before ≡ assumes_in around kept ⊎ (around ≡ outermost)
   pub bindings : anchor.bindings ≡ old_anchor.bindings
+  pub number : scope_number around ≡ scope_number old_around
   pub opened : Opened
   pub is_opened : slice_get s.opened (scope_number (inside old_around old_before old_anchor)) ≡ Some opened
   pub id : anchor.id ≡ name_of opened.name
@@ -184,6 +251,10 @@ pub record IsReached (job : Job) (old : Scope ℕ ℕ) (s : State) : Type 0 wher
   pub level : IsLevel job.proof s old.nesting old.items s.builder.nesting s.builder.items
   pub places : length s.places ≡ next_index old
   pub opened : length s.opened ≡ next_scope old
+  pub number : scope_number s.builder.nesting ≡ scope_number old.nesting
+  pub order : AreInOrder s.places
+  pub told : AreTold job s
+  pub sources : AreSourced job s
   pub room : next_index s.builder ≡ needed_to job (next_index old) + ahead job old.nesting
 
 -- from a scope, as far as it is written, only anchors are opened up to another

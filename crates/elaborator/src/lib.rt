@@ -4,6 +4,7 @@
 mod assembling;
 mod blocks;
 mod closers;
+mod making;
 mod naming;
 mod opening;
 mod placing;
@@ -13,4 +14,5 @@ mod stops;
 mod writing;
 
 pub use assembling::assemble;
+pub use making::{Elaborate, pieces};
 pub use stops::AssembleStop;

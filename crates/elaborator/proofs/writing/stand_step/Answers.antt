@@ -1,11 +1,11 @@
-use Rattle.std.proofs.Common.{◌≡◌, ◌<◌, ◌+◌, ◌-◌, ◌^◌, [], length, slice_get, Some, sym, ◌∙◌, ap, subst, arith}
+use Rattle.std.proofs.Common.{◌≡◌, ◌+◌, [], length, slice_get, Some, ◌∙◌, ap, subst, arith}
 use Rattle.rule_model.specs.Scopes.{next_index}
-use Rattle.rule_model.specs.Writing.{take_step, MayTake}
+use Rattle.rule_model.specs.Writing.{take_step}
 use Rattle.elaborator.specs.Names.{name_of}
-use Rattle.elaborator.specs.Reached.{state_of, job_of, new_name, one_more, IsExtended, written_to}
-use Rattle.elaborator.specs.Steps.{front, block_at, last_of, new_step, step_in_place, IsInPlace}
-use Rattle.elaborator.proofs.StandingSteps.{stands_at}
+use Rattle.elaborator.specs.Reached.{state_of, job_of, one_more, written_to}
+use Rattle.elaborator.specs.Steps.{front, block_at, new_step}
 use Rattle.elaborator.proofs.WritingCalls.{ok_reached, within_now, block_now, front_may_now, front_few_now}
+use Rattle.elaborator.proofs.WrittenSteps.{standing_now}
 use Rattle.elaborator.proofs.writing.stand_step.Goals as goal
 
 pub block-requires : goal.block-requires
@@ -39,65 +39,36 @@ in_place-requires-clause-block c =
 pub in_place-requires-clause-may : goal.in_place-requires-clause-may
 in_place-requires-clause-may c =
     let job = job_of c.args.parts.now in
-    let is = c.requires.job in
     let s = state_of c.args.written.now in
-    let fr : c.front.result.now ≡ front (block_at job.blocks c.args.i) = c.front.ensures ∙ ap (λ xs. front xs) c.block.ensures in
     let t = state_of c.add_all.new.written in
-    let ext : IsExtended (front (block_at job.blocks c.args.i)) s t = subst (λ xs. IsExtended xs s t) fr c.in_ok-start.ensures.extended in
-    let room = front_few_now job is c.args.i s c.requires.at_line c.requires.stands in
-    let few : next_index t.builder + 1 < 2 ^ 32 - 1 = (let n = ext.count in omega arith) in
-    let stood = stands_at job is c.args.i s t c.requires.at_line c.requires.stands c.requires.step ext few in
-    subst (λ n. IsInPlace t.places job.proof c.args.i n (last_of (block_at job.blocks c.args.i))) (sym c.in_ok-start.ensures.start) stood.in_place
+    let moved : c.front.result.now ≡ front (block_at job.blocks c.args.i) = c.front.ensures ∙ ap (λ xs. front xs) c.block.ensures in
+    (standing_now job c.requires.job c.args.i s t c.requires.at_line c.requires.stands c.requires.step c.front.result.now c.in_ok-start.start moved c.in_ok-start.ensures.extended
+    c.in_ok-start.ensures.start).in_place
 
 pub put-requires-clause-may : goal.put-requires-clause-may
 put-requires-clause-may c =
     let job = job_of c.args.parts.now in
-    let is = c.requires.job in
     let s = state_of c.args.written.now in
-    let fr : c.front.result.now ≡ front (block_at job.blocks c.args.i) = c.front.ensures ∙ ap (λ xs. front xs) c.block.ensures in
     let t = state_of c.add_all.new.written in
-    let ext : IsExtended (front (block_at job.blocks c.args.i)) s t = subst (λ xs. IsExtended xs s t) fr c.in_ok-start.ensures.extended in
-    let room = front_few_now job is c.args.i s c.requires.at_line c.requires.stands in
-    let few : next_index t.builder + 1 < 2 ^ 32 - 1 = (let n = ext.count in omega arith) in
-    let stood = stands_at job is c.args.i s t c.requires.at_line c.requires.stands c.requires.step ext few in
-    let o = last_of (block_at job.blocks c.args.i) in
-    let named : c.id_of-id.result ≡ name_of (new_name t) = c.id_of-id.ensures ∙ ap name_of c.new_name.ensures in
-    let same : new_step c.in_ok-step.step c.id_of-id.result [] ≡ step_in_place t.places job.proof c.args.i (next_index s.builder) o (name_of (new_name t)) [] =
-    c.in_ok-step.ensures c.id_of-id.result []
-    ∙ (ap (λ n. step_in_place t.places job.proof c.args.i n o c.id_of-id.result []) c.in_ok-start.ensures.start
-    ∙ ap (λ x. step_in_place t.places job.proof c.args.i (next_index s.builder) o x []) named) in
-    subst (MayTake t.builder) (sym same) stood.stood.may
+    let moved : c.front.result.now ≡ front (block_at job.blocks c.args.i) = c.front.ensures ∙ ap (λ xs. front xs) c.block.ensures in
+    let now = standing_now job c.requires.job c.args.i s t c.requires.at_line c.requires.stands c.requires.step c.front.result.now c.in_ok-start.start moved c.in_ok-start.ensures.extended c.in_ok-start.ensures.start in
+    (now.stood c.in_ok-step.step c.id_of-id.result c.in_ok-step.ensures (c.id_of-id.ensures ∙ ap name_of c.new_name.ensures)).may
 
 pub put-requires-clause-few : goal.put-requires-clause-few
 put-requires-clause-few c =
     let job = job_of c.args.parts.now in
-    let is = c.requires.job in
     let s = state_of c.args.written.now in
-    let fr : c.front.result.now ≡ front (block_at job.blocks c.args.i) = c.front.ensures ∙ ap (λ xs. front xs) c.block.ensures in
     let t = state_of c.add_all.new.written in
-    let ext : IsExtended (front (block_at job.blocks c.args.i)) s t = subst (λ xs. IsExtended xs s t) fr c.in_ok-start.ensures.extended in
-    let room = front_few_now job is c.args.i s c.requires.at_line c.requires.stands in
-    let few : next_index t.builder + 1 < 2 ^ 32 - 1 = (let n = ext.count in omega arith) in
-    let stood = stands_at job is c.args.i s t c.requires.at_line c.requires.stands c.requires.step ext few in
-    few
+    let moved : c.front.result.now ≡ front (block_at job.blocks c.args.i) = c.front.ensures ∙ ap (λ xs. front xs) c.block.ensures in
+    (standing_now job c.requires.job c.args.i s t c.requires.at_line c.requires.stands c.requires.step c.front.result.now c.in_ok-start.start moved c.in_ok-start.ensures.extended
+    c.in_ok-start.ensures.start).few
 
 pub returns : goal.returns
 returns c =
     let job = job_of c.args.parts.now in
-    let is = c.requires.job in
     let s = state_of c.args.written.now in
-    let fr : c.front.result.now ≡ front (block_at job.blocks c.args.i) = c.front.ensures ∙ ap (λ xs. front xs) c.block.ensures in
     let t = state_of c.add_all.new.written in
-    let ext : IsExtended (front (block_at job.blocks c.args.i)) s t = subst (λ xs. IsExtended xs s t) fr c.in_ok-start.ensures.extended in
-    let room = front_few_now job is c.args.i s c.requires.at_line c.requires.stands in
-    let few : next_index t.builder + 1 < 2 ^ 32 - 1 = (let n = ext.count in omega arith) in
-    let stood = stands_at job is c.args.i s t c.requires.at_line c.requires.stands c.requires.step ext few in
-    let o = last_of (block_at job.blocks c.args.i) in
-    let named : c.id_of-id.result ≡ name_of (new_name t) = c.id_of-id.ensures ∙ ap name_of c.new_name.ensures in
-    let same : new_step c.in_ok-step.step c.id_of-id.result [] ≡ step_in_place t.places job.proof c.args.i (next_index s.builder) o (name_of (new_name t)) [] =
-    c.in_ok-step.ensures c.id_of-id.result []
-    ∙ (ap (λ n. step_in_place t.places job.proof c.args.i n o c.id_of-id.result []) c.in_ok-start.ensures.start
-    ∙ ap (λ x. step_in_place t.places job.proof c.args.i (next_index s.builder) o x []) named) in
+    let moved : c.front.result.now ≡ front (block_at job.blocks c.args.i) = c.front.ensures ∙ ap (λ xs. front xs) c.block.ensures in
+    let now = standing_now job c.requires.job c.args.i s t c.requires.at_line c.requires.stands c.requires.step c.front.result.now c.in_ok-start.start moved c.in_ok-start.ensures.extended c.in_ok-start.ensures.start in
     ok_reached job c.put.result (written_to job.proof (c.args.i + 1)) (next_index t.builder) (state_of c.put.new.written) (one_more (take_step t.builder (new_step c.in_ok-step.step c.id_of-id.result [])) t)
-    c.put.ensures.index c.put.ensures.written
-    (subst (λ x. Rattle.elaborator.specs.Reached.IsReached job (written_to job.proof (c.args.i + 1)) (Rattle.elaborator.specs.Reached.placed (next_index t.builder) (one_more (take_step t.builder x) t))) (sym same) stood.stood.reached)
+    c.put.ensures.index c.put.ensures.written (now.stood c.in_ok-step.step c.id_of-id.result c.in_ok-step.ensures (c.id_of-id.ensures ∙ ap name_of c.new_name.ensures)).reached

@@ -1,0 +1,29 @@
+use Rattle.elaborator.proofs.MadeBlocks.{made_pushed, places_both}
+use Rattle.elaborator.proofs.making.blocks_by.Goals as goal
+
+pub returns-in_err-block-clause-places : goal.returns-in_err-block-clause-places
+returns-in_err-block-clause-places g c =
+    let elaborate = c.args.elaborate.now in
+    let proof = c.args.proof.now in
+    places_both (g.E.Elaborate.symbols elaborate) (g.E.Elaborate.places elaborate proof) (c.more_may_be_known.ensures.places proof) c.args.terms.now c.commands.terms c.steps.new.terms
+    c.commands.invariant.places c.steps.ensures.places
+
+pub returns-in_err-append-clause-places : goal.returns-in_err-append-clause-places
+returns-in_err-append-clause-places g c =
+    let elaborate = c.args.elaborate.now in
+    let proof = c.args.proof.now in
+    places_both (g.E.Elaborate.symbols elaborate) (g.E.Elaborate.places elaborate proof) (c.more_may_be_known.ensures.places proof) c.args.terms.now c.commands.terms c.steps.new.terms
+    c.commands.invariant.places c.steps.ensures.places
+
+pub commands-preserved : goal.commands-preserved
+commands-preserved g c =
+    let elaborate = c.args.elaborate.now in
+    let proof = c.args.proof.now in
+    let more = c.steps.ensures.places.keeps in
+    record {
+      places = places_both (g.E.Elaborate.symbols elaborate) (g.E.Elaborate.places elaborate proof) (c.more_may_be_known.ensures.places proof) c.args.terms.now c.commands.terms c.steps.new.terms
+          c.commands.invariant.places c.steps.ensures.places;
+      fits = c.more_may_be_known.ensures.fits proof c.commands.terms c.steps.new.terms more c.commands.invariant.fits;
+      made = made_pushed (g.E.Elaborate.says elaborate proof c.commands.terms) (g.E.Elaborate.says elaborate proof c.steps.new.terms) c.commands.i c.commands.blocks.items c.append.new.list.items
+          c.in_ok-block.block (λ i b x. c.more_may_be_known.ensures.says proof c.commands.terms c.steps.new.terms i b more x) c.commands.invariant.made c.in_ok-block.ensures.says c.in_ok-append.ensures;
+    }

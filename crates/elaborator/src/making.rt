@@ -1,0 +1,110 @@
+//! The steps that are added for each command, as the caller makes them.
+
+ghost use Rattle.std.specs.Prelude.{◌≡◌, ◌<◌, ◌++◌, ◌∷◌, [], ℕ, List, map, IfOk, IfErr, OnOk};
+ghost use Rattle.elaborator.specs.Blocks.{blocks_of};
+ghost use Rattle.elaborator.specs.Pieces.{AreMadeBy, PlacesOnly};
+ghost use Rattle.proof_store.specs.AddedSteps.{AddedStep};
+ghost use Rattle.rule_model.specs.Proofs.{ProofItems};
+ghost use Rattle.rule_model.specs.Scopes.{commands_in};
+ghost use Rattle.sym_table.specs.Table.{Table};
+ghost use Rattle.term_model.specs.Terms.{Term};
+ghost use Rattle.term_parts.specs.declared.answers.RuleStop.TheVariants as RuleStop;
+ghost use Rattle.term_pool.specs.Placing.{LacksCellOf};
+ghost use Rattle.term_pool.specs.Views.{TermsView, KeepsTerms};
+
+use pair_pool::Memory;
+use proof_store::{Added, Proof};
+use std::alloc::Global;
+use term_parts::RuleStop;
+use term_pool::Terms;
+
+/// Makes the steps that are added for a command.
+pub trait Elaborate {
+    /// The symbols of its terms.
+    ghost symbols: { Self → Table };
+
+    /// It can be asked about the commands of this proof, over terms of which so much is known.
+    ghost fits: { Self → ProofItems ℕ ℕ → TermsView → Type 0 };
+
+    /// What is said of the steps that are added for the command of an index, by what is known of the terms.
+    ghost says: { Self → ProofItems ℕ ℕ → TermsView → ℕ → List AddedStep → Type 0 };
+
+    /// The terms of which it may place cells, by what is known of the terms.
+    ghost places: { Self → ProofItems ℕ ℕ → TermsView → Term → Type 0 };
+
+    /// The steps that are added for command `i`, or none. Refuses where the pool had no room for a cell that may be placed, or
+    /// out of memory.
+    fn steps(
+        &self,
+        alloc: Global,
+        proof: &Proof,
+        i: u32,
+        terms: &mut Terms<'_>,
+    ) -> Result<Vec<Added>, RuleStop>
+        requires inside { i < commands_in proof.now }
+        requires fits { fits self.now proof.now terms.old }
+        ensures says { IfOk result (λ block. says self.now proof.now terms.new i block.items) }
+        ensures places { PlacesOnly (symbols self.now) (places self.now proof.now) terms.old terms.new }
+        ensures full { IfErr result (λ stop. stop ≡ RuleStop.PoolFull →
+            LacksCellOf (symbols self.now) terms.new.pass (places self.now proof.now terms.new)) };
+
+    /// A law: what fits, is said and may be placed where so much is known, is so where more is known. The call does nothing.
+    fn more_may_be_known(&self)
+        ensures fits { (proof : ProofItems ℕ ℕ) (old new : TermsView) → KeepsTerms old new → fits self.now proof old → fits self.now proof new }
+        ensures says { (proof : ProofItems ℕ ℕ) (old new : TermsView) (i : ℕ) (block : List AddedStep) → KeepsTerms old new →
+            says self.now proof old i block → says self.now proof new i block }
+        ensures places { (proof : ProofItems ℕ ℕ) (old new : TermsView) (t : Term) → KeepsTerms old new →
+            places self.now proof old t → places self.now proof new t };
+}
+
+/// Puts an item at the end.
+fn append<T: Drop>(list: &mut Vec<T>, item: T) -> Result<(), Memory>
+    ensures { OnOk result (list.new.items ≡ list.old.items ++ item ∷ []) }
+{
+    list.push(item)?;
+    Ok(())
+}
+
+/// The steps that are added for each command, in file order.
+fn blocks_by<E: Elaborate>(
+    alloc: Global,
+    elaborate: &E,
+    proof: &Proof,
+    terms: &mut Terms<'_>,
+) -> Result<Vec<Vec<Added>>, RuleStop>
+    requires fits { E.fits elaborate.now proof.now terms.old }
+    ensures made { IfOk result (λ list. AreMadeBy (E.says elaborate.now proof.now terms.new) (commands_in proof.now)
+        (map (λ block. block.items) list.items)) }
+    ensures places { PlacesOnly (E.symbols elaborate.now) (E.places elaborate.now proof.now) terms.old terms.new }
+    ensures full { IfErr result (λ stop. stop ≡ RuleStop.PoolFull →
+        LacksCellOf (E.symbols elaborate.now) terms.new.pass (E.places elaborate.now proof.now terms.new)) }
+{
+    elaborate.more_may_be_known();
+    let mut blocks = Vec::new(alloc);
+    'commands: for i in 0..proof.count() {
+        let block = elaborate.steps(alloc, proof, i, terms)?;
+        append(&mut blocks, block)?;
+    }
+    Ok(blocks)
+}
+
+/// The steps that are added for each command of a proof, in file order, as `elaborate` makes them: one piece for `assemble`.
+///
+/// Refuses where `elaborate` does, and out of memory. It asks once for each command.
+pub fn pieces<E: Elaborate>(
+    alloc: Global,
+    elaborate: &E,
+    proof: &Proof,
+    terms: &mut Terms<'_>,
+) -> Result<Vec<Vec<Vec<Added>>>, RuleStop>
+    requires fits { E.fits elaborate.now proof.now terms.old }
+    ensures made { IfOk result (λ list. AreMadeBy (E.says elaborate.now proof.now terms.new) (commands_in proof.now) (blocks_of list.items)) }
+    ensures places { PlacesOnly (E.symbols elaborate.now) (E.places elaborate.now proof.now) terms.old terms.new }
+    ensures full { IfErr result (λ stop. stop ≡ RuleStop.PoolFull →
+        LacksCellOf (E.symbols elaborate.now) terms.new.pass (E.places elaborate.now proof.now terms.new)) }
+{
+    let blocks = blocks_by(alloc, elaborate, proof, terms)?;
+    let mut list = Vec::new(alloc);
+    append(&mut list, blocks)?;
+    Ok(list)
+}
