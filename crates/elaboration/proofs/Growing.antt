@@ -1,0 +1,72 @@
+-- What is said of steps and of a proof stays so where more is known of the terms.
+use Rattle.std.proofs.Common.{ℕ, List, inl, inr, map}
+use Rattle.sym_table.specs.Table.{Table}
+use Rattle.sym_table.proofs.Tables.{keeps_table}
+use Rattle.term_model.proofs.Zips.{zip_weaken}
+use Rattle.term_model.specs.Terms.{Var, Term}
+use Rattle.term_pool.specs.Views.{TermsView, KeepsTerms, RefersTo, ReferToAll}
+use Rattle.proof_store.specs.AddedSteps.{AddedStep}
+use Rattle.proof_store.specs.Meaning.{IsPivotOf, StandForItems}
+use Rattle.proof_store.proofs.MeaningLemmas.{items_stay}
+use Rattle.rule_model.specs.declared.statuses.Status.{Status}
+use Rattle.rule_model.specs.Proofs.{ProofItems}
+use Rattle.elab_resolution.specs.Adding.{linked_clause}
+use Rattle.elaboration.specs.Elaborated.{IsPlacedFor}
+use Rattle.elaboration.specs.Replaced.{CanBeReplaced, IsKeptOrReplaced, IsReplacement, IsTermStep}
+
+module _ (s : Table) (v w : TermsView) (keeps : KeepsTerms v w) where
+  refers_later : (r : ℕ) (t : Term) → RefersTo s v r t → RefersTo s w r t
+  refers_later r t h = record { tree = h.tree; known = keeps.pass.grows r h.tree h.known; stands = h.stands }
+
+  pub refer_later : (rs : List ℕ) (ts : List Term) → ReferToAll s v rs ts → ReferToAll s w rs ts
+  refer_later rs ts h = zip_weaken (RefersTo s v) (RefersTo s w) refers_later rs ts h
+
+  pub stand_later : (refs : ProofItems ℕ ℕ) (proof : ProofItems Var Term) → StandForItems s v refs proof → StandForItems s w refs proof
+  stand_later refs proof h = items_stay s s v w (keeps_table s) refers_later refs proof h
+
+  step_later : (refs : ProofItems ℕ ℕ) (proof : ProofItems Var Term) (i : ℕ) (before : List AddedStep) (a : AddedStep)
+      → IsTermStep s v refs proof i before a → IsTermStep s w refs proof i before a
+  step_later refs proof i before a h = record {
+    links = h.links;
+    rule = h.rule;
+    clause = h.clause;
+    clause_refers = refer_later a.clause h.clause h.clause_refers;
+    truths = h.truths;
+    near = h.near;
+    pivots = h.pivots;
+    pivots_refer =
+        zip_weaken (IsPivotOf s v) (IsPivotOf s w) (λ p q x. record { term = refers_later p.0 q.0 x.term; truth = x.truth }) a.pivots h.pivots h.pivots_refer;
+    near_pivots = h.near_pivots;
+    premises = h.premises;
+    premises_refer =
+        zip_weaken (ReferToAll s v) (ReferToAll s w) refer_later (map (linked_clause refs before) a.premises) h.premises h.premises_refer;
+    met = h.met;
+  }
+
+  module _ (refs : ProofItems ℕ ℕ) (strict : List Status) where
+    abbrev pub can_later : CanBeReplaced s v refs strict → CanBeReplaced s w refs strict
+    can_later h = record {
+      proof = h.proof;
+      stand = stand_later refs h.proof h.stand;
+      short = h.short;
+      sorted = h.sorted;
+      count = h.count;
+      whole = h.whole;
+      met = h.met;
+    }
+
+    replacement_later : (i : ℕ) (block : List AddedStep) → IsReplacement s v refs strict i block → IsReplacement s w refs strict i block
+    replacement_later i block h = record {
+      proof = h.proof;
+      stand = stand_later refs h.proof h.stand;
+      short = h.short;
+      each = λ k a e. step_later refs h.proof i _ a (h.each k a e);
+      ends = h.ends;
+    }
+
+    pub said_later : (i : ℕ) (block : List AddedStep) → IsKeptOrReplaced s v refs strict i block → IsKeptOrReplaced s w refs strict i block
+    said_later i block (inl kept) = inl kept
+    said_later i block (inr h) = inr (replacement_later i block h)
+
+    pub placed_later : (t : Term) → IsPlacedFor s v refs strict t → IsPlacedFor s w refs strict t
+    placed_later t h = record { proof = h.proof; stand = stand_later refs h.proof h.stand; index = h.index; replaced = h.replaced; near = h.near }

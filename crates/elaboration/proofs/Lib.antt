@@ -1,0 +1,15 @@
+mod TermSteps
+mod Growing
+mod Rules
+mod BlockLemmas
+mod StrictSteps
+mod Roots
+mod ClosedRoots
+mod FittingSteps
+mod Whole
+mod LeftOutLemmas
+mod OneCommand
+mod MadeElaboration
+mod OverLines
+mod OverNear
+mod OverSteps

@@ -1,0 +1,13 @@
+//! Elaborated proofs: each resolution that does not meet its condition in strict mode is replaced by steps that do.
+//!
+//! - `elaborating`: the call.
+//! - `leaving_out`: whether a command of another rule is not strict, and `replacing`: the steps that are added for a command.
+#![tactic(auto)]
+
+mod elaborating;
+mod leaving_out;
+mod replacing;
+mod stops;
+
+pub use elaborating::{Checked, elaborated};
+pub use stops::ElabStop;
