@@ -1,0 +1,6 @@
+pub mod Commands
+pub mod Cutting
+pub mod Digits
+pub mod Filling
+pub mod Runs
+pub mod WholeTexts
