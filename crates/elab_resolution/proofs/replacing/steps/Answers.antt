@@ -1,4 +1,4 @@
-use Rattle.std.proofs.Common.{◌≡◌, ◌<◌, ◌^◌, ℕ, List, length, map, refl, sym, ◌∙◌, ap, subst, arith}
+use Rattle.std.proofs.Common.{◌≡◌, ◌+◌, ◌≤◌, ◌<◌, ◌^◌, ℕ, List, length, map, refl, sym, ◌∙◌, ap, subst, arith}
 use Rattle.std.proofs.lemmas.List.{length-map}
 use Rattle.std.specs.Borrow.{Bor}
 use Rattle.sym_table.specs.Table.{Table}
@@ -12,6 +12,7 @@ use Rattle.rule_model.specs.Proofs.{ProofItems}
 use Rattle.rule_model.specs.Reading.{clause_at, premise_clauses, premises_at}
 use Rattle.proof_store.specs.AddedSteps.{AddedStep}
 use Rattle.chain_plan.specs.Plans.{PlannedStep}
+use Rattle.elab_resolution.specs.Adding.{AreAddedFor, AreNear, EndsInClause, nots_at_step, roots_at}
 use Rattle.elab_resolution.specs.Levels.{numbered}
 use Rattle.elab_resolution.specs.Loaded.{added_for}
 use Rattle.elab_resolution.specs.Plannable.{IsLoaded, ReferToStep}
@@ -120,178 +121,75 @@ added_is refs read truth premises seen steps taken added e a b d =
     e ∙ (ap (λ rs. map (added_for rs truth seen) taken) a
     ∙ (ap (λ ps. map (added_for refs truth ps) taken) b ∙ ap (map (added_for refs truth premises)) d))
 
+-- what is known where the steps are returned, of a proof for which the references stand
+module _ (c : goal.After-drop-premises-2) (of : ProofItems Var Term) (stand : StandForItems c.args.symbols.now c.args.terms.now c.args.proof.now of) where
+  abbrev s : Table
+  s = c.args.symbols.now
+
+  abbrev v : TermsView
+  v = c.args.terms.now
+
+  abbrev w : TermsView
+  w = c.load.new.terms
+
+  keeps : KeepsTerms v w
+  keeps = subst (λ y. KeepsTerms y w) c.in_ok-find_trail.ensures.same c.in_ok-loaded.ensures.keeps
+
+  one : AreOne s w
+  one = c.equal_exactly_where_terms_are.ensures s c.leaves_differ.ensures.table
+
+  clauses : (m : ℕ) → ReferToAll s w (clause_at c.args.proof.now m) (clause_at of m)
+  clauses m =
+      c.terms_correspond.ensures.clause s w c.args.proof.now of m (c.proofs_stay.ensures s s v w c.args.proof.now of (keeps_table s) keeps stand)
+
+  loaded : IsLoaded s w (premise_clauses of c.args.i) (clause_at of c.args.i) c.clause-clause.result.now c.in_ok-loaded.loaded
+  loaded =
+      c.in_ok-loaded.ensures.loaded (premise_clauses of c.args.i) (clause_at of c.args.i)
+      (given_at s v c.find_trail.new.terms c.in_ok-find_trail.ensures.same c.premise_clauses.new.list.items c.deref-2.result.now (premise_clauses of c.args.i)
+      c.deref-2.ensures.value (c.in_ok-premise_clauses.ensures.stand s v of stand))
+      (goal_at s v c.find_trail.new.terms c.in_ok-find_trail.ensures.same (clause_at c.args.proof.now c.args.i) c.clause-clause.result.now
+      (clause_at of c.args.i)
+      c.clause-clause.ensures (c.terms_correspond.ensures.clause s v c.args.proof.now of c.args.i stand))
+
+  is : c.in_ok-added.added.items ≡ map (added_for c.in_ok-loaded.loaded.refs.items c.in_ok-loaded.loaded.truth (premises_at c.args.proof.now c.args.i))
+      c.in_ok-planned.planned.items
+  is =
+      added_is c.in_ok-loaded.loaded.refs.items c.deref-3.result.now c.in_ok-loaded.loaded.truth (premises_at c.args.proof.now c.args.i) c.premises.result.now
+      c.in_ok-planned.planned.items c.deref-4.result.now c.in_ok-added.added.items c.in_ok-added.ensures c.deref-3.ensures.value c.premises.ensures
+      c.deref-4.ensures.value
+
+  premises : premises_at c.args.proof.now c.args.i ≡ premises_at of c.args.i
+  premises = c.commands_correspond.ensures.premises s v c.args.proof.now of c.args.i stand
+
+  added_here : AreAddedFor s w c.args.proof.now c.args.i c.in_ok-added.added.items
+  added_here =
+      are_added s w one c.args.proof.now of c.args.i clauses premises c.in_ok-loaded.loaded c.clause-clause.result.now loaded
+      c.in_ok-planned.planned.items c.in_ok-added.added.items is (c.requires.resolves of stand) c.in_ok-planned.ensures.rules
+      (c.in_ok-planned.ensures.met (numbered loaded.terms) loaded.named)
+
+  ends_here : EndsInClause (clause_at c.args.proof.now c.args.i) c.in_ok-added.added.items
+  ends_here =
+      end_added s w one c.args.proof.now of c.args.i clauses premises c.in_ok-loaded.loaded c.clause-clause.result.now loaded
+      c.in_ok-planned.planned.items c.in_ok-added.added.items is c.clause-clause.ensures c.in_ok-planned.ensures.ends
+
+  few_here : length c.in_ok-added.added.items ≤ nots_at_step of c.args.i + 4
+  few_here =
+      few_added s w one c.args.proof.now of c.args.i clauses premises c.in_ok-loaded.loaded c.clause-clause.result.now loaded
+      c.in_ok-planned.planned.items c.in_ok-added.added.items is c.in_ok-planned.ensures.count
+
+  spelled_here : AreNear s w (roots_at of c.args.i) c.in_ok-added.added.items
+  spelled_here =
+      are_spelled s w one c.args.proof.now of c.args.i clauses premises c.in_ok-loaded.loaded c.clause-clause.result.now loaded
+      c.in_ok-planned.planned.items c.in_ok-added.added.items is
+
 pub returns-clause-added : goal.returns-clause-added
-returns-clause-added c =
-    are_added s w one c.args.proof.now of c.args.i clauses (c.commands_correspond.ensures.premises s v c.args.proof.now of c.args.i stand) c.in_ok-loaded.loaded
-    c.clause-clause.result.now loaded c.in_ok-planned.planned.items c.in_ok-added.added.items is
-    (c.requires.resolves of stand) c.in_ok-planned.ensures.rules (c.in_ok-planned.ensures.met (numbered loaded.terms) loaded.named)
-  where
-    s : Table
-    s = c.args.symbols.now
-
-    v : TermsView
-    v = c.args.terms.now
-
-    w : TermsView
-    w = c.load.new.terms
-
-    of : ProofItems Var Term
-    of = c.requires.stand.proof
-
-    stand : StandForItems s v c.args.proof.now of
-    stand = c.requires.stand.stand
-
-    keeps : KeepsTerms v w
-    keeps = subst (λ y. KeepsTerms y w) c.in_ok-find_trail.ensures.same c.in_ok-loaded.ensures.keeps
-
-    one : AreOne s w
-    one = c.equal_exactly_where_terms_are.ensures s c.leaves_differ.ensures.table
-
-    clauses : (m : ℕ) → ReferToAll s w (clause_at c.args.proof.now m) (clause_at of m)
-    clauses m =
-        c.terms_correspond.ensures.clause s w c.args.proof.now of m (c.proofs_stay.ensures s s v w c.args.proof.now of (keeps_table s) keeps stand)
-
-    loaded : IsLoaded s w (premise_clauses of c.args.i) (clause_at of c.args.i) c.clause-clause.result.now c.in_ok-loaded.loaded
-    loaded =
-        c.in_ok-loaded.ensures.loaded (premise_clauses of c.args.i) (clause_at of c.args.i)
-        (given_at s v c.find_trail.new.terms c.in_ok-find_trail.ensures.same c.premise_clauses.new.list.items c.deref-2.result.now (premise_clauses of c.args.i)
-        c.deref-2.ensures.value (c.in_ok-premise_clauses.ensures.stand s v of stand))
-        (goal_at s v c.find_trail.new.terms c.in_ok-find_trail.ensures.same (clause_at c.args.proof.now c.args.i) c.clause-clause.result.now
-        (clause_at of c.args.i)
-        c.clause-clause.ensures (c.terms_correspond.ensures.clause s v c.args.proof.now of c.args.i stand))
-
-    is : c.in_ok-added.added.items ≡ map (added_for c.in_ok-loaded.loaded.refs.items c.in_ok-loaded.loaded.truth (premises_at c.args.proof.now c.args.i))
-        c.in_ok-planned.planned.items
-    is =
-        added_is c.in_ok-loaded.loaded.refs.items c.deref-3.result.now c.in_ok-loaded.loaded.truth (premises_at c.args.proof.now c.args.i) c.premises.result.now
-        c.in_ok-planned.planned.items c.deref-4.result.now c.in_ok-added.added.items c.in_ok-added.ensures c.deref-3.ensures.value c.premises.ensures
-        c.deref-4.ensures.value
+returns-clause-added c = added_here c c.requires.stand.proof c.requires.stand.stand
 
 pub returns-clause-ends : goal.returns-clause-ends
-returns-clause-ends c =
-    end_added s w one c.args.proof.now of c.args.i clauses (c.commands_correspond.ensures.premises s v c.args.proof.now of c.args.i stand) c.in_ok-loaded.loaded
-    c.clause-clause.result.now loaded c.in_ok-planned.planned.items c.in_ok-added.added.items is
-    c.clause-clause.ensures c.in_ok-planned.ensures.ends
-  where
-    s : Table
-    s = c.args.symbols.now
-
-    v : TermsView
-    v = c.args.terms.now
-
-    w : TermsView
-    w = c.load.new.terms
-
-    of : ProofItems Var Term
-    of = c.requires.stand.proof
-
-    stand : StandForItems s v c.args.proof.now of
-    stand = c.requires.stand.stand
-
-    keeps : KeepsTerms v w
-    keeps = subst (λ y. KeepsTerms y w) c.in_ok-find_trail.ensures.same c.in_ok-loaded.ensures.keeps
-
-    one : AreOne s w
-    one = c.equal_exactly_where_terms_are.ensures s c.leaves_differ.ensures.table
-
-    clauses : (m : ℕ) → ReferToAll s w (clause_at c.args.proof.now m) (clause_at of m)
-    clauses m =
-        c.terms_correspond.ensures.clause s w c.args.proof.now of m (c.proofs_stay.ensures s s v w c.args.proof.now of (keeps_table s) keeps stand)
-
-    loaded : IsLoaded s w (premise_clauses of c.args.i) (clause_at of c.args.i) c.clause-clause.result.now c.in_ok-loaded.loaded
-    loaded =
-        c.in_ok-loaded.ensures.loaded (premise_clauses of c.args.i) (clause_at of c.args.i)
-        (given_at s v c.find_trail.new.terms c.in_ok-find_trail.ensures.same c.premise_clauses.new.list.items c.deref-2.result.now (premise_clauses of c.args.i)
-        c.deref-2.ensures.value (c.in_ok-premise_clauses.ensures.stand s v of stand))
-        (goal_at s v c.find_trail.new.terms c.in_ok-find_trail.ensures.same (clause_at c.args.proof.now c.args.i) c.clause-clause.result.now
-        (clause_at of c.args.i)
-        c.clause-clause.ensures (c.terms_correspond.ensures.clause s v c.args.proof.now of c.args.i stand))
-
-    is : c.in_ok-added.added.items ≡ map (added_for c.in_ok-loaded.loaded.refs.items c.in_ok-loaded.loaded.truth (premises_at c.args.proof.now c.args.i))
-        c.in_ok-planned.planned.items
-    is =
-        added_is c.in_ok-loaded.loaded.refs.items c.deref-3.result.now c.in_ok-loaded.loaded.truth (premises_at c.args.proof.now c.args.i) c.premises.result.now
-        c.in_ok-planned.planned.items c.deref-4.result.now c.in_ok-added.added.items c.in_ok-added.ensures c.deref-3.ensures.value c.premises.ensures
-        c.deref-4.ensures.value
+returns-clause-ends c = ends_here c c.requires.stand.proof c.requires.stand.stand
 
 pub returns-clause-few : goal.returns-clause-few
-returns-clause-few c of stand =
-    few_added s w one c.args.proof.now of c.args.i clauses (c.commands_correspond.ensures.premises s v c.args.proof.now of c.args.i stand) c.in_ok-loaded.loaded
-    c.clause-clause.result.now loaded c.in_ok-planned.planned.items c.in_ok-added.added.items is
-    c.in_ok-planned.ensures.count
-  where
-    s : Table
-    s = c.args.symbols.now
-
-    v : TermsView
-    v = c.args.terms.now
-
-    w : TermsView
-    w = c.load.new.terms
-
-    keeps : KeepsTerms v w
-    keeps = subst (λ y. KeepsTerms y w) c.in_ok-find_trail.ensures.same c.in_ok-loaded.ensures.keeps
-
-    one : AreOne s w
-    one = c.equal_exactly_where_terms_are.ensures s c.leaves_differ.ensures.table
-
-    clauses : (m : ℕ) → ReferToAll s w (clause_at c.args.proof.now m) (clause_at of m)
-    clauses m =
-        c.terms_correspond.ensures.clause s w c.args.proof.now of m (c.proofs_stay.ensures s s v w c.args.proof.now of (keeps_table s) keeps stand)
-
-    loaded : IsLoaded s w (premise_clauses of c.args.i) (clause_at of c.args.i) c.clause-clause.result.now c.in_ok-loaded.loaded
-    loaded =
-        c.in_ok-loaded.ensures.loaded (premise_clauses of c.args.i) (clause_at of c.args.i)
-        (given_at s v c.find_trail.new.terms c.in_ok-find_trail.ensures.same c.premise_clauses.new.list.items c.deref-2.result.now (premise_clauses of c.args.i)
-        c.deref-2.ensures.value (c.in_ok-premise_clauses.ensures.stand s v of stand))
-        (goal_at s v c.find_trail.new.terms c.in_ok-find_trail.ensures.same (clause_at c.args.proof.now c.args.i) c.clause-clause.result.now
-        (clause_at of c.args.i)
-        c.clause-clause.ensures (c.terms_correspond.ensures.clause s v c.args.proof.now of c.args.i stand))
-
-    is : c.in_ok-added.added.items ≡ map (added_for c.in_ok-loaded.loaded.refs.items c.in_ok-loaded.loaded.truth (premises_at c.args.proof.now c.args.i))
-        c.in_ok-planned.planned.items
-    is =
-        added_is c.in_ok-loaded.loaded.refs.items c.deref-3.result.now c.in_ok-loaded.loaded.truth (premises_at c.args.proof.now c.args.i) c.premises.result.now
-        c.in_ok-planned.planned.items c.deref-4.result.now c.in_ok-added.added.items c.in_ok-added.ensures c.deref-3.ensures.value c.premises.ensures
-        c.deref-4.ensures.value
+returns-clause-few = few_here
 
 pub returns-clause-spelled : goal.returns-clause-spelled
-returns-clause-spelled c of stand =
-    are_spelled s w one c.args.proof.now of c.args.i clauses (c.commands_correspond.ensures.premises s v c.args.proof.now of c.args.i stand)
-    c.in_ok-loaded.loaded
-    c.clause-clause.result.now loaded c.in_ok-planned.planned.items c.in_ok-added.added.items is
-  where
-    s : Table
-    s = c.args.symbols.now
-
-    v : TermsView
-    v = c.args.terms.now
-
-    w : TermsView
-    w = c.load.new.terms
-
-    keeps : KeepsTerms v w
-    keeps = subst (λ y. KeepsTerms y w) c.in_ok-find_trail.ensures.same c.in_ok-loaded.ensures.keeps
-
-    one : AreOne s w
-    one = c.equal_exactly_where_terms_are.ensures s c.leaves_differ.ensures.table
-
-    clauses : (m : ℕ) → ReferToAll s w (clause_at c.args.proof.now m) (clause_at of m)
-    clauses m =
-        c.terms_correspond.ensures.clause s w c.args.proof.now of m (c.proofs_stay.ensures s s v w c.args.proof.now of (keeps_table s) keeps stand)
-
-    loaded : IsLoaded s w (premise_clauses of c.args.i) (clause_at of c.args.i) c.clause-clause.result.now c.in_ok-loaded.loaded
-    loaded =
-        c.in_ok-loaded.ensures.loaded (premise_clauses of c.args.i) (clause_at of c.args.i)
-        (given_at s v c.find_trail.new.terms c.in_ok-find_trail.ensures.same c.premise_clauses.new.list.items c.deref-2.result.now (premise_clauses of c.args.i)
-        c.deref-2.ensures.value (c.in_ok-premise_clauses.ensures.stand s v of stand))
-        (goal_at s v c.find_trail.new.terms c.in_ok-find_trail.ensures.same (clause_at c.args.proof.now c.args.i) c.clause-clause.result.now
-        (clause_at of c.args.i)
-        c.clause-clause.ensures (c.terms_correspond.ensures.clause s v c.args.proof.now of c.args.i stand))
-
-    is : c.in_ok-added.added.items ≡ map (added_for c.in_ok-loaded.loaded.refs.items c.in_ok-loaded.loaded.truth (premises_at c.args.proof.now c.args.i))
-        c.in_ok-planned.planned.items
-    is =
-        added_is c.in_ok-loaded.loaded.refs.items c.deref-3.result.now c.in_ok-loaded.loaded.truth (premises_at c.args.proof.now c.args.i) c.premises.result.now
-        c.in_ok-planned.planned.items c.deref-4.result.now c.in_ok-added.added.items c.in_ok-added.ensures c.deref-3.ensures.value c.premises.ensures
-        c.deref-4.ensures.value
+returns-clause-spelled = spelled_here
