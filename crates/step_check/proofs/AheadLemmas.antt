@@ -1,11 +1,10 @@
 -- Lists of cells that are looked at: what holds of each of their references.
-use Rattle.std.proofs.Common.{◌≡◌, ◌↔◌, ◌<◌, ◌≤◌, ◌^◌, ℕ, zero, suc, Bool, true, false, IsTrue, List, [], ◌∷◌, ◌++◌, length, get_or, subst, sym, arith, inl, inr}
+use Rattle.std.proofs.Common.{◌≡◌, ◌↔◌, ◌<◌, ◌≤◌, ◌^◌, ℕ, zero, suc, Bool, true, false, IsTrue, List, [], ◌∷◌, length, get_or, subst, sym, arith, inl, inr}
 use Rattle.std.proofs.lemmas.Bool.{cases_lt}
 use Rattle.std.specs.List.{AllByRecursion}
 use Rattle.pair_pool.specs.Trees.{Tree, leaf, cell}
 use Rattle.pair_pool.specs.Views.{PassView, HasPartsOfTrees, IsKnown, Knows}
 use Rattle.sym_table.specs.Table.{Table}
-use Rattle.term_model.proofs.Lists.{all_joined}
 use Rattle.term_pool.specs.Views.{TermsView, IsTerm, IsKnownCell}
 
 pub all_at : {X : Type 0} (P : X → Type 0) (xs : List X) (k : ℕ) (q : X) → AllByRecursion P xs → k < length xs → q ≡ get_or xs k q → P q
@@ -36,9 +35,3 @@ known_cell p parts r h high = go h.tree h.stands
 
 pub parts_known : (p : PassView) (r a b : ℕ) → IsKnownCell p r → ((s t : Tree) → Knows p r (cell s t) → Knows p a s) → ((s t : Tree) → Knows p r (cell s t) → Knows p b t) → IsKnown p a × IsKnown p b
 parts_known p r a b c first second = (record { tree = c.first; stands = first c.first c.second c.stands }, record { tree = c.second; stands = second c.first c.second c.stands })
-
--- two items more
-pub all_two : {X : Type 0} (P : X → Type 0) (old mid new : List X) (x y : X) → mid ≡ old ++ x ∷ [] → new ≡ mid ++ y ∷ [] → AllByRecursion P old → P x → P y → AllByRecursion P new
-all_two P old mid new x y first second all one two =
-    subst (AllByRecursion P) (sym second)
-    (all_joined P mid (y ∷ []) (subst (AllByRecursion P) (sym first) (all_joined P old (x ∷ []) all (one, tt))) (two, tt))

@@ -59,7 +59,19 @@ fn end_of(proof: &Proof, from: u32) -> u32
     from + AHEAD
 }
 
-/// Adds the parts of a cell to a list.
+/// Adds a cell to a list. A leaf has no parts to be looked at, so it is left out.
+fn add_cell(r: Ref, cells: &mut Vec<Ref>) -> Result<(), Memory>
+    ensures known { (v : TermsView) → IsKnown v.pass r → AllByRecursion (IsKnown v.pass) cells.old.items →
+        OnOk result (AllByRecursion (IsKnown v.pass) cells.new.items) }
+{
+    if r.is_leaf() {
+        return Ok(());
+    }
+    cells.push(r)?;
+    Ok(())
+}
+
+/// Adds those parts of a cell to a list that are cells.
 fn add_parts(terms: &mut Terms<'_>, r: Ref, parts: &mut Vec<Ref>) -> Result<(), Memory>
     requires cell { IsKnown terms.old.pass r }
     requires before { AllByRecursion (IsKnown terms.old.pass) parts.old.items }
@@ -71,12 +83,11 @@ fn add_parts(terms: &mut Terms<'_>, r: Ref, parts: &mut Vec<Ref>) -> Result<(), 
         return Ok(());
     }
     let (first, second) = terms.cell_parts(r);
-    parts.push(first)?;
-    parts.push(second)?;
-    Ok(())
+    add_cell(first, parts)?;
+    add_cell(second, parts)
 }
 
-/// Takes the parts of cells in place of what is in the list.
+/// Takes those parts of cells that are cells in place of what is in the list.
 fn take_parts(terms: &mut Terms<'_>, cells: &[Ref], parts: &mut Vec<Ref>) -> Result<(), Memory>
     requires { AllByRecursion (IsKnown terms.old.pass) cells.now }
     ensures known { OnOk result (AllByRecursion (IsKnown terms.old.pass) parts.new.items) }

@@ -1,5 +1,5 @@
 //! Lists that were read lately: a hint by which a list is not read again.
-ghost use Rattle.std.specs.Prelude.{◌≡◌, ◌<◌, length, slice_get, Some, IfSome, OnOk};
+ghost use Rattle.std.specs.Prelude.{◌≡◌, ◌+◌, ◌<◌, ◌≤◌, length, slice_get, Some, IfSome, OnOk};
 ghost use Rattle.problem_text.specs.Names.{Place};
 ghost use Rattle.problem_text.specs.Scripts.{Script};
 ghost use Rattle.term_expansion.specs.SymbolsAndTerms.{SymbolsAndTerms};
@@ -15,11 +15,11 @@ const ROWS: usize = 1024;
 /// A list with fewer bytes is read in about the time of a look-up.
 const LEAST_BYTES: usize = 16;
 
-/// From how many bytes of a list its row is found, at most.
-const SAMPLES: usize = 32;
+/// From how many words of eight bytes a list's row is found at most, beside the last one.
+const SAMPLES: usize = 8;
 
-/// By which FNV-1a multiplies.
-const MULTIPLIER: u64 = 0x0000_0100_0000_01b3;
+/// An odd number near 2^64 divided by the golden ratio: to multiply by it moves each bit of a word to the highest bits.
+const MULTIPLIER: u64 = 0x9e37_79b9_7f4a_7c15;
 
 /// A list that was read: where it stands, what it was read to, and the time.
 #[derive(Clone, Copy)]
@@ -67,8 +67,11 @@ impl<'t> Lately<'t> {
     pub fn find(&self, list: &[u8]) -> Option<Value>
         ensures { (w : SymbolsAndTerms) (p : Place) (sc : Script) → AreRight w p sc self.now → IfSome result (λ c. IsRight w p sc list.now c) }
     {
+        if list.len() < LEAST_BYTES {
+            return None;
+        }
         let slot = slot_of(list);
-        if list.len() < LEAST_BYTES || slot >= self.rows.len() {
+        if slot >= self.rows.len() {
             return None;
         }
         let row = row_at(&self.rows, slot);
@@ -144,16 +147,43 @@ fn put(rows: &mut Vec<Row>, slot: usize, row: &Row) -> Result<(), AllocError>
     Ok(())
 }
 
-/// The row of a list, by its length and by bytes all over it.
+/// The row of a list, by its length and by words all over it, the last one among them. All bytes of a list count where it has
+/// up to 64.
 fn slot_of(list: &[u8]) -> usize
+    requires { 8 ≤ length list.now }
     ensures { result < 1024 }
 {
-    let stride = list.len() / SAMPLES + 1;
+    let stride = (list.len() / SAMPLES).max(8);
     let mut hash = list.len() as u64;
     let mut at = 0;
     'samples: while stride < list.len() - at {
-        hash = (hash ^ u64::from(list[at])).wrapping_mul(MULTIPLIER);
+        hash = mixed(hash, word_at(list, at));
         at += stride;
     }
-    (hash >> 32) as usize % ROWS
+    hash = mixed(hash, word_at(list, list.len() - 8));
+    (hash >> 54) as usize % ROWS
+}
+
+/// A hash of what was hashed before and of a word behind it.
+#[inline(always)]
+fn mixed(hash: u64, word: u64) -> u64 {
+    (hash ^ word).wrapping_mul(MULTIPLIER)
+}
+
+/// The eight bytes from a place on, as a number. They are read one by one, which becomes one load.
+#[inline(always)]
+fn word_at(list: &[u8], start: usize) -> u64
+    requires { start + 8 ≤ length list.now }
+{
+    let later = start + 4;
+    u64::from_le_bytes([
+        list[start],
+        list[start + 1],
+        list[start + 2],
+        list[start + 3],
+        list[later],
+        list[later + 1],
+        list[later + 2],
+        list[later + 3],
+    ])
 }
