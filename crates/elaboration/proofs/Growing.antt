@@ -4,7 +4,8 @@ use Rattle.sym_table.specs.Table.{Table}
 use Rattle.sym_table.proofs.Tables.{keeps_table}
 use Rattle.term_model.proofs.Zips.{zip_weaken}
 use Rattle.term_model.specs.Terms.{Var, Term}
-use Rattle.term_pool.specs.Views.{TermsView, KeepsTerms, RefersTo, ReferToAll}
+use Rattle.term_pool.specs.Views.{TermsView, RefersTo, ReferToAll}
+use Rattle.worker_crew.specs.Pieces.{Extends}
 use Rattle.proof_store.specs.AddedSteps.{AddedStep}
 use Rattle.proof_store.specs.Meaning.{IsPivotOf, StandForItems}
 use Rattle.proof_store.proofs.MeaningLemmas.{items_stay}
@@ -14,9 +15,9 @@ use Rattle.elab_resolution.specs.Adding.{linked_clause}
 use Rattle.elaboration.specs.Elaborated.{IsPlacedFor}
 use Rattle.elaboration.specs.Replaced.{CanBeReplaced, IsKeptOrReplaced, IsReplacement, IsTermStep}
 
-module _ (s : Table) (v w : TermsView) (keeps : KeepsTerms v w) where
+module _ (s : Table) (v w : TermsView) (more : Extends v w) where
   refers_later : (r : ℕ) (t : Term) → RefersTo s v r t → RefersTo s w r t
-  refers_later r t h = record { tree = h.tree; known = keeps.pass.grows r h.tree h.known; stands = h.stands }
+  refers_later r t h = record { tree = h.tree; known = more.grows r h.tree h.known; stands = h.stands }
 
   pub refer_later : (rs : List ℕ) (ts : List Term) → ReferToAll s v rs ts → ReferToAll s w rs ts
   refer_later rs ts h = zip_weaken (RefersTo s v) (RefersTo s w) refers_later rs ts h

@@ -19,12 +19,14 @@ use Rattle.step_check.specs.Chunks.{CanBeChecked}
 use Rattle.step_check.specs.Statuses.{AreStatusesOf, checking}
 use Rattle.elaborator.specs.Assembled.{IsAssembled}
 use Rattle.elaborator.specs.Blocks.{AreBlocksOf, commands_needed}
+use Rattle.elaborator.proofs.MadeBlocks.{more_of}
 use Rattle.elaborator.specs.Pieces.{AreMadeBy}
+use Rattle.term_parts.specs.declared.answers.RuleStop.{RuleStop}
 use Rattle.elaborator.specs.declared.stops.AssembleStop.{AssembleStop}
 use Rattle.elaboration_laws.specs.StrictBlocks.{AreFittingBlocks, AreStrictBlocks}
 use Rattle.elaboration.specs.Elaborated.{IsElaborated, IsLeftOut, IsTooLong, PassAll, StaysOver, in_strict_mode}
 use Rattle.elaboration.specs.Replaced.{CanBeReplaced, IsKeptOrReplaced}
-use Rattle.elaboration.specs.Stops.{stop_of_assembly}
+use Rattle.elaboration.specs.Stops.{stop_of_assembly, stop_of_rule}
 use Rattle.elaboration.specs.declared.stops.ElabStop.{ElabStop}
 use Rattle.elaboration.proofs.FittingSteps.{NearAreLow}
 use Rattle.elaboration.proofs.Growing.{can_later, refer_later}
@@ -54,6 +56,10 @@ pub assembly_too_long : (stop : AssembleStop) → stop_of_assembly stop ≡ Elab
 assembly_too_long AssembleStop.TooMany e = refl
 assembly_too_long AssembleStop.Memory e = absurd (cc)
 
+pub rule_full : (stop : RuleStop) → stop_of_rule stop ≡ ElabStop.PoolFull → stop ≡ RuleStop.PoolFull
+rule_full RuleStop.PoolFull e = refl
+rule_full RuleStop.Memory e = absurd (cc)
+
 module _ (s : Table) (v : TermsView) (flags : Flags) (asserted : List ℕ) (refs : ProofItems ℕ ℕ) (strict : List Status) (can : CanBeChecked s v asserted refs)
     (check : flags.strict ≡ false) (passes : PassAll flags s v asserted refs) (are : AreStatusesOf (in_strict_mode flags) s v asserted refs strict) (b : Bool)
     (told : IsTrue b ↔ IsLeftOut refs strict) (false_is : b ≡ false) where
@@ -63,7 +69,7 @@ module _ (s : Table) (v : TermsView) (flags : Flags) (asserted : List ℕ) (refs
   module _ (one : StandForOne) (table : IsTable s) (w : TermsView) (keeps : KeepsTerms v w) (known : IsOneToOne w.pass) (formed : IsWellFormed refs)
       (blocks : List (List AddedStep)) (made : AreMadeBy (IsKeptOrReplaced s w refs strict) (commands_in refs) blocks) where
     abbrev later : CanBeReplaced s w refs strict
-    later = can_later s v w keeps refs strict replaced
+    later = can_later s v w (more_of v w keeps) refs strict replaced
 
     pub made_blocks : AreBlocksOf refs blocks
     made_blocks = blocks_are one s table w known refs formed strict later blocks made
@@ -81,7 +87,7 @@ module _ (s : Table) (v : TermsView) (flags : Flags) (asserted : List ℕ) (refs
         → IsElaborated flags s w asserted refs new
     made_elaboration low meant well elaborates new is =
         is_elaborated one s table w known flags asserted refs new can.proof later.stand can.asserted.assertions
-        (refer_later s v w keeps asserted can.asserted.assertions can.asserted.refer)
+        (refer_later s v w (more_of v w keeps) asserted can.asserted.assertions can.asserted.refer)
         (meant s w c refs new can.proof blocks later.stand made_blocks is made_strict)
         (λ elaboration stand. (
           elaborates s w c refs new can.proof elaboration blocks table known later.stand made_blocks is stand made_strict

@@ -18,6 +18,7 @@ use Rattle.rule_model.specs.Scopes.{commands_in}
 use Rattle.rule_model.specs.Statuses.{Passes}
 use Rattle.elab_resolution.specs.Adding.{AreAddedFor, AreNear, EndsInClause, ResolvesAt, nots_at_step, roots_at}
 use Rattle.elab_resolution.specs.Spellings.{IsNearTo}
+use Rattle.elaborator.proofs.MadeBlocks.{more_of}
 use Rattle.elaborator.specs.Pieces.{PlacesOnly}
 use Rattle.elaboration_laws.proofs.Reading.{clause_stands}
 use Rattle.elaboration.specs.Elaborated.{IsNotStrict, IsPlacedFor, IsReplaced, IsResolution}
@@ -71,7 +72,7 @@ module _ (s : Table) (v : TermsView) (refs : ProofItems ℕ ℕ) (strict : List 
         → length block ≤ nots_at_step can.proof i + 4
         → AreNear s w (roots_at can.proof i) block → IsReplacement s w refs strict i block
     replacement_is block added ends few near =
-        let stand = stand_later s v w keeps refs can.proof can.stand in
+        let stand = stand_later s v w (more_of v w keeps) refs can.proof can.stand in
         record {
           proof = can.proof;
           stand = stand;
@@ -83,7 +84,7 @@ module _ (s : Table) (v : TermsView) (refs : ProofItems ℕ ℕ) (strict : List 
     placed_for : (t : Term) → IsNearTo (roots_at can.proof i) t → IsPlacedFor s w refs strict t
     placed_for t near = record {
       proof = can.proof;
-      stand = stand_later s v w keeps refs can.proof can.stand;
+      stand = stand_later s v w (more_of v w keeps) refs can.proof can.stand;
       index = i;
       replaced = is_replaced fails;
       near = near;

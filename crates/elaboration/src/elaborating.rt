@@ -1,22 +1,26 @@
 //! The call that elaborates a proof.
 
-ghost use Rattle.std.specs.Prelude.{◌≡◌, ◌⊎◌, false, IfOk, IfErr};
+ghost use Rattle.std.specs.Prelude.{◌≡◌, ◌<◌, ◌≤◌, ◌⊎◌, false, IfOk, IfErr};
 ghost use Rattle.elaboration.specs.Elaborated.{in_strict_mode, IsElaborated, IsLeftOut, IsPlacedFor, IsTooLong, PassAll, StaysOver};
 ghost use Rattle.elaboration.specs.declared.stops.ElabStop.TheVariants as ElabStop;
+ghost use Rattle.pair_pool.specs.Views.{IsForMany};
 ghost use Rattle.step_check.specs.Chunks.{CanBeChecked};
 ghost use Rattle.step_check.specs.Statuses.{AreStatusesOf};
 ghost use Rattle.term_pool.specs.Placing.{LacksCellOf, PlacesCellsOf};
 ghost use Rattle.term_pool.specs.Views.{KeepsTerms};
 
+use crate::adding::added_by;
 use crate::leaving_out::is_left_out;
 use crate::replacing::Resolutions;
 use crate::stops::ElabStop;
 use elab_resolution::near_terms_are_low;
 use elaboration_laws::{assembled_proofs_are_elaborations, assembled_proofs_are_meant};
-use elaborator::{assemble, pieces};
+use elaborator::{assemble, job};
+use file_ports::Gate;
 use proof_store::{Proof, Status, commands_correspond, proofs_stand_for_one};
 use readable_proofs::laws::new_terms_are_over_their_names;
 use std::alloc::Global;
+use std::thread::Threads;
 use sym_table::Symbols;
 use term_pool::Terms;
 use term_reader::{Flags, Problem};
@@ -40,11 +44,20 @@ pub struct Checked<'a> {
 /// 2^32 - 1 commands or more with some steps that might be added, where the pool has no room for a cell of a term that is near to
 /// a literal of a replaced resolution or of one of its premises, and when out of memory. Looks at each command of the proof, and
 /// takes besides the time of the resolutions that are replaced.
-pub fn elaborated(
+///
+/// The steps are made by so many workers, 1 to 64, chunk by chunk behind the gate (`worker_crew`): the pool is one that passes may
+/// share where there are more than one, and the pass of `terms` holds all 65 shares of it. One worker starts no thread.
+pub fn elaborated<R: Threads + Sync, G: Gate>(
+    rt: &R,
     alloc: Global,
     checked: &Checked<'_>,
     terms: &mut Terms<'_>,
+    workers: u32,
+    gate: &G,
 ) -> Result<Proof, ElabStop>
+    requires workers { (1 ≤ workers) × (workers ≤ 64) }
+    requires for_many { 1 < workers → IsForMany terms.old.pool }
+    requires shares { terms.old.pass.shares ≡ 65 }
     requires can { CanBeChecked checked.now.symbols.now terms.old checked.now.problem.now.assertions checked.now.proof.now }
     requires check { checked.now.flags.strict ≡ false }
     requires passes { PassAll checked.now.flags checked.now.symbols.now terms.old checked.now.problem.now.assertions checked.now.proof.now }
@@ -81,7 +94,8 @@ pub fn elaborated(
         symbols: checked.symbols,
         strict: checked.strict,
     };
-    let added = pieces(alloc, &resolutions, proof, terms)?;
+    let adding = job(&resolutions, proof);
+    let added = added_by(rt, alloc, &adding, terms, workers, gate)?;
     terms.one_to_one();
     proofs_stand_for_one();
     near_terms_are_low();

@@ -21,4 +21,5 @@ mod OpenCalls
 mod FoundSources
 mod WritingCalls
 mod WrittenSteps
-mod MadeBlocks
+pub mod MadeBlocks
+mod ByChunks

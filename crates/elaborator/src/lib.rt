@@ -3,6 +3,7 @@
 
 mod assembling;
 mod blocks;
+mod chunks;
 mod closers;
 mod making;
 mod naming;
@@ -14,5 +15,6 @@ mod stops;
 mod writing;
 
 pub use assembling::assemble;
-pub use making::{Elaborate, pieces};
+pub use chunks::{ElabJob, chunks_make_all_blocks, job};
+pub use making::Elaborate;
 pub use stops::AssembleStop;

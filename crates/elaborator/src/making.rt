@@ -1,7 +1,6 @@
 //! The steps that are added for each command, as the caller makes them.
 
-ghost use Rattle.std.specs.Prelude.{◌≡◌, ◌<◌, ◌++◌, ◌∷◌, [], ℕ, List, map, IfOk, IfErr, OnOk};
-ghost use Rattle.elaborator.specs.Blocks.{blocks_of};
+ghost use Rattle.std.specs.Prelude.{◌≡◌, ◌<◌, ◌≤◌, ◌+◌, ◌-◌, ◌++◌, ◌∷◌, [], ℕ, List, map, IfOk, IfErr, OnOk};
 ghost use Rattle.elaborator.specs.Pieces.{AreMadeBy, PlacesOnly};
 ghost use Rattle.proof_store.specs.AddedSteps.{AddedStep};
 ghost use Rattle.rule_model.specs.Proofs.{ProofItems};
@@ -10,7 +9,8 @@ ghost use Rattle.sym_table.specs.Table.{Table};
 ghost use Rattle.term_model.specs.Terms.{Term};
 ghost use Rattle.term_parts.specs.declared.answers.RuleStop.TheVariants as RuleStop;
 ghost use Rattle.term_pool.specs.Placing.{LacksCellOf};
-ghost use Rattle.term_pool.specs.Views.{TermsView, KeepsTerms};
+ghost use Rattle.term_pool.specs.Views.{TermsView};
+ghost use Rattle.worker_crew.specs.Pieces.{Extends};
 
 use pair_pool::Memory;
 use proof_store::{Added, Proof};
@@ -50,10 +50,10 @@ pub trait Elaborate {
 
     /// A law: what fits, is said and may be placed where so much is known, is so where more is known. The call does nothing.
     fn more_may_be_known(&self)
-        ensures fits { (proof : ProofItems ℕ ℕ) (old new : TermsView) → KeepsTerms old new → fits self.now proof old → fits self.now proof new }
-        ensures says { (proof : ProofItems ℕ ℕ) (old new : TermsView) (i : ℕ) (block : List AddedStep) → KeepsTerms old new →
+        ensures fits { (proof : ProofItems ℕ ℕ) (old new : TermsView) → Extends old new → fits self.now proof old → fits self.now proof new }
+        ensures says { (proof : ProofItems ℕ ℕ) (old new : TermsView) (i : ℕ) (block : List AddedStep) → Extends old new →
             says self.now proof old i block → says self.now proof new i block }
-        ensures places { (proof : ProofItems ℕ ℕ) (old new : TermsView) (t : Term) → KeepsTerms old new →
+        ensures places { (proof : ProofItems ℕ ℕ) (old new : TermsView) (t : Term) → Extends old new →
             places self.now proof old t → places self.now proof new t };
 }
 
@@ -65,15 +65,18 @@ fn append<T: Drop>(list: &mut Vec<T>, item: T) -> Result<(), Memory>
     Ok(())
 }
 
-/// The steps that are added for each command, in file order.
-fn blocks_by<E: Elaborate>(
+/// The steps that are added for the commands from one index up to another, in file order.
+pub(crate) fn blocks_by<E: Elaborate>(
     alloc: Global,
     elaborate: &E,
     proof: &Proof,
+    first: u32,
+    end: u32,
     terms: &mut Terms<'_>,
 ) -> Result<Vec<Vec<Added>>, RuleStop>
+    requires range { (first ≤ end) × (end ≤ commands_in proof.now) }
     requires fits { E.fits elaborate.now proof.now terms.old }
-    ensures made { IfOk result (λ list. AreMadeBy (E.says elaborate.now proof.now terms.new) (commands_in proof.now)
+    ensures made { IfOk result (λ list. AreMadeBy (λ i block. E.says elaborate.now proof.now terms.new (first + i) block) (end - first)
         (map (λ block. block.items) list.items)) }
     ensures places { PlacesOnly (E.symbols elaborate.now) (E.places elaborate.now proof.now) terms.old terms.new }
     ensures full { IfErr result (λ stop. stop ≡ RuleStop.PoolFull →
@@ -81,30 +84,9 @@ fn blocks_by<E: Elaborate>(
 {
     elaborate.more_may_be_known();
     let mut blocks = Vec::new(alloc);
-    'commands: for i in 0..proof.count() {
+    'commands: for i in first..end {
         let block = elaborate.steps(alloc, proof, i, terms)?;
         append(&mut blocks, block)?;
     }
     Ok(blocks)
-}
-
-/// The steps that are added for each command of a proof, in file order, as `elaborate` makes them: one piece for `assemble`.
-///
-/// Refuses where `elaborate` does, and out of memory. It asks once for each command.
-pub fn pieces<E: Elaborate>(
-    alloc: Global,
-    elaborate: &E,
-    proof: &Proof,
-    terms: &mut Terms<'_>,
-) -> Result<Vec<Vec<Vec<Added>>>, RuleStop>
-    requires fits { E.fits elaborate.now proof.now terms.old }
-    ensures made { IfOk result (λ list. AreMadeBy (E.says elaborate.now proof.now terms.new) (commands_in proof.now) (blocks_of list.items)) }
-    ensures places { PlacesOnly (E.symbols elaborate.now) (E.places elaborate.now proof.now) terms.old terms.new }
-    ensures full { IfErr result (λ stop. stop ≡ RuleStop.PoolFull →
-        LacksCellOf (E.symbols elaborate.now) terms.new.pass (E.places elaborate.now proof.now terms.new)) }
-{
-    let blocks = blocks_by(alloc, elaborate, proof, terms)?;
-    let mut list = Vec::new(alloc);
-    append(&mut list, blocks)?;
-    Ok(list)
 }
