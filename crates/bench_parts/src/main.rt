@@ -6,6 +6,8 @@
 mod commands;
 mod pool;
 mod printing;
+#[cfg(test)]
+mod printing_tests;
 mod propagation;
 mod substitution;
 mod symbols;

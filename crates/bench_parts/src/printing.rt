@@ -23,12 +23,14 @@ use term_sharing::proof_names;
 /// The most bytes of a text.
 const MOST_BYTES: usize = 268_435_456;
 
-/// The pool has 2^24 places.
-const POOL_BITS: u32 = 24;
+/// The least number of bits of a pool, and the greatest.
+const LEAST_BITS: u32 = 12;
+
+const MOST_BITS: u32 = 26;
 
 /// Why a proof was not printed.
 #[derive(Clone, Copy, Debug, PartialEq, Eq)]
-enum Stop {
+pub(crate) enum Stop {
     TooLong,
     Refused,
     PoolFull,
@@ -77,8 +79,22 @@ pub fn run(rt: &HostRuntime, proof: &str, problem: &str) -> Result<()> {
     }
 }
 
-// Prints the proof of a text, behind the problem of another.
-fn print_texts<S: Sink>(
+// The number of bits of the first pool, as in a check of texts of so many bytes: the least that gives a place for each four bytes.
+fn pool_bits(bytes: usize) -> u32
+    ensures least { LEAST_BITS ≤ result }
+    ensures most { result ≤ MOST_BITS }
+{
+    'bits: for bits in LEAST_BITS..MOST_BITS {
+        if bytes <= 4usize << bits {
+            return bits;
+        }
+    }
+    MOST_BITS
+}
+
+// Prints the proof of a text, behind the problem of another. The texts are read again into a pool of twice as many places where one has
+// no room for their terms: nothing is printed before they are read.
+pub(crate) fn print_texts<S: Sink>(
     alloc: Global,
     problem: &[u8],
     proof: &[u8],
@@ -87,7 +103,29 @@ fn print_texts<S: Sink>(
     if problem.len() > MOST_BYTES || proof.len() > MOST_BYTES {
         return Err(Stop::TooLong);
     }
-    let (pool, pass) = Pool::new(alloc, POOL_BITS)?;
+    'bits: for bits in pool_bits(problem.len() + proof.len() / 8)..MOST_BITS {
+        match print_into(alloc, bits, problem, proof, out) {
+            Err(Stop::PoolFull) => {}
+            ended => return ended,
+        }
+    }
+    print_into(alloc, MOST_BITS, problem, proof, out)
+}
+
+// The same with a new pool of so many bits.
+fn print_into<S: Sink>(
+    alloc: Global,
+    bits: u32,
+    problem: &[u8],
+    proof: &[u8],
+    out: &mut S,
+) -> std::result::Result<(), Stop>
+    requires least { LEAST_BITS ≤ bits }
+    requires most { bits ≤ MOST_BITS }
+    requires problem { length problem.now ≤ 268435456 }
+    requires proof { length proof.now ≤ 268435456 }
+{
+    let (pool, pass) = Pool::new(alloc, bits)?;
     let mut symbols = Symbols::new(alloc)?;
     print_in(
         alloc,

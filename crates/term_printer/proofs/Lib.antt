@@ -3,3 +3,5 @@ mod Pieces
 mod TermCells
 mod SingleTasks
 mod Turns
+mod PlainNames
+mod Rows

@@ -1,6 +1,6 @@
 -- Public. The names that a printer gives to terms: what its table says of a term, and when the table is in step with a plan.
-use Rattle.std.specs.Prelude.{◌≡◌, ◌<◌, ◌^◌, ℕ, nat_eq, List, ◌++◌, true, Option, Some, None, decimal, codes, ⊤}
-use Rattle.std.specs.HashMap.{get}
+use Rattle.std.specs.Prelude.{◌≡◌, ◌<◌, ◌+◌, ◌-◌, ◌^◌, ℕ, nat_eq, nat_lt, if◌then◌else◌, List, ◌++◌, true, Option, Some, None, decimal, codes, ⊤}
+use Rattle.std.specs.Prelude.{slice_get, slice_index_or}
 use Rattle.sym_table.specs.Table.{Table}
 use Rattle.term_model.specs.Terms.{Term}
 use Rattle.term_pool.specs.Views.{TermsView, RefersTo}
@@ -9,14 +9,24 @@ use Rattle.problem_text.specs.Words.{is_among}
 use Rattle.printed_proofs.specs.Shared.{Plan, planned}
 use Rattle.term_printer.specs.declared.names.Entry.{Entry}
 use Rattle.term_printer.specs.declared.names.Names.{Names}
+use Rattle.term_printer.specs.declared.names.Row.{Row}
 
 -- the name of a number
 abbrev pub name_numbered : ℕ → List ℕ
 name_numbered k = codes "@c" ++ decimal k
 
+-- the place of a reference in the table: that of its cell, and behind those the leaves
+abbrev pub place_of : ℕ → ℕ
+place_of r = if nat_lt r (2 ^ 30) then r + 2 ^ 30 else (if nat_lt r (2 ^ 31) then r - 2 ^ 30 else r)
+
+-- the entry of a reference, where this is its row
+abbrev pub entry_of : ℕ → Option Row → Option Entry
+entry_of r None = None
+entry_of r (Some row) = if nat_eq row.term r then Some row.entry else None
+
 -- what the table says of the term of a reference
 abbrev pub entry_at : Names → ℕ → Option Entry
-entry_at names r = get nat_eq names.entries r
+entry_at names r = entry_of r (slice_get names.rows.items (slice_index_or names.slots.items (place_of r) 0))
 
 -- the entry where the name is given
 abbrev pub given_entry : Option Entry → Option Entry

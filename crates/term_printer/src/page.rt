@@ -76,12 +76,12 @@ impl Page {
     }
 
     /// The symbol of the name of a number.
-    pub(crate) fn put_name(&mut self, alloc: Global, number: u64) -> Result<(), AllocError>
+    pub(crate) fn put_name(&mut self, number: u64) -> Result<(), AllocError>
         ensures text { OnOk result (self.new.text.items ≡ self.old.text.items ++ printed_symbol (name_numbered number)) }
         ensures tasks { self.new.tasks.items ≡ self.old.tasks.items }
         ensures names { self.new.names ≡ self.old.names }
     {
-        push_name(alloc, number, &mut self.text)
+        push_name(number, &mut self.text)
     }
 
     /// A task that is left, before all others.

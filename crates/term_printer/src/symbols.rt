@@ -5,14 +5,26 @@ ghost use Rattle.sym_table.specs.Leaf.{name_of};
 ghost use Rattle.sym_table.specs.Table.{LeafMeets};
 ghost use Rattle.term_printer.specs.Names.{name_numbered};
 
+use itoa::Buffer;
 use sexpr::print_symbol;
 use std::alloc::{AllocError, Global};
 use sym_table::Symbols;
+
+/// A number of 64 bits in base ten: its digits take no memory of their own.
+fn push_digits(number: u64, text: &mut Vec<u8>) -> Result<(), AllocError>
+    ensures { OnOk result (text.new.items ≡ text.old.items ++ decimal number) }
+{
+    let mut digits = Buffer::new();
+    text.extend_from_slice(digits.format(number).as_bytes())
+}
 
 /// A number in base ten.
 pub fn push_number(alloc: Global, number: u128, text: &mut Vec<u8>) -> Result<(), AllocError>
     ensures { OnOk result (text.new.items ≡ text.old.items ++ decimal number) }
 {
+    if number <= u64::MAX as u128 {
+        return push_digits(number as u64, text);
+    }
     let digits = format!(in alloc; "{number}")?;
     text.extend_from_slice(digits.as_bytes())
 }
@@ -32,10 +44,10 @@ pub fn number_name(alloc: Global, number: u64) -> Result<String, AllocError>
     format!(in alloc; "@c{number}")
 }
 
-/// The symbol of the name of a number.
-pub(crate) fn push_name(alloc: Global, number: u64, text: &mut Vec<u8>) -> Result<(), AllocError>
+/// The symbol of the name of a number, which is plain.
+pub(crate) fn push_name(number: u64, text: &mut Vec<u8>) -> Result<(), AllocError>
     ensures { OnOk result (text.new.items ≡ text.old.items ++ printed_symbol (name_numbered number)) }
 {
-    let name = number_name(alloc, number)?;
-    print_symbol(name.as_bytes(), text)
+    text.extend_from_slice(b"@c")?;
+    push_digits(number, text)
 }

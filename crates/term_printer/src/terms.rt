@@ -61,12 +61,11 @@ fn print_term(
         let leaf = r.number();
         return print_leaf(alloc, symbols, page, leaf);
     }
-    print_cell(alloc, symbols, terms, page, r)
+    print_cell(symbols, terms, page, r)
 }
 
 /// A term that is a cell: the beginning of it, or its name where that is given.
 fn print_cell(
-    alloc: Global,
     symbols: &Symbols,
     terms: &mut Terms<'_>,
     page: &mut Page,
@@ -89,7 +88,7 @@ fn print_cell(
         return begin_application(symbols, page, leaf, rest);
     };
     if entry.is_given {
-        return page.put_name(alloc, entry.number);
+        return page.put_name(entry.number);
     }
     page.then(Task::Naming(r))?;
     page.put(b"(! ")?;
@@ -239,7 +238,7 @@ pub(crate) fn perform(
         Task::Bindings(list) => print_bindings(b" ", symbols, terms, page, list),
         Task::Body(body) => print_body(page, body),
         Task::Close => page.put(b")"),
-        Task::Naming(r) => print_naming(alloc, symbols, terms, page, r),
+        Task::Naming(r) => print_naming(symbols, terms, page, r),
     }
 }
 
@@ -255,7 +254,6 @@ fn print_body(page: &mut Page, body: Ref) -> Result<(), AllocError>
 
 /// The name of the term before it, with the bracket that closes the annotated term: from here on the name is given.
 fn print_naming(
-    alloc: Global,
     symbols: &Symbols,
     terms: &Terms<'_>,
     page: &mut Page,
@@ -270,7 +268,8 @@ fn print_naming(
         return Ok(());
     };
     page.put(b" :named ")?;
-    page.put_name(alloc, entry.number)?;
+    page.put_name(entry.number)?;
     page.put(b")")?;
-    page.names.give(r)
+    page.names.give(r);
+    Ok(())
 }

@@ -4,3 +4,4 @@ mod NumberNames
 mod Plans
 mod ClosedTerms
 mod UsesLemmas
+mod MarkLemmas

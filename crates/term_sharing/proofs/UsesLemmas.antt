@@ -1,13 +1,10 @@
 -- The steps of a walk that finds terms which stand more than once.
-use Rattle.std.proofs.Common.{◌≡◌, ◌≢◌, ◌⊎◌, inl, inr, ℕ, ◌<◌, ◌+◌, ◌-◌, ◌*◌, ◌^◌, vec_len, arith, Bool, true, false, not, Option, Some, None, List, [], ◌∷◌, ◌++◌, nat_eq, sym, ap, ◌∙◌, subst}
+use Rattle.std.proofs.Common.{◌≡◌, ◌≢◌, ◌⊎◌, inl, inr, ℕ, ◌<◌, ◌+◌, ◌-◌, ◌*◌, ◌^◌, vec_len, arith, Bool, true, false, not, Option, Some, None, List, [], ◌∷◌, ◌++◌, sym, ap, ◌∙◌, subst}
 use Rattle.std.specs.Prelude.{reverse, All, IfSome, IfNone}
-use Rattle.std.specs.HashMap.{hash_map_len}
-use Rattle.std.specs.Map.{update}
 use Rattle.std.specs.Option.{is_some}
 use Rattle.std.proofs.lemmas.Bool.{cases_eq}
 use Rattle.std.proofs.lemmas.List.Elements.{All-nil, All-cons, All-head, All-tail, All-append, All-push}
 use Rattle.std.proofs.lemmas.List.{reverse-append}
-use Rattle.std.proofs.lemmas.Map.{update_here, update_apart}
 use Rattle.sym_table.specs.Table.{Table}
 use Rattle.term_model.specs.Sorts.{IsWellSorted}
 use Rattle.term_model.specs.Terms.{Term, Bindings, numeral, variable, operation, call, let_in}
@@ -15,7 +12,7 @@ use Rattle.term_pool.specs.Building.{IsAppliedLeaf, AreBindings}
 use Rattle.term_pool.specs.Reading.{arguments_of, IsLet, IsLetTerm}
 use Rattle.term_pool.specs.Views.{TermsView, RefersTo, ReferToAll}
 use Rattle.sort_check.specs.WellSorted.{IsWellSortedTerm}
-use Rattle.term_sharing.specs.Marks.{says_closed, AreRight, IsNearer}
+use Rattle.term_sharing.specs.Marks.{mark_at, met, says_closed, AreRight, IsMarked, IsNearer}
 use Rattle.term_sharing.specs.NamedTerms.{IsClosed}
 use Rattle.term_sharing.specs.declared.marks.Mark.{Mark}
 use Rattle.term_sharing.specs.declared.uses.Uses.{Uses}
@@ -82,24 +79,24 @@ module _ (s : Table) (v : TermsView) (r : ℕ) (left new : List ℕ) (before : A
       subst (All (IsWellSortedTerm s v)) (sym e) (All-append (IsWellSortedTerm s v) left (reverse rs) before (all_reverse (IsWellSortedTerm s v) rs (arguments_sorted s v t rs w refer)))
 
 -- one mark more
-pub right_after : (s : Table) (v : TermsView) (old new : ℕ → Option Mark) (r : ℕ) (m : Mark) → AreRight s v old
-    → ((q : ℕ) → new q ≡ update nat_eq old r (Some m) q) → (says_closed (Some m) ≡ true → IsClosed s v r) → AreRight s v new
+pub right_after : (s : Table) (v : TermsView) (old new : List Mark) (r : ℕ) (m : Mark) → AreRight s v (mark_at old) → IsMarked old new r m
+    → (says_closed m ≡ true → IsClosed s v r) → AreRight s v (mark_at new)
 right_after s v old new r m right now here q says = go (cases_eq q r)
   where
     go : (q ≡ r) ⊎ (q ≢ r) → IsClosed s v q
     go (inl same) =
-        let at : new q ≡ Some m = ap new same ∙ (now r ∙ update_here old r (Some m)) in
+        let at : mark_at new q ≡ m = ap (mark_at new) same ∙ now.here in
         subst (IsClosed s v) (sym same) (here (sym (ap says_closed at) ∙ says))
-    go (inr other) = right q (sym (ap says_closed (now q ∙ update_apart old r (Some m) q other)) ∙ says)
+    go (inr other) = right q (sym (ap says_closed (now.elsewhere q other)) ∙ says)
 
 -- what is left to do
 pub nearer_smaller : (before old new : Uses) → old.marks ≡ before.marks → vec_len old.left < vec_len before.left → IsNearer old new
-    → (2 ^ 64 - hash_map_len new.marks) * 2 ^ 64 + vec_len new.left < (2 ^ 64 - hash_map_len before.marks) * 2 ^ 64 + vec_len before.left
+    → (2 ^ 64 - met new.marks.items) * 2 ^ 64 + vec_len new.left < (2 ^ 64 - met before.marks.items) * 2 ^ 64 + vec_len before.left
 nearer_smaller before old new same fewer (inl h) =
-    let a = h.0 ∙ ap hash_map_len same in let b = h.1 in omega (arith, a, b, fewer)
+    let a = h.0 ∙ ap met (ap (λ m. m.items) same) in let b = h.1 in omega (arith, a, b, fewer)
 nearer_smaller before old new same fewer (inr h) =
     let a = h.1 in
     let b = h.0 in
     let c = h.2 in
-    let d = ap hash_map_len same in
+    let d = ap met (ap (λ m. m.items) same) in
     omega (arith, a, b, c, d, fewer)

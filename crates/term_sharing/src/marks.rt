@@ -1,19 +1,22 @@
 //! What a walk knows of cells.
-ghost use Rattle.std.specs.Prelude.{◌≡◌, ◌+◌, ◌<◌, ◌^◌, ℕ, nat_eq, true, All, Some, OnOk, is_some, if◌then◌else◌};
-ghost use Rattle.std.specs.HashMap.{get, hash_map_len};
-ghost use Rattle.std.specs.Map.{update};
-ghost use Rattle.term_sharing.specs.Marks.{says_closed, AreRight};
+ghost use Rattle.std.specs.Prelude.{◌≡◌, ◌+◌, ◌<◌, ◌≤◌, ◌^◌, ℕ, true, length, slice_index_or, All, OnOk, if◌then◌else◌};
+ghost use Rattle.term_sharing.specs.declared.marks.Mark.TheVariants as Mark;
+ghost use Rattle.term_sharing.specs.Marks.{mark_at, is_met, met, says_closed, AreRight, IsMarked};
 ghost use Rattle.term_sharing.specs.NamedTerms.{IsClosed};
 
 use pair_pool::{Memory, Ref};
-use std::collections::HashMap;
 use sym_table::Symbols;
 use term_expansion::term_parts::is_variable;
 use term_pool::Terms;
 
-/// What is known of a cell of a term that was met.
+/// The reference of the cell at place 0.
+const FIRST_CELL: u32 = 1 << 30;
+
+/// What is known of a cell. The marks of all cells stand in a vector by their places, of one byte for each up to the last that was met.
 #[derive(Clone, Copy)]
 pub(crate) enum Mark {
+    /// It was not met.
+    Unmet,
     /// Its parts are gone through.
     Entered,
     /// A variable or a let may stand in it.
@@ -25,33 +28,57 @@ pub(crate) enum Mark {
 }
 
 /// The mark of a cell.
-pub(crate) fn mark_of(marks: &HashMap<u32, Mark>, r: Ref) -> Option<Mark>
-    ensures { result ≡ get nat_eq marks.now r }
+pub(crate) fn mark_of(marks: &[Mark], r: Ref) -> Mark
+    requires { 2 ^ 30 ≤ r }
+    ensures { result ≡ mark_at marks.now r }
 {
-    marks.get(&r.number()).copied()
+    match marks.get((r.number() - FIRST_CELL) as usize) {
+        Some(mark) => *mark,
+        None => Mark::Unmet,
+    }
 }
 
-/// Marks a cell.
-pub(crate) fn put(marks: &mut HashMap<u32, Mark>, r: Ref, mark: Mark) -> Result<(), Memory>
-    ensures marks { OnOk result ((q : ℕ) → get nat_eq marks.new q ≡ update nat_eq (get nat_eq marks.old) r (Some mark) q) }
-    ensures len { OnOk result (hash_map_len marks.new ≡ hash_map_len marks.old + (if is_some (get nat_eq marks.old r) then 0 else 1)) }
-    ensures few { hash_map_len marks.old < 2 ^ 64 }
+/// Makes a vector long enough for a place.
+#[tactic(auto, using(crate::proofs::MarkLemmas::met_more))]
+fn reach(marks: &mut Vec<Mark>, place: usize) -> Result<(), Memory>
+    requires { place < 2 ^ 31 }
+    ensures same { OnOk result ((k : ℕ) → slice_index_or marks.new.items k Mark.Unmet ≡ slice_index_or marks.old.items k Mark.Unmet) }
+    ensures met { OnOk result (met marks.new.items ≡ met marks.old.items) }
+    ensures there { OnOk result (place < length marks.new.items) }
+{
+    if place < marks.len() {
+        return Ok(());
+    }
+    marks.resize(place + 1, Mark::Unmet)?;
+    Ok(())
+}
+
+/// Marks a cell that is met.
+#[tactic(auto, using(crate::proofs::MarkLemmas::met_few))]
+pub(crate) fn put(marks: &mut Vec<Mark>, r: Ref, mark: Mark) -> Result<(), Memory>
+    requires cell { 2 ^ 30 ≤ r }
+    requires met { is_met mark ≡ true }
+    ensures marks { OnOk result (IsMarked marks.old.items marks.new.items r mark) }
+    ensures met { OnOk result (met marks.new.items ≡ met marks.old.items + (if is_met (mark_at marks.old.items r) then 0 else 1)) }
+    ensures few { met marks.old.items < 2 ^ 64 }
 {
     let _count = marks.len();
-    let _ = marks.insert(r.number(), mark)?;
+    let place = (r.number() - FIRST_CELL) as usize;
+    reach(marks, place)?;
+    marks[place] = mark;
     Ok(())
 }
 
 /// Whether a mark says that no variable stands in the cell.
-fn tells_closed(mark: Option<Mark>) -> bool
+fn tells_closed(mark: Mark) -> bool
     ensures { result ≡ says_closed mark }
 {
-    matches!(mark, Some(Mark::Closed | Mark::Found))
+    matches!(mark, Mark::Closed | Mark::Found)
 }
 
 /// Whether a part of a term has no variable in it, as far as it is marked.
-fn is_closed(symbols: &Symbols, terms: &Terms<'_>, marks: &HashMap<u32, Mark>, r: Ref) -> bool
-    requires { AreRight symbols.now terms.now (get nat_eq marks.now) }
+fn is_closed(symbols: &Symbols, terms: &Terms<'_>, marks: &[Mark], r: Ref) -> bool
+    requires { AreRight symbols.now terms.now (mark_at marks.now) }
     ensures { result ≡ true → IsClosed symbols.now terms.now r }
 {
     terms.one_to_one();
@@ -70,10 +97,10 @@ fn is_closed(symbols: &Symbols, terms: &Terms<'_>, marks: &HashMap<u32, Mark>, r
 pub(crate) fn are_closed(
     symbols: &Symbols,
     terms: &Terms<'_>,
-    marks: &HashMap<u32, Mark>,
+    marks: &[Mark],
     parts: &[Ref],
 ) -> bool
-    requires { AreRight symbols.now terms.now (get nat_eq marks.now) }
+    requires { AreRight symbols.now terms.now (mark_at marks.now) }
     ensures { result ≡ true → All (IsClosed symbols.now terms.now) parts.now }
 {
     'parts: for r in parts {
@@ -85,6 +112,8 @@ pub(crate) fn are_closed(
 }
 
 /// Whether a term was met more than once.
-pub(crate) fn is_found(marks: &HashMap<u32, Mark>, r: Ref) -> bool {
-    matches!(mark_of(marks, r), Some(Mark::Found))
+pub(crate) fn is_found(marks: &[Mark], r: Ref) -> bool
+    requires { 2 ^ 30 ≤ r }
+{
+    matches!(mark_of(marks, r), Mark::Found)
 }

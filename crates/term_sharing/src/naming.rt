@@ -9,7 +9,6 @@ use crate::free_names::{leaf_names, next_free};
 use crate::marks::{Mark, is_found};
 use pair_pool::Ref;
 use std::alloc::{AllocError, Global};
-use std::collections::HashMap;
 use sym_table::Symbols;
 use term_pool::Terms;
 use term_printer::Names;
@@ -21,7 +20,7 @@ pub(crate) fn names_for(
     symbols: &Symbols,
     terms: &Terms<'_>,
     problem: &Problem,
-    marks: &HashMap<u32, Mark>,
+    marks: &[Mark],
     closed: &[Ref],
 ) -> Result<Names, AllocError>
     requires { All (MayHaveName symbols.now terms.now) closed.now }

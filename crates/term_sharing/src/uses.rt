@@ -1,6 +1,5 @@
 //! A walk over terms that finds those that stand more than once and may have names.
-ghost use Rattle.std.specs.Prelude.{◌≡◌, ◌≤◌, ◌^◌, ℕ, nat_eq, true, false, All, Some, IfSome, IfOk, OnOk, ◌<◌, ◌++◌, reverse, vec_len};
-ghost use Rattle.std.specs.HashMap.{get};
+ghost use Rattle.std.specs.Prelude.{◌≡◌, ◌≤◌, ◌^◌, ℕ, true, false, All, IfSome, IfOk, OnOk, ◌<◌, ◌++◌, reverse, vec_len};
 ghost use Rattle.pair_pool.specs.Views.{IsKnown};
 ghost use Rattle.sym_table.specs.Table.{Table, IsTable};
 ghost use Rattle.term_model.specs.Terms.{Term};
@@ -9,7 +8,7 @@ ghost use Rattle.term_pool.specs.Views.{TermsView, RefersTo};
 ghost use Rattle.sort_check.specs.WellSorted.{IsWellSortedTerm};
 ghost use Rattle.problem_text.specs.Scripts.{Script};
 ghost use Rattle.term_reader.specs.ProblemViews.{IsProblemOf};
-ghost use Rattle.term_sharing.specs.Marks.{AreRight, AreUses, IsNearer};
+ghost use Rattle.term_sharing.specs.Marks.{mark_at, AreRight, AreUses, IsNearer};
 ghost use Rattle.term_sharing.specs.Naming.{HasPlan};
 ghost use Rattle.term_sharing.specs.NamedTerms.{IsClosed, MayHaveName};
 ghost use Rattle.term_sharing.specs.declared.marks.Mark.TheVariants as Mark;
@@ -18,7 +17,6 @@ use crate::marks::{Mark, are_closed, mark_of, put};
 use crate::naming::names_for;
 use pair_pool::{Memory, Ref};
 use std::alloc::{AllocError, Global};
-use std::collections::HashMap;
 use sym_table::Symbols;
 use term_expansion::term_parts::{arguments_of, let_parts};
 use term_pool::Terms;
@@ -28,12 +26,12 @@ use term_reader::Problem;
 /// The terms that were met, and those of them that may have names: they stand more than once, and neither a variable nor a let stands
 /// in them.
 ///
-/// Each cell of a term is gone through once, however often it stands, with a look-up and an entry for it. A term of any height
-/// takes no stack.
+/// Each cell of a term is gone through once, however often it stands. What is known of it is a byte at its place, so a pool takes a byte
+/// for each place up to the last cell that was met. A term of any height takes no stack.
 #[derive(Drop)]
 pub struct Uses {
     alloc: Global,
-    marks: HashMap<u32, Mark>,
+    marks: Vec<Mark>,
     /// What is to be met, the next one last. A term that is entered stands below its parts, the first one of which comes next.
     left: Vec<Ref>,
     /// The terms in which neither a variable nor a let stands, in the order in which a text that has each once comes to their ends.
@@ -88,12 +86,12 @@ fn is_closed_below(
     alloc: Global,
     symbols: &Symbols,
     terms: &mut Terms<'_>,
-    marks: &HashMap<u32, Mark>,
+    marks: &[Mark],
     r: Ref,
 ) -> Result<bool, Memory>
     requires cell { 2 ^ 30 ≤ r }
     requires term { IsWellSortedTerm symbols.now terms.old r }
-    requires marks { AreRight symbols.now terms.old (get nat_eq marks.now) }
+    requires marks { AreRight symbols.now terms.old (mark_at marks.now) }
     ensures closed { IfOk result (λ closed. closed ≡ true → IsClosed symbols.now terms.old r) }
     ensures same { terms.new ≡ terms.old }
 {
@@ -109,12 +107,13 @@ fn is_closed_below(
 
 impl Uses {
     /// Nothing is met.
+    #[tactic(auto, using(crate::proofs::MarkLemmas::no_marks))]
     pub fn new(alloc: Global) -> Uses
         ensures { (s : Table) (v : TermsView) → AreUses s v result }
     {
         Uses {
             alloc,
-            marks: HashMap::new(alloc),
+            marks: Vec::new(alloc),
             left: Vec::new(alloc),
             closed: Vec::new(alloc),
         }
@@ -156,23 +155,24 @@ impl Uses {
             return Ok(());
         }
         match mark_of(&self.marks, r) {
-            None => {
+            Mark::Unmet => {
                 put(&mut self.marks, r, Mark::Entered)?;
                 self.left.push(r)?;
                 enter(self.alloc, symbols, terms, &mut self.left, r)
             }
-            Some(Mark::Entered) => {
+            Mark::Entered => {
                 let closed = is_closed_below(self.alloc, symbols, terms, &self.marks, r)?;
                 self.leave(r, closed)
             }
-            Some(Mark::Closed) => put(&mut self.marks, r, Mark::Found),
-            Some(Mark::Open | Mark::Found) => Ok(()),
+            Mark::Closed => put(&mut self.marks, r, Mark::Found),
+            Mark::Open | Mark::Found => Ok(()),
         }
     }
 
     /// Marks a cell whose parts are gone through.
     fn leave(&mut self, r: Ref, closed: bool) -> Result<(), Memory>
-        requires marked { get nat_eq self.old.marks r ≡ Some Mark.Entered }
+        requires cell { 2 ^ 30 ≤ r }
+        requires marked { mark_at self.old.marks.items r ≡ Mark.Entered }
         ensures uses { OnOk result ((s : Table) (v : TermsView) → AreUses s v self.old → (closed ≡ true → MayHaveName s v r) → AreUses s v self.new) }
         ensures nearer { OnOk result (IsNearer self.old self.new) }
     {

@@ -80,7 +80,7 @@ fn open_to(
 /// Names for the terms of a proof: closed applications that stand more than once in its clauses and in what its anchors bind. None is
 /// a name that the problem takes or that a leaf of the table has, so all terms of the pool are apart from them (`terms_are_apart`).
 ///
-/// Each cell is gone through once, with a look-up and an entry for it. A pivot is not gone through: it stands in a premise. Refuses
+/// Each cell is gone through once. A pivot is not gone through: it stands in a premise. Refuses
 /// only when out of memory.
 pub fn proof_names(
     alloc: Global,

@@ -8,6 +8,11 @@ use Rattle.term_sharing.proofs.naming.names_for.Goals as goal
 pub terms-init : goal.terms-init
 terms-init c = (omega arith, λ sc p. no_names _ _ sc.taken _ _ (c.new-names.ensures.none _ _ sc.taken) c.new-names.ensures.empty)
 
+pub is_found-requires : goal.is_found-requires
+is_found-requires c =
+    (subst (MayHaveName c.args.symbols.now c.args.terms.now) (sym c.r-item.is)
+    (All-get_or (MayHaveName c.args.symbols.now c.args.terms.now) c.args.closed.now c.terms.r-index c.r-item.result c.terms-test.true c.requires)).cell
+
 pub terms-preserved : goal.terms-preserved
 terms-preserved c =
     let s = c.args.symbols.now in

@@ -1,6 +1,5 @@
-use Rattle.std.proofs.Common.{◌≡◌, false, true, nat_eq, sym, subst}
+use Rattle.std.proofs.Common.{◌≡◌, false, true, sym, subst}
 use Rattle.std.specs.Prelude.{All}
-use Rattle.std.specs.HashMap.{get}
 use Rattle.std.proofs.lemmas.List.Elements.{All-push}
 use Rattle.std.proofs.lemmas.Result.{on_ok_weaker}
 use Rattle.term_sharing.specs.NamedTerms.{MayHaveName}
@@ -13,7 +12,7 @@ returns-then-not-closed-clause-uses c =
     on_ok_weaker c.put.result (λ now s v uses may. record {
       left = uses.left;
       marks =
-          right_after s v (get nat_eq c.args.self.now.marks) (get nat_eq c.put.new.marks) c.args.r Mark.Open uses.marks now
+          right_after s v c.args.self.now.marks.items c.put.new.marks.items c.args.r Mark.Open uses.marks now
           (λ e. absurd (let f : false ≡ true = e in cc));
       closed = uses.closed;
     }) c.put.ensures.marks
@@ -23,7 +22,7 @@ returns-clause-uses c =
     on_ok_weaker c.put-2.result (λ now s v uses may. record {
       left = uses.left;
       marks =
-          right_after s v (get nat_eq c.args.self.now.marks) (get nat_eq c.put-2.new.marks) c.args.r Mark.Closed uses.marks now
+          right_after s v c.args.self.now.marks.items c.put-2.new.marks.items c.args.r Mark.Closed uses.marks now
           (λ e. (may c.if-not-closed.false).closed);
       closed =
           subst (All (MayHaveName s v)) (sym c.in_ok-push.ensures.items)
