@@ -1,5 +1,5 @@
 //! What no contract says: that the top call has as many workers as the words ask for, that these work beside each other, and that
-//! each chunk is checked behind the gate.
+//! each chunk is checked, and elaborated, behind the gate.
 use carcara_cli::carcara;
 use file_ports::{Gate, MemoryFolder, MemorySink};
 use std::alloc::{AllocError, Global};
@@ -82,10 +82,10 @@ fn proof_of(alloc: Global, last: u32) -> Result<Vec<u8>, AllocError> {
     Ok(text)
 }
 
-// The words of a check by so many workers.
-fn words_with(alloc: Global, workers: &str) -> Result<Vec<String>, AllocError> {
+// The words of a command by so many workers.
+fn words_with(alloc: Global, command: &str, workers: &str) -> Result<Vec<String>, AllocError> {
     let mut words = Vec::new(alloc);
-    words.push(String::from_str(alloc, "check")?)?;
+    words.push(String::from_str(alloc, command)?)?;
     words.push(String::from_str(alloc, "PROOF")?)?;
     words.push(String::from_str(alloc, "PROBLEM")?)?;
     words.push(String::from_str(alloc, "--num-threads")?)?;
@@ -93,10 +93,11 @@ fn words_with(alloc: Global, workers: &str) -> Result<Vec<String>, AllocError> {
     Ok(words)
 }
 
-// What the top call prints and returns by so many workers, who check a proof with a last step of this number behind a gate.
+// What the top call prints and returns by so many workers, who check or elaborate a proof with a last step of this number behind a gate.
 fn answered<R: AllocGlobal + Threads + Sync>(
     rt: &R,
     gate: &LastFirst,
+    command: &str,
     workers: &str,
     last: u32,
 ) -> Result<(u8, Vec<u8>), AllocError> {
@@ -107,7 +108,7 @@ fn answered<R: AllocGlobal + Threads + Sync>(
         Vec::from_slice(alloc, PROBLEM)?,
     ))?;
     files.push((String::from_str(alloc, "PROOF")?, proof_of(alloc, last)?))?;
-    let words = words_with(alloc, workers)?;
+    let words = words_with(alloc, command, workers)?;
     let mut folder = MemoryFolder::new(files, 65_536, Vec::new(alloc));
     let mut out = MemorySink::new(65_536, Vec::new(alloc));
     let status = carcara(rt, &words, &mut folder, &mut out, gate);
@@ -122,7 +123,7 @@ fn answered<R: AllocGlobal + Threads + Sync>(
 #[test]
 fn two_workers_work_beside_each_other(rt: HostRuntime) -> Result<(), Fail> {
     let gate = LastFirst::new(false);
-    let answer = answered(&rt, &gate, "2", 100).ok();
+    let answer = answered(&rt, &gate, "check", "2", 100).ok();
     assert!(rt;
         answer.is_some_and(|(status, output)| status == 2
             && output.as_slice() == b"holey\nhole t100 hole\n".as_slice())
@@ -131,11 +132,23 @@ fn two_workers_work_beside_each_other(rt: HostRuntime) -> Result<(), Fail> {
     Ok(())
 }
 
+// The same 101 commands are gone over three times: they are checked, checked in strict mode, and elaborated. Each time one worker is
+// held at the first chunk until another one has left the second.
+#[test]
+fn two_workers_elaborate_beside_each_other(rt: HostRuntime) -> Result<(), Fail> {
+    let gate = LastFirst::new(false);
+    let answer = answered(&rt, &gate, "elaborate", "2", 100).ok();
+    assert!(rt; answer.is_some_and(|(status, _)| status == 2));
+    assert!(rt; gate.entered.load(Ordering::SeqCst) == 3);
+    assert!(rt; gate.gave_up.load(Ordering::SeqCst) == 0);
+    Ok(())
+}
+
 // 192 commands, in three chunks: the third is left before the second, and the second before the first.
 #[test]
 fn three_workers_work_beside_each_other(rt: HostRuntime) -> Result<(), Fail> {
     let gate = LastFirst::new(true);
-    let answer = answered(&rt, &gate, "3", 191).ok();
+    let answer = answered(&rt, &gate, "check", "3", 191).ok();
     assert!(rt;
         answer.is_some_and(|(status, output)| status == 2
             && output.as_slice() == b"holey\nhole t191 hole\n".as_slice())

@@ -36,7 +36,8 @@ holes_stand refs proof s v same i (Status.Wide ∷ statuses) = holes_stand refs 
 
 module _ (problem : List ℕ) (options : Options) (text : List ℕ) (bits : ℕ) (s : Table) (v : TermsView) (asserted : List ℕ) (refs : ProofItems ℕ ℕ)
     (both : IsReadProof problem options text s v asserted refs) (same : Corresponds s v refs both.read.proof) where
-  checked_as : (j : Judgement) (h : IsJudgedProof (flags_of options) s v asserted refs j) (of : Verdict) → h.of ≡ of → IsCheckedAs problem options text of
+  abbrev pub checked_as : (j : Judgement) (h : IsJudgedProof (flags_of options) s v asserted refs j) (of : Verdict) → h.of ≡ of
+      → IsCheckedAs problem options text of
   checked_as j h of e = record {
     script = both.script;
     commands = both.read.proof;
@@ -49,7 +50,6 @@ module _ (problem : List ℕ) (options : Options) (text : List ℕ) (bits : ℕ)
   }
 
   pub judged_proof : (j : Judgement) → IsJudgedProof (flags_of options) s v asserted refs j → IsJudgement problem options text bits j
-  unfolding checked_as
   judged_proof Valid h = checked_as Valid h Verdict.Valid h.named
   judged_proof (Holey holes) h = (checked_as (Holey holes) h Verdict.Holey h.named.0, h.named.1 ∙ holes_stand refs both.read.proof s v same 0 h.statuses)
   judged_proof NoEmptyClause h = checked_as NoEmptyClause h Verdict.NoEmpty h.named

@@ -9,4 +9,11 @@ pub mod ScopedTerms
 pub mod ScopedProofs
 pub mod TruthClauses
 mod OneAnswer
+mod Outcomes
+mod Finishing
+mod TextsInstead
+mod MadeLemmas
 mod SomeJudgement
+mod Narrowed
+mod ElaboratedTexts
+mod WrittenElaborations

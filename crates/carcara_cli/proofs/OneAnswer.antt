@@ -1,5 +1,5 @@
 -- The words and the files define one answer.
-use Rattle.std.proofs.Common.{◌≡◌, ◌≢◌, inl, inr, ◌≤◌, ℕ, suc, List, [], ◌∷◌, ◌++◌, Bool, map, length, slice_get, Option, Some, None, refl, sym, ◌∙◌, ap, subst, arith}
+use Rattle.std.proofs.Common.{◌≡◌, ◌≢◌, ◌⊎◌, inl, inr, ◌≤◌, ℕ, suc, List, [], ◌∷◌, ◌++◌, Bool, map, length, slice_get, Option, Some, None, refl, sym, ◌∙◌, ap, subst, arith}
 use Rattle.std.specs.Prelude.{codes}
 use Rattle.std.specs.Io.KnownBytes.{Appends}
 use Rattle.std.specs.List.{flat_map}
@@ -17,17 +17,22 @@ use Rattle.alethe_text.specs.ProofTexts.{StandsForProof, IsFirstProofFault}
 use Rattle.alethe_text.specs.States.{ProofSettings}
 use Rattle.command_words.specs.declared.request.Options.{Options}
 use Rattle.command_words.specs.CommandLine.{Asked}
+use Rattle.command_words.specs.declared.request.Command.{Command}
+use Rattle.command_words.specs.declared.request.Command.TheVariants.{Check, Elaborate}
 use Rattle.carcara_cli.specs.declared.answer.Answer.{Answer}
 use Rattle.carcara_cli.specs.declared.answer.Answer.TheVariants.{Usage, ReadFault, TooLong, Judged}
 use Rattle.carcara_cli.specs.declared.judgement.Hole as code
 use Rattle.carcara_cli.specs.declared.judgement.Judgement.{Judgement}
 use Rattle.carcara_cli.specs.declared.judgement.Judgement.TheVariants.{Valid, Holey, NoEmptyClause, Faulty, TooWide, RefusedProblem, RefusedProof, PoolFull}
-use Rattle.carcara_cli.specs.Exactness.{IsDefinedAnswer, IsExact, SaySame}
+use Rattle.carcara_cli.specs.Elaborated.{IsElaboratedText, IsJudgementInstead, IsLeftOutText, IsStatusOfPrinted}
+use Rattle.carcara_cli.specs.Exactness.{IsDefinedAnswer, IsElaboratedAs, IsExact, IsSaidBy, IsSaidInstead, IsSaidTo, SaySame}
 use Rattle.carcara_cli.specs.Holes.{Hole, holes_from, told_hole}
 use Rattle.carcara_cli.specs.Judgement.{IsCheckedAs, IsJudgement}
-use Rattle.carcara_cli.specs.Printed.{line_end, text_of_step_cause, step_text, hole_line, refusal_text, text_of_judgement, status_of_judgement, status_of}
+use Rattle.carcara_cli.specs.Printed.{line_end, text_of_step_cause, step_text, hole_line, refusal_text, text_of_judgement, status_of_judgement, status_of, text_of}
+use Rattle.carcara_cli.specs.Outcomes.{Outcome, answered, left_out, elaborated, status_of_outcome, text_of_outcome}
 use Rattle.carcara_cli.specs.Reading.{checking_of, settings_of}
-use Rattle.carcara_cli.specs.TopCall.{most_bytes, IsTooLong, IsJudgedOfFiles, IsAnswerTo, IsPrinted}
+use Rattle.carcara_cli.specs.TopCall.{most_bytes, IsTooLong, IsJudgedOfFiles, IsAnswerInstead, IsAnswerTo, IsOfFiles, IsOutcomeTo, IsPrinted}
+use Rattle.carcara_cli.specs.TopCall.{ElaboratesTo, ComesTo}
 
 same_lists : (ss zs : List Status) → length ss ≡ length zs → ((i : ℕ) (s z : Status) → slice_get ss i ≡ Some s → slice_get zs i ≡ Some z → s ≡ z) → ss ≡ zs
 same_lists [] [] e h = refl
@@ -75,6 +80,58 @@ read_both bits content p ReadFault h = absurd (omega (arith, h))
 read_both bits content p TooLong h = h
 read_both bits content p (Judged j) h = h
 
+-- ---- where a proof is to be elaborated
+
+neither_status : (n : ℕ) → n ≢ 0 → n ≢ 2 → (n ≡ 0) ⊎ (n ≡ 2) → ⊥
+neither_status n zero two (inl e) = zero e
+neither_status n zero two (inr e) = two e
+
+printed_status : (v : Verdict) (status : ℕ) → IsStatusOfPrinted v status → verdict_status v ≡ status
+unfolding verdict_status
+printed_status Verdict.Valid status e = sym e
+printed_status Verdict.Holey status e = sym e
+printed_status Verdict.NoEmpty status e = absurd e
+printed_status (Verdict.InvalidAt i cause) status e = absurd e
+printed_status (Verdict.Unknown i) status e = absurd e
+
+pub printed_or : (v : Verdict) (status : ℕ) → IsStatusOfPrinted v status → (status ≡ 0) ⊎ (status ≡ 2)
+printed_or Verdict.Valid status e = inl e
+printed_or Verdict.Holey status e = inr e
+printed_or Verdict.NoEmpty status e = absurd e
+printed_or (Verdict.InvalidAt i cause) status e = absurd e
+printed_or (Verdict.Unknown i) status e = absurd e
+
+never_judged : (problem : List ℕ) (options : Options) (proof : List ℕ) (bits : ℕ) (j : Judgement) → IsJudgementInstead problem options proof bits j
+    → (status_of_judgement j ≡ 0) ⊎ (status_of_judgement j ≡ 2) → ⊥
+never_judged problem options proof bits Valid h is = absurd h
+never_judged problem options proof bits (Holey holes) h is = absurd h
+never_judged problem options proof bits NoEmptyClause h is = neither_status 1 (λ x. omega (arith, x)) (λ x. omega (arith, x)) is
+never_judged problem options proof bits (Faulty id cause) h is = neither_status 1 (λ x. omega (arith, x)) (λ x. omega (arith, x)) is
+never_judged problem options proof bits (TooWide id) h is = neither_status 4 (λ x. omega (arith, x)) (λ x. omega (arith, x)) is
+never_judged problem options proof bits (RefusedProblem r) h is = neither_status 3 (λ x. omega (arith, x)) (λ x. omega (arith, x)) is
+never_judged problem options proof bits (RefusedProof r) h is = neither_status 3 (λ x. omega (arith, x)) (λ x. omega (arith, x)) is
+never_judged problem options proof bits PoolFull h is = neither_status 8 (λ x. omega (arith, x)) (λ x. omega (arith, x)) is
+
+-- what is said instead has not the status of a proof that is printed
+pub never_printed : (bits : ℕ) (content : List ℕ → Option (List ℕ)) (before after : ℕ) (p : Asked) (b : Answer) → IsAnswerInstead bits content before after p b
+    → (status_of b ≡ 0) ⊎ (status_of b ≡ 2) → ⊥
+never_printed bits content before after p (Judged j) h is = never_judged h.problem_text p.options h.proof_text bits j h.is is
+never_printed bits content before after p Usage h is = absurd h
+never_printed bits content before after p ReadFault h is = neither_status 5 (λ x. omega (arith, x)) (λ x. omega (arith, x)) is
+never_printed bits content before after p TooLong h is = neither_status 9 (λ x. omega (arith, x)) (λ x. omega (arith, x)) is
+
+-- of files that are told
+told_files : (x y : Option (List ℕ)) (problem proof : List ℕ) (Is : List ℕ → List ℕ → Type 0) → x ≡ Some problem → y ≡ Some proof → IsOfFiles x y Is
+    → Is problem proof × (length problem ≤ most_bytes) × (length proof ≤ most_bytes)
+told_files x y problem proof Is first second h = go (subst (λ z. IsOfFiles z (Some proof) Is) first (subst (λ z. IsOfFiles x z Is) second h))
+  where
+    go : IsOfFiles (Some problem) (Some proof) Is → Is problem proof × (length problem ≤ most_bytes) × (length proof ≤ most_bytes)
+    go k = (
+      subst (λ z. Is problem z) k.proof_told (subst (λ z. Is z k.proof_text) k.problem_told k.is),
+      subst (λ (z : List ℕ). length z ≤ most_bytes) k.problem_told k.problem_within,
+      subst (λ (z : List ℕ). length z ≤ most_bytes) k.proof_told k.proof_within,
+    )
+
 module _
     (one_script : (source : List ℕ) (replaces : Bool) (s t : Script) → StandsForProblem source replaces s → StandsForProblem source replaces t → s ≡ t)
     (one_fault : (source : List ℕ) (replaces : Bool) (r q : Refusal) → IsFirstFault source replaces r → IsFirstFault source replaces q → r ≡ q)
@@ -116,13 +173,13 @@ module _
           ∙ (ap (λ ss. verdict_text b.commands ss v) same_statuses ∙ ap (λ x. verdict_text b.commands b.statuses x) same_verdict)
 
     -- what a judgement comes to: a verdict, or the refusal of one of the texts
-    data ComesTo (status : ℕ) (text : List ℕ) : Type 0 where
-      by_verdict : (v : Verdict) (a : IsCheckedAs problem options proof v) → status ≡ verdict_status v → text ≡ verdict_text a.commands a.statuses v → ComesTo status text
-      by_problem : (r : Refusal) → IsFirstFault problem options.replaces_lets r → status ≡ 3 → text ≡ refusal_text (codes "problem ") r → ComesTo status text
+    data Becomes (status : ℕ) (text : List ℕ) : Type 0 where
+      by_verdict : (v : Verdict) (a : IsCheckedAs problem options proof v) → status ≡ verdict_status v → text ≡ verdict_text a.commands a.statuses v → Becomes status text
+      by_problem : (r : Refusal) → IsFirstFault problem options.replaces_lets r → status ≡ 3 → text ≡ refusal_text (codes "problem ") r → Becomes status text
       by_proof : (sc : Script) (r : Refusal) → StandsForProblem problem options.replaces_lets sc → IsFirstProofFault proof (settings_of options) sc r →
-          status ≡ 3 → text ≡ refusal_text (codes "proof ") r → ComesTo status text
+          status ≡ 3 → text ≡ refusal_text (codes "proof ") r → Becomes status text
 
-    comes : (bits : ℕ) (j : Judgement) → IsJudgement problem options proof bits j → j ≢ PoolFull → ComesTo (status_of_judgement j) (text_of_judgement j)
+    comes : (bits : ℕ) (j : Judgement) → IsJudgement problem options proof bits j → j ≢ PoolFull → Becomes (status_of_judgement j) (text_of_judgement j)
     unfolding verdict_text verdict_status
     comes bits Valid h room = by_verdict Verdict.Valid h refl refl
     comes bits (Holey holes) h room =
@@ -141,7 +198,7 @@ module _
         not_both_proof proof (settings_of options) sc a.commands a.after r
         (subst (λ s. StandsForProof proof (settings_of options) s a.commands a.after) (one_script problem options.replaces_lets a.script sc a.problem_text stands) a.proof_text) h
 
-    one_coming : (m n : ℕ) (x y : List ℕ) → ComesTo m x → ComesTo n y → (m ≡ n) × (x ≡ y)
+    one_coming : (m n : ℕ) (x y : List ℕ) → Becomes m x → Becomes n y → (m ≡ n) × (x ≡ y)
     one_coming m n x y (by_verdict v a e f) (by_verdict w b g h) =
         (e ∙ (ap verdict_status (same_verdict v w a b) ∙ sym g), f ∙ (same_text v w a b ∙ sym h))
     one_coming m n x y (by_verdict v a e f) (by_problem r fault g h) = absurd (not_both problem options.replaces_lets a.script r a.problem_text fault)
@@ -164,6 +221,23 @@ module _
     pub one_judgement : (bits : ℕ) (j k : Judgement) → IsJudgement problem options proof bits j → IsJudgement problem options proof bits k → j ≢ PoolFull → k ≢ PoolFull
         → (status_of_judgement j ≡ status_of_judgement k) × (text_of_judgement j ≡ text_of_judgement k)
     one_judgement bits j k h l room room' = one_coming _ _ _ _ (comes bits j h room) (comes bits k l room')
+
+    -- ---- where the proof is to be elaborated
+
+    -- a judgement and a verdict of the same texts have one status
+    verdict_agrees : (bits : ℕ) (j : Judgement) (v : Verdict) → IsCheckedAs problem options proof v → IsJudgement problem options proof bits j
+        → j ≢ PoolFull → status_of_judgement j ≡ verdict_status v
+    verdict_agrees bits j v checked h room = (one_coming _ _ _ _ (comes bits j h room) (by_verdict v checked refl refl)).0
+
+    instead_is : (bits : ℕ) (j : Judgement) → IsJudgementInstead problem options proof bits j → j ≢ PoolFull → IsJudgement problem options proof bits j
+    instead_is bits Valid h room = absurd h
+    instead_is bits (Holey holes) h room = absurd h
+    instead_is bits NoEmptyClause h room = h
+    instead_is bits (Faulty id cause) h room = h
+    instead_is bits (TooWide id) h room = h
+    instead_is bits (RefusedProblem r) h room = h
+    instead_is bits (RefusedProof r) h room = h
+    instead_is bits PoolFull h room = absurd (room refl)
 
   -- the judgement of two files whose bytes are told
   module _ (bits : ℕ) (options : Options) (problem proof : List ℕ) where
@@ -203,28 +277,147 @@ module _
       one_of_files bits p.options (content p.problem) (content p.proof) a b h.told.0 h.told.1
       (read_both bits content p a h.answers) (read_both bits content p b k.answers) h.has_room k.has_room
 
+  -- what a check of told files says, and what an elaboration of them says
+  module _ (bits : ℕ) (content : List ℕ → Option (List ℕ)) (p : Asked) (old new : Option (List ℕ)) where
+    -- where an elaboration is printed, or the proof is left out
+    of_status : (j : Judgement) (expected status : ℕ) → status_of_judgement j ≡ expected → (expected ≡ 0) ⊎ (expected ≡ 2)
+        → IsElaboratedAs expected content p old new status → IsSaidInstead content p (Judged j) old new status
+    of_status Valid expected status e is h = rw (sym e) at h
+    of_status (Holey holes) expected status e is h = rw (sym e) at h
+    of_status NoEmptyClause expected status e is h = absurd (neither_status 1 (λ x. omega (arith, x)) (λ x. omega (arith, x)) (rw (← e) at is))
+    of_status (Faulty id cause) expected status e is h = absurd (neither_status 1 (λ x. omega (arith, x)) (λ x. omega (arith, x)) (rw (← e) at is))
+    of_status (TooWide id) expected status e is h = absurd (neither_status 4 (λ x. omega (arith, x)) (λ x. omega (arith, x)) (rw (← e) at is))
+    of_status (RefusedProblem r) expected status e is h = absurd (neither_status 3 (λ x. omega (arith, x)) (λ x. omega (arith, x)) (rw (← e) at is))
+    of_status (RefusedProof r) expected status e is h = absurd (neither_status 3 (λ x. omega (arith, x)) (λ x. omega (arith, x)) (rw (← e) at is))
+    of_status PoolFull expected status e is h = absurd (neither_status 8 (λ x. omega (arith, x)) (λ x. omega (arith, x)) (rw (← e) at is))
+
+    module _ (problem proof : List ℕ) (first : content p.problem ≡ Some problem) (second : content p.proof ≡ Some proof) where
+      by_check : (v : Verdict) (expected status : ℕ) → IsStatusOfPrinted v expected → IsCheckedAs problem p.options proof v → length problem ≤ most_bytes
+          → length proof ≤ most_bytes → (a : Answer) → IsAnswerOf bits p.options (Some problem) (Some proof) a → a ≢ Judged PoolFull
+          → IsElaboratedAs expected content p old new status → IsSaidInstead content p a old new status
+      by_check v expected status is checked small low (Judged j) h room printed =
+          of_status j expected status
+          (verdict_agrees problem p.options proof bits j v checked (of_told bits p.options problem proof j h) (λ e. room (ap Judged e))
+          ∙ printed_status v expected is)
+          (printed_or v expected is) printed
+      by_check v expected status is checked small low TooLong (inl longer) room printed = absurd (omega (arith, small, longer))
+      by_check v expected status is checked small low TooLong (inr both) room printed = absurd (omega (arith, low, both.1))
+      by_check v expected status is checked small low Usage h room printed = absurd h
+      by_check v expected status is checked small low ReadFault h room printed = absurd h
+
+      -- what is said instead is said by a check
+      answer_of : (b : Answer) → IsAnswerInstead bits content 0 0 p b → b ≢ Judged PoolFull → IsAnswerOf bits p.options (Some problem) (Some proof) b
+      answer_of (Judged j) h room =
+          record {
+            problem_text = h.problem_text;
+            proof_text = h.proof_text;
+            problem_told = rw first at h.problem_told;
+            proof_told = rw second at h.proof_told;
+            problem_within = h.problem_within;
+            proof_within = h.proof_within;
+            judged = instead_is h.problem_text p.options h.proof_text bits j h.is (λ e. room (ap Judged e));
+          }
+      answer_of TooLong h room = let told : IsTooLong (Some problem) (Some proof) = rw (first, second) at h in told
+      answer_of ReadFault h room = absurd (omega (arith, h))
+      answer_of Usage h room = absurd h
+
+      same_said : (a b : Answer) → IsAnswerInstead bits content 0 0 p b → SaySame b a → Appends old new (text_of b)
+          → IsSaidInstead content p a old new (status_of b)
+      same_said (Judged Valid) b h same text = absurd (never_printed bits content 0 0 p b h (inl same.status))
+      same_said (Judged (Holey holes)) b h same text = absurd (never_printed bits content 0 0 p b h (inr same.status))
+      same_said (Judged NoEmptyClause) b h same text = (same.status, subst (Appends old new) same.text text)
+      same_said (Judged (Faulty id cause)) b h same text = (same.status, subst (Appends old new) same.text text)
+      same_said (Judged (TooWide id)) b h same text = (same.status, subst (Appends old new) same.text text)
+      same_said (Judged (RefusedProblem r)) b h same text = (same.status, subst (Appends old new) same.text text)
+      same_said (Judged (RefusedProof r)) b h same text = (same.status, subst (Appends old new) same.text text)
+      same_said (Judged PoolFull) b h same text = (same.status, subst (Appends old new) same.text text)
+      same_said Usage b h same text = (same.status, subst (Appends old new) same.text text)
+      same_said ReadFault b h same text = (same.status, subst (Appends old new) same.text text)
+      same_said TooLong b h same text = (same.status, subst (Appends old new) same.text text)
+
+      said_of : (a : Answer) → IsAnswerOf bits p.options (Some problem) (Some proof) a → a ≢ Judged PoolFull → (o : Outcome) → ElaboratesTo bits content 0 0 p o
+          → o ≢ answered (Judged PoolFull) → Appends old new (text_of_outcome o) → IsSaidInstead content p a old new (status_of_outcome o)
+      said_of a h room (answered b) k other text =
+          same_said a b k (one_of_told bits p.options problem proof b a (answer_of b k (λ e. other (ap answered e))) h (λ e. other (ap answered e)) room) text
+      said_of a h room left_out k other text =
+          let all : IsLeftOutText problem p.options proof × (length problem ≤ most_bytes) × (length proof ≤ most_bytes) =
+          told_files (content p.problem) (content p.proof) problem proof (λ x y. IsLeftOutText x p.options y) first second k in
+          by_check all.0.verdict all.0.status 3 all.0.passes all.0.checked all.1 all.2 a h room (inr (k, (refl, text)))
+      said_of a h room (elaborated status bytes) k other text =
+          let all : IsElaboratedText problem p.options proof status bytes × (length problem ≤ most_bytes) × (length proof ≤ most_bytes) =
+          told_files (content p.problem) (content p.proof) problem proof (λ x y. IsElaboratedText x p.options y status bytes) first second k in
+          by_check all.0.verdict status status all.0.is_status all.0.checked all.1 all.2 a h room (inl refl)
+
+    from_told : (x y : Option (List ℕ)) → content p.problem ≡ x → content p.proof ≡ y → x ≢ None → y ≢ None → (a : Answer) → IsAnswerOf bits p.options x y a
+        → a ≢ Judged PoolFull → (o : Outcome) → ElaboratesTo bits content 0 0 p o → o ≢ answered (Judged PoolFull) → Appends old new (text_of_outcome o)
+        → IsSaidInstead content p a old new (status_of_outcome o)
+    from_told None y first second told told' a h = absurd (told refl)
+    from_told (Some problem) None first second told told' a h = absurd (told' refl)
+    from_told (Some problem) (Some proof) first second told told' a h = said_of problem proof first second a h
+
+  pub elaboration_says : (bits : ℕ) (content : List ℕ → Option (List ℕ)) (p : Asked) (a : Answer) (o : Outcome) (old new : Option (List ℕ))
+      → IsDefinedAnswer bits content (Some p) a → ElaboratesTo bits content 0 0 p o → o ≢ answered (Judged PoolFull) → Appends old new (text_of_outcome o)
+      → IsSaidInstead content p a old new (status_of_outcome o)
+  elaboration_says bits content p a o old new h =
+      from_told bits content p old new (content p.problem) (content p.proof) refl refl h.told.0 h.told.1 a (read_both bits content p a h.answers) h.has_room o
+
 abbrev pub DefineOneAnswer : Type 0
 DefineOneAnswer =
     (bits : ℕ) (content : List ℕ → Option (List ℕ)) (asked : Option Asked) (a b : Answer)
     → IsDefinedAnswer bits content asked a → IsDefinedAnswer bits content asked b → SaySame a b
 
--- an answer but a read fault says nothing of the counts of faults
-no_fault_risen : (bits : ℕ) (content : List ℕ → Option (List ℕ)) (before after : ℕ) (asked : Option Asked) (a : Answer)
-    → IsAnswerTo bits content before after asked a → status_of a ≢ 5 → IsAnswerTo bits content 0 0 asked a
-no_fault_risen bits content before after None a h not_fault = h
-no_fault_risen bits content before after (Some p) Usage h not_fault = h
-no_fault_risen bits content before after (Some p) ReadFault h not_fault = absurd (not_fault refl)
-no_fault_risen bits content before after (Some p) TooLong h not_fault = h
-no_fault_risen bits content before after (Some p) (Judged j) h not_fault = h
+abbrev pub SayWhatChecksSay : Type 0
+SayWhatChecksSay =
+    (bits : ℕ) (content : List ℕ → Option (List ℕ)) (p : Asked) (a : Answer) (o : Outcome) (old new : Option (List ℕ))
+    → IsDefinedAnswer bits content (Some p) a → ElaboratesTo bits content 0 0 p o → o ≢ answered (Judged PoolFull) → Appends old new (text_of_outcome o)
+    → IsSaidInstead content p a old new (status_of_outcome o)
 
-pub exact : DefineOneAnswer → (bits : ℕ) (content : List ℕ → Option (List ℕ)) (before after : ℕ) (asked : Option Asked) (old new : Option (List ℕ)) (status : ℕ)
-    → IsPrinted (IsAnswerTo bits content before after asked) old new status → IsExact bits content asked old new status
-exact one bits content before after asked old new status printed a defined not_fault not_failed not_memory not_full =
+-- an answer but a read fault says nothing of the counts of faults
+no_fault_risen : (bits : ℕ) (content : List ℕ → Option (List ℕ)) (before after : ℕ) (p : Asked) (a : Answer)
+    → IsAnswerTo bits content before after (Some p) a → status_of a ≢ 5 → IsAnswerTo bits content 0 0 (Some p) a
+no_fault_risen bits content before after p Usage h not_fault = h
+no_fault_risen bits content before after p ReadFault h not_fault = absurd (not_fault refl)
+no_fault_risen bits content before after p TooLong h not_fault = h
+no_fault_risen bits content before after p (Judged j) h not_fault = h
+
+none_risen : (bits : ℕ) (content : List ℕ → Option (List ℕ)) (before after : ℕ) (p : Asked) (o : Outcome)
+    → ElaboratesTo bits content before after p o → status_of_outcome o ≢ 5 → ElaboratesTo bits content 0 0 p o
+none_risen bits content before after p (answered Usage) h not_fault = h
+none_risen bits content before after p (answered ReadFault) h not_fault = absurd (not_fault refl)
+none_risen bits content before after p (answered TooLong) h not_fault = h
+none_risen bits content before after p (answered (Judged j)) h not_fault = h
+none_risen bits content before after p left_out h not_fault = h
+none_risen bits content before after p (elaborated status text) h not_fault = h
+
+module _ (one : DefineOneAnswer) (say : SayWhatChecksSay) (bits : ℕ) (content : List ℕ → Option (List ℕ)) (before after : ℕ)
+    (old new : Option (List ℕ)) (status : ℕ) (not_fault : status ≢ 5) (not_full : status ≢ 8) where
+  exact_by : (c : Command) (p : Asked) (a : Answer) → IsDefinedAnswer bits content (Some p) a → (o : Outcome) → ComesTo c bits content before after p o
+      → status ≡ status_of_outcome o → Appends old new (text_of_outcome o) → IsSaidBy content c p a old new status
+  exact_by Check p a defined (answered b) h is text =
+      let given : IsDefinedAnswer bits content (Some p) b = record {
+        told = defined.told;
+        answers = no_fault_risen bits content before after p b h (λ e. not_fault (is ∙ e));
+        has_room = λ e. not_full (is ∙ ap status_of e);
+      } in
+      let same = one bits content (Some p) b a given defined in
+      (is ∙ same.status, subst (Appends old new) same.text text)
+  exact_by Check p a defined left_out h is text = absurd h
+  exact_by Check p a defined (elaborated s t) h is text = absurd h
+  exact_by Elaborate p a defined o h is text =
+      subst (IsSaidInstead content p a old new) (sym is)
+      (say bits content p a o old new defined (none_risen bits content before after p o h (λ e. not_fault (is ∙ e)))
+      (λ e. not_full (is ∙ ap status_of_outcome e)) text)
+
+  exact_at : (asked : Option Asked) (a : Answer) → IsDefinedAnswer bits content asked a → (o : Outcome) → IsOutcomeTo bits content before after asked o
+      → status ≡ status_of_outcome o → Appends old new (text_of_outcome o) → IsSaidTo content asked a old new status
+  exact_at None a defined o h is text =
+      let same : text_of_outcome o ≡ text_of a = ap text_of_outcome h ∙ ap text_of (sym defined.answers) in
+      (is ∙ ap status_of_outcome h ∙ ap status_of (sym defined.answers), subst (Appends old new) same text)
+  exact_at (Some p) a defined o h is text = exact_by p.command p a defined o h is text
+
+pub exact : DefineOneAnswer → SayWhatChecksSay → (bits : ℕ) (content : List ℕ → Option (List ℕ)) (before after : ℕ) (asked : Option Asked)
+    (old new : Option (List ℕ)) (status : ℕ) → IsPrinted (IsOutcomeTo bits content before after asked) old new status
+    → IsExact bits content asked old new status
+exact one say bits content before after asked old new status printed a defined not_fault not_failed not_memory not_full =
     let whole = printed.whole not_failed not_memory in
-    let given : IsDefinedAnswer bits content asked whole.answer = record {
-      told = defined.told;
-      answers = no_fault_risen bits content before after asked whole.answer whole.may_answer (λ e. not_fault (whole.is_status ∙ e));
-      has_room = λ e. not_full (whole.is_status ∙ ap status_of e);
-    } in
-    let same = one bits content asked whole.answer a given defined in
-    (whole.is_status ∙ same.status, subst (Appends old new) same.text whole.printed)
+    exact_at one say bits content before after old new status not_fault not_full asked a defined whole.outcome whole.may_come whole.is_status whole.printed

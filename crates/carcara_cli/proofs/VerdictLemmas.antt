@@ -67,7 +67,7 @@ pub covers : (flags : Flags) (s : Table) (v : TermsView) (rs : List ℕ) (refs :
 covers flags s v rs refs can statuses same are = (are can.proof can.asserted.assertions can.stand can.asserted.refer).count ∙ sym same
 
 -- a command that a verdict names is one of those with a status
-status_within : (statuses : List Status) (i : ℕ) (status : Status) → slice_get statuses i ≡ Some status → i < length statuses
+pub status_within : (statuses : List Status) (i : ℕ) (status : Status) → slice_get statuses i ≡ Some status → i < length statuses
 status_within [] i status e = absurd (cc)
 status_within (z ∷ statuses) zero status e = omega arith
 status_within (z ∷ statuses) (suc i) status e = let h = status_within statuses i status e in omega (arith, h)

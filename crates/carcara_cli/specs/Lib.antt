@@ -4,9 +4,13 @@ pub mod CellSums
 pub mod Holes
 pub mod Judgement
 pub mod Printed
+pub mod Outcomes
+pub mod Elaborated
 pub mod TopCall
 pub mod Exactness
 pub mod Pools
 pub mod Texts
 pub mod Answering
 pub mod Judging
+pub mod Statuses
+pub mod Making

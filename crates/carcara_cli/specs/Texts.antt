@@ -8,6 +8,10 @@ use Rattle.problem_text.specs.Scripts.{Script}
 use Rattle.alethe_reader.specs.Reading.{IsProofOf}
 use Rattle.term_reader.specs.declared.flags.Flags.{Flags}
 use Rattle.command_words.specs.declared.request.Options.{Options}
+use Rattle.term_reader.specs.ProblemViews.{IsProblemOf}
+use Rattle.carcara_cli.specs.declared.judgement.Judgement.{Judgement}
+use Rattle.carcara_cli.specs.declared.judgement.Judgement.TheVariants.{RefusedProblem, RefusedProof, PoolFull}
+use Rattle.carcara_cli.specs.declared.texts.Both.{Both}
 use Rattle.carcara_cli.specs.declared.texts.Read.{Read}
 use Rattle.carcara_cli.specs.Judgement.{IsJudgement}
 use Rattle.carcara_cli.specs.Pools.{HoldsOnly}
@@ -29,8 +33,19 @@ pub record IsReadProof (problem : List ℕ) (options : Options) (text : List ℕ
   pub assertions : ReferToAll s v asserted script.assertions
   pub read : IsProofOf text (settings_of options) script s v refs
 
+-- both texts were read, the problem's behind the same script
+pub record AreReadBoth (problem : List ℕ) (options : Options) (text : List ℕ) (s : Table) (v : TermsView) (both : Both) : Type 0 where
+  pub read : IsReadProof problem options text s v both.problem.assertions both.proof
+  pub is : IsProblemOf s v both.problem read.script
+
+-- what texts come to that were not both read: one is refused, or the pool is full
+abbrev pub IsNotRead : List ℕ → Options → List ℕ → ℕ → Judgement → Type 0
+IsNotRead problem options text bits (RefusedProblem r) = IsJudgement problem options text bits (RefusedProblem r)
+IsNotRead problem options text bits (RefusedProof r) = IsJudgement problem options text bits (RefusedProof r)
+IsNotRead problem options text bits PoolFull = IsJudgement problem options text bits PoolFull
+IsNotRead problem options text bits j = ⊥
+
 -- Both texts were read, and what stands in the pool are cells of terms that were read; or this is what they come to.
 abbrev pub IsRead : List ℕ → Options → List ℕ → Table → TermsView → Read → Type 0
-IsRead problem options text s v (Read.Whole both) =
-    IsReadProof problem options text s v both.problem.assertions both.proof × HoldsOnly s v.pass (IsReadOf problem options text)
-IsRead problem options text s v (Read.Not judgement) = (bits : ℕ) → v.pass.places ≡ 2 ^ bits → IsJudgement problem options text bits judgement
+IsRead problem options text s v (Read.Whole both) = AreReadBoth problem options text s v both × HoldsOnly s v.pass (IsReadOf problem options text)
+IsRead problem options text s v (Read.Not judgement) = (bits : ℕ) → v.pass.places ≡ 2 ^ bits → IsNotRead problem options text bits judgement

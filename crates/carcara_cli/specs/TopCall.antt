@@ -12,8 +12,11 @@ use Rattle.carcara_cli.specs.declared.answer.Answer.{Answer}
 use Rattle.carcara_cli.specs.declared.answer.Answer.TheVariants.{Usage, ReadFault, TooLong, Judged}
 use Rattle.command_words.specs.declared.request.Options.{Options}
 use Rattle.command_words.specs.CommandLine.{Asked}
+use Rattle.command_words.specs.declared.request.Command.{Command}
+use Rattle.command_words.specs.declared.request.Command.TheVariants.{Check, Elaborate}
 use Rattle.carcara_cli.specs.Judgement.{IsJudgement}
-use Rattle.carcara_cli.specs.Printed.{status_of, text_of}
+use Rattle.carcara_cli.specs.Elaborated.{IsElaboratedText, IsJudgementInstead, IsLeftOutText}
+use Rattle.carcara_cli.specs.Outcomes.{Outcome, answered, left_out, elaborated, status_of_outcome, text_of_outcome}
 
 -- the most bytes that a file may have
 abbrev pub most_bytes : ℕ
@@ -48,7 +51,7 @@ pub record IsJudgedOfFiles (bits : ℕ) (options : Options) (problem proof : Opt
   pub proof_within : length proof_text ≤ most_bytes
   pub judged : IsJudgement problem_text options proof_text bits j
 
--- What an answer says: over what a folder tells of its files and its count of faults before and after, and over what
+-- What an answer to a check says: over what a folder tells of its files and its count of faults before and after, and over what
 -- the words ask for, where the largest pool has 2^bits places.
 abbrev pub IsAnswerTo : ℕ → (List ℕ → Option (List ℕ)) → ℕ → ℕ → Option Asked → Answer → Type 0
 IsAnswerTo bits content before after None a = a ≡ Usage
@@ -57,25 +60,64 @@ IsAnswerTo bits content before after (Some p) TooLong = IsTooLong (content p.pro
 IsAnswerTo bits content before after (Some p) (Judged j) = IsJudgedOfFiles bits p.options (content p.problem) (content p.proof) j
 IsAnswerTo bits content before after (Some p) Usage = ⊥
 
--- the whole text of an answer was printed, and the status is the answer's
-pub record PrintsWhole (MayAnswer : Answer → Type 0) (old new : Option (List ℕ)) (status : ℕ) : Type 0 where
-  pub answer : Answer
-  pub may_answer : MayAnswer answer
-  pub is_status : status ≡ status_of answer
-  pub printed : Appends old new (text_of answer)
+-- There are bytes of both files, those that are told where some are, and no more than a file may have; and of them this is so.
+pub record IsOfFiles (problem proof : Option (List ℕ)) (Is : List ℕ → List ℕ → Type 0) : Type 0 where
+  pub problem_text : List ℕ
+  pub proof_text : List ℕ
+  pub problem_told : AreTold problem problem_text
+  pub proof_told : AreTold proof proof_text
+  pub problem_within : length problem_text ≤ most_bytes
+  pub proof_within : length proof_text ≤ most_bytes
+  pub is : Is problem_text proof_text
 
--- a prefix of the text of an answer was printed
-pub record PrintsPrefix (MayAnswer : Answer → Type 0) (old new : Option (List ℕ)) : Type 0 where
-  pub answer : Answer
-  pub may_answer : MayAnswer answer
-  pub printed : AppendsPrefix old new (text_of answer)
+-- An answer where a proof is to be elaborated: as to a check, but it is not that the proof is valid or has holes.
+abbrev pub IsAnswerInstead : ℕ → (List ℕ → Option (List ℕ)) → ℕ → ℕ → Asked → Answer → Type 0
+IsAnswerInstead bits content before after p (Judged j) =
+    IsOfFiles (content p.problem) (content p.proof) (λ problem proof. IsJudgementInstead problem p.options proof bits j)
+IsAnswerInstead bits content before after p a = IsAnswerTo bits content before after (Some p) a
 
--- What was printed, by the status. After a failed write (6) it is a prefix of an answer, after out of memory (7) such a
--- prefix or nothing, and with any other status the whole text of an answer of that status.
-pub record IsPrinted (MayAnswer : Answer → Type 0) (old new : Option (List ℕ)) (status : ℕ) : Type 0 where
-  pub whole : status ≢ 6 → status ≢ 7 → PrintsWhole MayAnswer old new status
-  pub write_fault : status ≡ 6 → PrintsPrefix MayAnswer old new
-  pub memory : status ≡ 7 → PrintsPrefix MayAnswer old new ⊎ (new ≡ old)
+-- What an elaboration comes to: such an answer, a proof that is left out, or the text of an elaboration.
+abbrev pub ElaboratesTo : ℕ → (List ℕ → Option (List ℕ)) → ℕ → ℕ → Asked → Outcome → Type 0
+ElaboratesTo bits content before after p (answered a) = IsAnswerInstead bits content before after p a
+ElaboratesTo bits content before after p left_out =
+    IsOfFiles (content p.problem) (content p.proof) (λ problem proof. IsLeftOutText problem p.options proof)
+ElaboratesTo bits content before after p (elaborated status text) =
+    IsOfFiles (content p.problem) (content p.proof) (λ problem proof. IsElaboratedText problem p.options proof status text)
+
+-- what a check comes to: an answer
+abbrev pub ChecksTo : ℕ → (List ℕ → Option (List ℕ)) → ℕ → ℕ → Asked → Outcome → Type 0
+ChecksTo bits content before after p (answered a) = IsAnswerTo bits content before after (Some p) a
+ChecksTo bits content before after p left_out = ⊥
+ChecksTo bits content before after p (elaborated status text) = ⊥
+
+abbrev pub ComesTo : Command → ℕ → (List ℕ → Option (List ℕ)) → ℕ → ℕ → Asked → Outcome → Type 0
+ComesTo Check = ChecksTo
+ComesTo Elaborate = ElaboratesTo
+
+-- What the words come to: the usage line where they spell no command, and else what their command comes to.
+abbrev pub IsOutcomeTo : ℕ → (List ℕ → Option (List ℕ)) → ℕ → ℕ → Option Asked → Outcome → Type 0
+IsOutcomeTo bits content before after None o = o ≡ answered Usage
+IsOutcomeTo bits content before after (Some p) o = ComesTo p.command bits content before after p o
+
+-- the whole text of an outcome was printed, and the status is the outcome's
+pub record PrintsWhole (MayComeTo : Outcome → Type 0) (old new : Option (List ℕ)) (status : ℕ) : Type 0 where
+  pub outcome : Outcome
+  pub may_come : MayComeTo outcome
+  pub is_status : status ≡ status_of_outcome outcome
+  pub printed : Appends old new (text_of_outcome outcome)
+
+-- a prefix of the text of an outcome was printed
+pub record PrintsPrefix (MayComeTo : Outcome → Type 0) (old new : Option (List ℕ)) : Type 0 where
+  pub outcome : Outcome
+  pub may_come : MayComeTo outcome
+  pub printed : AppendsPrefix old new (text_of_outcome outcome)
+
+-- What was printed, by the status. After a failed write (6) it is a prefix of an outcome's text, after out of memory (7) such a
+-- prefix or nothing, and with any other status the whole text of an outcome of that status.
+pub record IsPrinted (MayComeTo : Outcome → Type 0) (old new : Option (List ℕ)) (status : ℕ) : Type 0 where
+  pub whole : status ≢ 6 → status ≢ 7 → PrintsWhole MayComeTo old new status
+  pub write_fault : status ≡ 6 → PrintsPrefix MayComeTo old new
+  pub memory : status ≡ 7 → PrintsPrefix MayComeTo old new ⊎ (new ≡ old)
 
 -- There are bytes of both files, those that are told where some are, and the problem's stand for a script whose assertions no
 -- interpretation makes all true.

@@ -1,5 +1,5 @@
 //! The judgement of the two texts.
-ghost use Rattle.std.specs.Prelude.{◌≡◌, ◌<◌, ◌≤◌, ◌^◌, ℕ, [], length, IfErr, IfOk};
+ghost use Rattle.std.specs.Prelude.{◌≡◌, ◌<◌, ◌≤◌, ◌^◌, ℕ, List, [], length, IfErr, IfOk};
 ghost use Rattle.pair_pool.specs.Views.{IsForMany, IsPassOf};
 ghost use Rattle.term_reader.specs.ProblemViews.{IsNewTable};
 ghost use Rattle.proof_store.specs.Meaning.{StandForItems};
@@ -11,6 +11,7 @@ ghost use Rattle.rule_model.specs.Proofs.{ProofItems};
 ghost use Rattle.step_check.specs.Chunks.{statuses_in, CanBeChecked};
 ghost use Rattle.step_check.specs.Statuses.{AreStatusesOf, LacksRoomForPlaced, PlacesOnly};
 ghost use Rattle.command_words.specs.Requests.{IsNumberOfWorkers};
+ghost use Rattle.command_words.specs.declared.request.Options.{Options as Chosen};
 ghost use Rattle.carcara_cli.specs.Reading.{IsReadOf};
 ghost use Rattle.carcara_cli.specs.Pools.{HoldsOnly};
 ghost use Rattle.carcara_cli.specs.Judgement.{IsJudgement};
@@ -46,7 +47,7 @@ pub struct Workers<'a, R, G> {
 }
 
 /// The statuses of the pieces, one behind the other.
-fn joined(alloc: Global, pieces: &[Vec<Status>]) -> Result<Vec<Status>, Memory>
+pub(crate) fn joined(alloc: Global, pieces: &[Vec<Status>]) -> Result<Vec<Status>, Memory>
     ensures { IfOk result (λ list. list.items ≡ statuses_in pieces.now) }
 {
     let mut list = Vec::new(alloc);
@@ -58,7 +59,7 @@ fn joined(alloc: Global, pieces: &[Vec<Status>]) -> Result<Vec<Status>, Memory>
 
 /// The statuses of all commands of a proof that was read, behind a problem that was read, chunk by chunk. Refuses where the pool
 /// had no room for a cell that the check places, and when out of memory.
-fn check_commands<R: Threads + Sync, G: Gate>(
+pub(crate) fn check_commands<R: Threads + Sync, G: Gate>(
     workers: &Workers<'_, R, G>,
     alloc: Global,
     job: &StepJob<'_>,
@@ -83,7 +84,7 @@ fn check_commands<R: Threads + Sync, G: Gate>(
 
 /// The judgement of a proof that was read, behind a problem that was read. Refuses where the pool had no room for a cell that
 /// the check places, and when out of memory.
-fn judge_commands<R: Threads + Sync, G: Gate>(
+pub(crate) fn judge_commands<R: Threads + Sync, G: Gate>(
     workers: &Workers<'_, R, G>,
     alloc: Global,
     job: &StepJob<'_>,
@@ -114,11 +115,24 @@ fn judge_commands<R: Threads + Sync, G: Gate>(
 }
 
 /// A law: a proof over references has the commands of the proof for which it stands, and their clauses stand for its own.
-fn proofs_correspond()
+pub(crate) fn proofs_correspond()
     ensures { (s : Table) (v : TermsView) (refs : ProofItems ℕ ℕ) (proof : ProofItems Var Term) → StandForItems s v refs proof → Corresponds s v refs proof }
 {
     commands_correspond();
     terms_correspond();
+}
+
+/// A law: a proof that was read behind a problem can be checked. No clause and no list of premises is longer than its text, and its terms
+/// have their sorts.
+pub(crate) fn read_proofs_can_be_checked()
+    ensures { (problem : List ℕ) (options : Chosen) (text : List ℕ) (s : Table) (v : TermsView) (asserted : List ℕ) (refs : ProofItems ℕ ℕ) →
+        IsReadProof problem options text s v asserted refs → length text ≤ most_bytes → CanBeChecked s v asserted refs }
+{
+    proofs_are_short();
+    scripts_are_well_sorted();
+    scripts_are_closed();
+    proofs_have_scoped_terms();
+    proofs_correspond();
 }
 
 /// What the texts come to where both were read.
@@ -138,10 +152,7 @@ fn judge_read<R: Threads + Sync, G: Gate>(
     requires holds { HoldsOnly symbols.now terms.pass (IsReadOf texts.now.problem.now texts.now.options texts.now.proof.now) }
     ensures { (bits : ℕ) → terms.entry.pass.places ≡ 2 ^ bits → IfOk result (IsJudgement texts.now.problem.now texts.now.options texts.now.proof.now bits) }
 {
-    proofs_are_short();
-    scripts_are_well_sorted();
-    scripts_are_closed();
-    proofs_have_scoped_terms();
+    read_proofs_can_be_checked();
     proofs_correspond();
     let flags = flags_of(texts.options);
     let check = job(&both.proof, &both.problem, symbols, flags);

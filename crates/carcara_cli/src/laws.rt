@@ -1,5 +1,6 @@
 //! Laws of the definitions. Each is the contract of a function that does nothing.
-ghost use Rattle.std.specs.Prelude.{◌<◌, ◌++◌, ℕ, List, Option};
+ghost use Rattle.std.specs.Prelude.{◌<◌, ◌≢◌, ◌++◌, ℕ, List, Option, Some};
+ghost use Rattle.std.specs.Io.KnownBytes.{Appends};
 ghost use Rattle.std.specs.List.{Contains};
 ghost use Rattle.sexpr.specs.Items.{Items, StandsForItems};
 ghost use Rattle.term_model.specs.Terms.{Var, Term};
@@ -17,7 +18,11 @@ ghost use Rattle.carcara_cli.specs.Reading.{settings_of, IsPlacedByCheck, NeedsR
 ghost use Rattle.carcara_cli.specs.Cells.{HasMoreCells};
 ghost use Rattle.carcara_cli.specs.CellSums.{cells_in_all};
 ghost use Rattle.carcara_cli.specs.Judgement.{HasJudgement, IsCheckedAs};
-ghost use Rattle.carcara_cli.specs.Exactness.{IsDefinedAnswer, SaySame};
+ghost use Rattle.carcara_cli.specs.Exactness.{IsDefinedAnswer, IsSaidInstead, SaySame};
+ghost use Rattle.carcara_cli.specs.Outcomes.{Outcome, answered, status_of_outcome, text_of_outcome};
+ghost use Rattle.carcara_cli.specs.TopCall.{ElaboratesTo};
+ghost use Rattle.carcara_cli.specs.declared.answer.Answer.TheVariants.{Judged};
+ghost use Rattle.carcara_cli.specs.declared.judgement.Judgement.TheVariants.{PoolFull};
 ghost use Rattle.carcara_cli.specs.declared.answer.Answer.{Answer};
 ghost use Rattle.command_words.specs.CommandLine.{Asked};
 
@@ -51,6 +56,18 @@ pub fn valid_proofs_are_sound()
 pub fn words_and_files_define_one_answer()
     ensures { (bits : ℕ) (content : List ℕ → Option (List ℕ)) (asked : Option Asked) (a b : Answer) →
         IsDefinedAnswer bits content asked a → IsDefinedAnswer bits content asked b → SaySame a b }
+{
+    texts_have_one_reading();
+    proof_texts_have_one_reading();
+    statuses_are_unique();
+}
+
+/// An elaboration says what a check of the same files says: where that is neither `valid` nor `holey`, the same text with the same
+/// status; and else the status is that of the check, or the proof is left out.
+pub fn elaborations_say_what_checks_say()
+    ensures { (bits : ℕ) (content : List ℕ → Option (List ℕ)) (p : Asked) (a : Answer) (o : Outcome) (old new : Option (List ℕ)) →
+        IsDefinedAnswer bits content (Some p) a → ElaboratesTo bits content 0 0 p o → o ≢ answered (Judged PoolFull) →
+        Appends old new (text_of_outcome o) → IsSaidInstead content p a old new (status_of_outcome o) }
 {
     texts_have_one_reading();
     proof_texts_have_one_reading();

@@ -1,6 +1,6 @@
 -- The command line as `clap` builds it.
 use Rattle.std.specs.Prelude.{◌≡◌, List, [], ◌∷◌, Some, true, false, codes, refl}
-use Rattle.clap.specs.Walk.{Rule}
+use Rattle.clap.specs.Walk.{Rule, Text}
 use Rattle.clap.specs.Simple.{Shape, built, is_simple, new_shape}
 use Rattle.clap.specs.Faults.{is_simple_and_free}
 use Rattle.clap.specs.declared.builder.value_parser.ValueParser.TheVariants as vp
@@ -54,14 +54,19 @@ workers_rule = record made_workers {
 abbrev pub rules : List Rule
 rules = proof_rule ∷ problem_rule ∷ expand_rule ∷ ignore_rule ∷ strict_rule ∷ workers_rule ∷ []
 
-abbrev pub check_shape : Shape
-check_shape = record (new_shape (codes "check")) {
+-- a command of this name as it is built
+abbrev pub shape_named : Text → Shape
+shape_named name = record (new_shape name) {
   rules = rules;
   no_binary_name = true;
   disable_help_flag = true;
   disable_help_subcommand = true;
   is_built = true;
 }
+
+-- nothing but its name tells one command from the other
+abbrev pub check_shape : Shape
+check_shape = shape_named (codes "check")
 
 abbrev pub top_shape : Shape
 top_shape = record (new_shape (codes "carcara")) {
@@ -73,7 +78,7 @@ top_shape = record (new_shape (codes "carcara")) {
   is_built = true;
 }
 
-pub built_is : built made ≡ record { top = top_shape; subs = check_shape ∷ [] }
+pub built_is : built made ≡ record { top = top_shape; subs = check_shape ∷ shape_named (codes "elaborate") ∷ [] }
 built_is = refl
 
 pub made_is_simple : is_simple made ≡ true

@@ -1,11 +1,11 @@
--- The grammar of the words behind `check`, word by word.
+-- The grammar of the words behind a command, word by word.
 use Rattle.std.proofs.Common.{◌≡◌, ◌∙◌, ◌&&◌, ◌||◌, ◌+◌, ◌++◌, ap, arith, refl, true≢false, Bool, true, false, not, suc, List, [], ◌∷◌, Option, Some, None}
 use Rattle.std.proofs.Math.Bool.{and-false}
 use Rattle.std.proofs.lemmas.Bool.{eqb-true}
 use Rattle.std.specs.Prelude.{ℕ, codes, if◌then◌else◌, nat_eq}
 use Rattle.std.specs.List.{prefix_len}
 use Rattle.std.specs.Str.{bytes_eq}
-use Rattle.command_words.specs.CommandLine.{Word, are_known_once, asked_with, be_strict, expand_lets, gives_number, ignore_unknown, is_among, is_no_end}
+use Rattle.command_words.specs.CommandLine.{Word, are_known_once, wanted_with, be_strict, expand_lets, ignore_unknown, is_among, is_no_end}
 use Rattle.command_words.specs.CommandLine.{is_operand, num_threads, num_threads_by, number_in, operands_of, options_by, options_of, with_values, workers_by}
 use Rattle.command_words.specs.CommandLine.{workers_in}
 use Rattle.command_words.specs.Found.{workers_of}
@@ -153,13 +153,13 @@ module _ (word : Word) (rest : List Word) (no_end : bytes_eq word (codes "--") �
   pub one_word : bytes_eq word num_threads ≡ false → with_values (word ∷ rest) ≡ word ∷ with_values rest
   one_word no_threads = rw (no_end, no_threads) refl
 
-pub asks_nothing : (operands : List Word) (workers : Option ℕ) → asked_with operands None workers ≡ None
+pub asks_nothing : (operands : List Word) (workers : Option ℕ) → wanted_with operands None workers ≡ None
 asks_nothing [] w = refl
 asks_nothing (a ∷ []) w = refl
 asks_nothing (a ∷ b ∷ []) w = refl
 asks_nothing (a ∷ b ∷ c ∷ operands) w = refl
 
-pub asks_no_workers : (operands : List Word) (options : Option Options) → asked_with operands options None ≡ None
+pub asks_no_workers : (operands : List Word) (options : Option Options) → wanted_with operands options None ≡ None
 asks_no_workers [] o = refl
 asks_no_workers (a ∷ []) o = refl
 asks_no_workers (a ∷ b ∷ []) None = refl

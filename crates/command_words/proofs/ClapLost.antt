@@ -1,15 +1,14 @@
 -- Where the option that was met last has no value, or stands twice, `clap` refuses the words whatever follows.
-use Rattle.std.proofs.Common.{◌≡◌, ◌∙◌, ap, sym, refl, ℕ, Bool, true, false, List, [], ◌∷◌, ◌++◌, Option, Some, None, true≢false}
+use Rattle.std.proofs.Common.{◌≡◌, ◌∙◌, ap, sym, refl, ℕ, Bool, true, false, List, [], ◌∷◌, Option, Some, true≢false}
 use Rattle.std.proofs.Math.Bool.{and-false}
 use Rattle.std.specs.Prelude.{codes, fold, ⊤}
 use Rattle.std.specs.Str.{IsUtf8}
 use Rattle.clap.specs.Kinds.{Kinds, or_else}
 use Rattle.clap.specs.Walk.{Row, Text, Waiting, Walk, is_pending, option, walked}
 use Rattle.clap.specs.Faults.{settle_fault, turn_fault, walk_fault}
-use Rattle.command_words.specs.CommandLine.{be_strict, expand_lets, ignore_unknown, num_threads, num_threads_by}
 use Rattle.command_words.proofs.ClapApp.{rules, check_shape, proof_rule, problem_rule}
 use Rattle.command_words.proofs.ClapRows.{Seen, one, two, nothing}
-use Rattle.command_words.proofs.ClapWords.{IsFlag, IsNoOption, IsPlain, Word, ends, expands, ignores, is_strict, no_cons, numbers, plain, strange, strange_faults}
+use Rattle.command_words.proofs.ClapWords.{IsFlag, IsPlain, Word, ends, expands, ignores, is_strict, no_cons, numbers, plain, strange, strange_faults}
 use Rattle.command_words.proofs.ClapWords.{waits, word_is}
 use Rattle.command_words.proofs.ClapWalk.{at, at_with, at_end, end_turn, held, or_first, problem_turn, proof_turn, strange_turn, stray_turn, waits_at}
 use Rattle.command_words.proofs.ClapEnd.{closing}

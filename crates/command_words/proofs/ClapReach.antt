@@ -1,24 +1,24 @@
--- `clap` takes the words behind `check` where the grammar does, but for the number of workers, and reads the same in them.
-use Rattle.std.proofs.Common.{◌≡◌, ◌∙◌, ◌++◌, ap, subst, sym, refl, ℕ, Bool, true, false, if◌then◌else◌, List, [], ◌∷◌, Option, Some, None}
+-- `clap` takes the words behind a command where the grammar does, but for the number of workers, and reads the same in them.
+use Rattle.std.proofs.Common.{◌≡◌, ◌∙◌, ◌++◌, subst, sym, refl, ℕ, Bool, true, false, List, [], ◌∷◌, Option, Some, None}
 use Rattle.std.specs.Prelude.{codes, filter, fold, ⊤}
 use Rattle.std.specs.Str.{IsUtf8}
 use Rattle.clap.specs.Walk.{Row, Text, Walk, finished, settled_rows, used, walked}
 use Rattle.clap.specs.Faults.{settle_fault, turn_fault, walk_fault}
-use Rattle.command_words.specs.CommandLine.{Asked, asked_with, be_strict, expand_lets, gives_number, ignore_unknown, is_flag, is_operand, num_threads}
+use Rattle.command_words.specs.CommandLine.{Wanted, wanted_with, be_strict, expand_lets, gives_number, ignore_unknown, is_flag, is_operand, num_threads}
 use Rattle.command_words.specs.CommandLine.{num_threads_by, operands_of, options_of, with_values}
-use Rattle.command_words.specs.Found.{Given, asked_from, workers_of}
+use Rattle.command_words.specs.Found.{Given, wanted_from, workers_of}
 use Rattle.command_words.specs.declared.request.Options.{Options}
 use Rattle.command_words.proofs.ClapApp.{rules, check_shape, expand_rule, ignore_rule, strict_rule, workers_rule}
 use Rattle.command_words.proofs.ClapRows.{Seen, one, two, nothing, AreRows, more_expand, more_ignore, more_number, more_proof, more_problem, more_strict}
-use Rattle.command_words.proofs.ClapRows.{used_expand, used_ignore, used_proof, used_problem, used_strict, used_workers, at_id}
+use Rattle.command_words.proofs.ClapRows.{used_expand, used_ignore, used_proof, used_problem, used_strict, used_workers}
 use Rattle.command_words.proofs.ClapWords.{IsFlag, IsNoOption, IsPlain, Word, ends, expands, ignores, is_strict, numbers, plain, strange, waits, word_is}
-use Rattle.command_words.proofs.ClapWalk.{IsValue, at, at_end, at_expand, at_ignore, at_strict, at_workers, end_turn, expand_again, expand_turn, held}
+use Rattle.command_words.proofs.ClapWalk.{at, at_end, at_expand, at_ignore, at_strict, at_workers, end_turn, expand_again, expand_turn, held}
 use Rattle.command_words.proofs.ClapWalk.{ignore_again, ignore_turn, number_turn, problem_settles, problem_turn, proof_settles, proof_turn, strange_turn}
 use Rattle.command_words.proofs.ClapWalk.{settles_no_more, stray_turn, strict_again, strict_turn, to_number, to_problem, to_proof, to_wait, wait_turn, waits_at}
 use Rattle.command_words.proofs.ClapWalk.{workers_again, workers_settles, workers_turn}
 use Rattle.command_words.proofs.ClapEnd.{AreDone, closes, done, lacks_both, lacks_problem}
 use Rattle.command_words.proofs.ClapLost.{AllUtf8, end_follows, fault_from, fault_step, flag_follows, lost_from, nothing_follows, position_after, stops}
-use Rattle.command_words.proofs.ClapGrammar.{asks_no_workers, asks_nothing, more_operand, more_option, no_number, no_workers, one_word, same_operands}
+use Rattle.command_words.proofs.ClapGrammar.{asks_no_workers, asks_nothing, more_operand, more_option, no_workers, one_word, same_operands}
 use Rattle.command_words.proofs.ClapGrammar.{same_options, told, workers_after}
 
 -- what is given is read from the rows at the end
@@ -26,19 +26,19 @@ abbrev pub ReadsAs : Given → List Row → Type 0
 ReadsAs g rows = AreDone (two g.proof g.problem) g.options.replaces_lets g.options.ignores_unknown_rules g.options.is_strict g.number rows
 
 -- what is read asks for this
-pub record IsAskedBy (asked : Option Asked) (rows : List Row) : Type 0 where
+pub record IsAskedBy (asked : Option Wanted) (rows : List Row) : Type 0 where
   pub given : Given
-  pub asks : asked_from given ≡ asked
+  pub asks : wanted_from given ≡ asked
   pub reads : ReadsAs given rows
 
 abbrev pub rows_from : Walk → List Text → List Row
 rows_from w words = finished rules (fold (walked rules []) w words).held
 
-abbrev pub Answers : Option Asked → Walk → List Text → Type 0
+abbrev pub Answers : Option Wanted → Walk → List Text → Type 0
 Answers None w words = fault_from w words ≡ [] → IsAskedBy None (rows_from w words)
 Answers (Some a) w words = (fault_from w words ≡ []) × IsAskedBy (Some a) (rows_from w words)
 
-go_on : (asked : Option Asked) (w next : Walk) (word : Text) (rest : List Text) → turn_fault check_shape [] w word ≡ [] → walked rules [] w word ≡ next
+go_on : (asked : Option Wanted) (w next : Walk) (word : Text) (rest : List Text) → turn_fault check_shape [] w word ≡ [] → walked rules [] w word ≡ next
     → Answers asked next rest → Answers asked w (word ∷ rest)
 go_on None w next word rest turn step h =
     λ bad. subst (λ x. IsAskedBy None (rows_from x rest)) (sym step) (h (sym (fault_step w next word rest turn step) ∙ bad))
@@ -56,11 +56,11 @@ listed (one a) = a ∷ []
 listed (two a b) = a ∷ b ∷ []
 
 -- what is asked for by operands, where these options stood before, and by options
-abbrev pub asked_by : List Text → Bool → Bool → Bool → Option Text → List Text → Option Asked
-asked_by operands e i s n options = asked_with operands (told e i s (filter is_flag options)) (workers_after n (filter gives_number options))
+abbrev pub asked_by : List Text → Bool → Bool → Bool → Option Text → List Text → Option Wanted
+asked_by operands e i s n options = wanted_with operands (told e i s (filter is_flag options)) (workers_after n (filter gives_number options))
 
 -- what is asked for by the operands and options so far and the words
-abbrev pub asked_so : Seen → Bool → Bool → Bool → Option Text → Bool → List Text → Option Asked
+abbrev pub asked_so : Seen → Bool → Bool → Bool → Option Text → Bool → List Text → Option Wanted
 asked_so seen e i s n true words = asked_by (listed seen ++ words) e i s n []
 asked_so seen e i s n false words = asked_by (listed seen ++ operands_of (with_values words)) e i s n (options_of (with_values words))
 
@@ -83,7 +83,7 @@ at_both a b e i s t n rows p h = go (workers_of n) refl
     read : ReadsAs given (finished rules (held rows p))
     read = done (held rows p) (two a b) e i s n h.are
 
-    go : (workers : Option ℕ) → workers_of n ≡ workers → Answers (asked_with (a ∷ b ∷ []) (Some options) workers) (at rows p 3 t) []
+    go : (workers : Option ℕ) → workers_of n ≡ workers → Answers (wanted_with (a ∷ b ∷ []) (Some options) workers) (at rows p 3 t) []
     go None is = λ _. record { given = given; asks = rw is refl; reads = read }
     go (Some k) is = (closes (held rows p) e i s n h.settles a b h.are, record { given = given; asks = rw is refl; reads = read })
 
@@ -159,7 +159,7 @@ module _ (word : Text) (rest : List Text) (next : Reaches rest) where
   value_trailing (two a b) e i s n rows p h = third (workers_of n)
     where
       third : (workers : Option ℕ)
-          → Answers (asked_with (a ∷ b ∷ word ∷ rest) (Some (record { replaces_lets = e; ignores_unknown_rules = i; is_strict = s })) workers) (at rows p 3 true) (word ∷ rest)
+          → Answers (wanted_with (a ∷ b ∷ word ∷ rest) (Some (record { replaces_lets = e; ignores_unknown_rules = i; is_strict = s })) workers) (at rows p 3 true) (word ∷ rest)
       third None = fails _ word rest (stray_turn rows p word true tt)
       third (Some k) = fails _ word rest (stray_turn rows p word true tt)
 
@@ -176,7 +176,7 @@ module _ (word : Text) (rest : List Text) (next : Reaches rest) where
       third (told e i s (filter is_flag (options_of (with_values rest)))) (workers_after n (filter gives_number (options_of (with_values rest))))
     where
       third : (options : Option Options) (workers : Option ℕ)
-          → Answers (asked_with (a ∷ b ∷ word ∷ operands_of (with_values rest)) options workers) (at rows p 3 false) (word ∷ rest)
+          → Answers (wanted_with (a ∷ b ∷ word ∷ operands_of (with_values rest)) options workers) (at rows p 3 false) (word ∷ rest)
       third None workers = fails _ word rest (stray_turn rows p word false is)
       third (Some o) None = fails _ word rest (stray_turn rows p word false is)
       third (Some o) (Some k) = fails _ word rest (stray_turn rows p word false is)
@@ -247,7 +247,7 @@ module _ (rest : List Text) (seen : Seen) (rows : List Row) (p : Option (Text ×
   nothing_behind n =
       rw (asks_nothing (listed seen ++ []) (workers_after n [])) (λ bad. absurd (nothing_follows settled_here (position_after seen) bad))
 
-  abbrev asked_with_value : Option Text → Text → Option Asked
+  abbrev asked_with_value : Option Text → Text → Option Wanted
   asked_with_value n word =
       asked_by (listed seen ++ operands_of (with_values rest)) e i s n ((num_threads_by ++ word) ∷ options_of (with_values rest))
 

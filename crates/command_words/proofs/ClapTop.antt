@@ -11,10 +11,12 @@ use Rattle.clap.specs.Walk.{Row, Text, Names, Walk, finished, first_of, nothing_
 use Rattle.clap.specs.Simple.{subcommand_of}
 use Rattle.clap.specs.Faults.{fault_of, level_fault, turn_fault, walk_fault, defaults_fault}
 use Rattle.clap.proofs.FaultLemmas.{stopped_fault}
-use Rattle.command_words.specs.CommandLine.{Asked, asked_of, gives_number, is_flag, options_of, with_values}
+use Rattle.command_words.specs.declared.request.Command.{Command}
+use Rattle.command_words.specs.declared.request.Command.TheVariants.{Check, Elaborate}
+use Rattle.command_words.specs.CommandLine.{Asked, Wanted, asked_as, asked_for, asked_of, has_options, wanted_by, gives_number, is_flag, options_of, with_values}
 use Rattle.command_words.specs.Made.{made}
-use Rattle.command_words.specs.Found.{Given, IsReadFrom, asked_from, flag_text}
-use Rattle.command_words.proofs.ClapApp.{check_shape, rules, top_shape}
+use Rattle.command_words.specs.Found.{Given, IsReadFrom, name_of, wanted_from, flag_text}
+use Rattle.command_words.proofs.ClapApp.{check_shape, rules, shape_named, top_shape}
 use Rattle.command_words.proofs.ClapRows.{nothing, at_id, no_rows, row_for}
 use Rattle.command_words.proofs.ClapWords.{IsFlag, IsPlain, Word, ends, expands, first_faults, ignores, is_strict, no_cons, numbers, plain, same_bytes, strange, waits}
 use Rattle.command_words.proofs.ClapWords.{word_is}
@@ -25,47 +27,65 @@ use Rattle.command_words.proofs.ClapLost.{AllUtf8}
 use Rattle.command_words.proofs.ClapReach.{Answers, IsAskedBy, reaches}
 
 abbrev names : Names
-names = (codes "check", []) ∷ []
+names = (codes "check", []) ∷ (codes "elaborate", []) ∷ []
 
 or_nil : (a : Kinds) → or_else a [] ≡ a
 or_nil [] = refl
 or_nil (x ∷ a) = refl
 
--- ---- behind `check` the words are the subcommand's
+-- ---- behind the name of a command the words are the subcommand's
 
-abbrev stopped : List Text → Walk
-stopped words = record (walk_from nothing_held) { stopped = Some (codes "check", words) }
+abbrev stopped : Text → List Text → Walk
+stopped name words = record (walk_from nothing_held) { stopped = Some (name, words) }
 
-rest_stops : (before words : List Text) → fold (walked [] names) (stopped before) words ≡ stopped (before ++ words)
+rest_stops : (name : Text) (before words : List Text) → fold (walked [] names) (stopped name before) words ≡ stopped name (before ++ words)
 unfolding walked
-rest_stops before [] = rw (append-nil before) refl
-rest_stops before (word ∷ words) = rest_stops (before ++ word ∷ []) words ∙ ap stopped (append_assoc before (word ∷ []) words)
+rest_stops name before [] = rw (append-nil before) refl
+rest_stops name before (word ∷ words) = rest_stops name (before ++ word ∷ []) words ∙ ap (stopped name) (append_assoc before (word ∷ []) words)
 
-check_walk : (words : List Text) → walk [] names nothing_held (codes "check" ∷ words) ≡ stopped words
+named_walk : (c : Command) (words : List Text) → walk [] names nothing_held (name_of c ∷ words) ≡ stopped (name_of c) words
 unfolding walked
-check_walk words = rest_stops [] words
+named_walk Check words = rest_stops (codes "check") [] words
+named_walk Elaborate words = rest_stops (codes "elaborate") [] words
 
-check_fault_walk : (words : List Text) → walk_fault top_shape names (walk_from nothing_held) (codes "check" ∷ words) ≡ []
+named_fault_walk : (c : Command) (words : List Text) → walk_fault top_shape names (walk_from nothing_held) (name_of c ∷ words) ≡ []
 unfolding walk_fault walked
-check_fault_walk words = stopped_fault top_shape names (walk_from nothing_held) (codes "check", []) words
+named_fault_walk Check words = stopped_fault top_shape names (walk_from nothing_held) (codes "check", []) words
+named_fault_walk Elaborate words = stopped_fault top_shape names (walk_from nothing_held) (codes "elaborate", []) words
 
-pub check_fault_is : (words : List Text) → fault_of made (codes "check" ∷ words) ≡ level_fault check_shape [] nothing_held words false []
+-- the name of a command plays no part in what its words are
+turns_alike : (w : Walk) (words : List Text) → walk_fault (shape_named (codes "elaborate")) [] w words ≡ walk_fault check_shape [] w words
+unfolding walk_fault
+turns_alike w [] = refl
+turns_alike w (word ∷ rest) = ap (or_else (turn_fault check_shape [] w word)) (turns_alike (walked rules [] w word) rest)
+
+no_name_matters : (words : List Text) → level_fault (shape_named (codes "elaborate")) [] nothing_held words false [] ≡ level_fault check_shape [] nothing_held words false []
+no_name_matters words = rw (turns_alike (walk_from nothing_held) words) refl
+
+pub named_fault_is : (c : Command) (words : List Text) → fault_of made (name_of c ∷ words) ≡ level_fault check_shape [] nothing_held words false []
 unfolding defaults_fault
-check_fault_is words = rw (check_walk words, check_fault_walk words) (or_nil _)
+named_fault_is Check words = rw (named_walk Check words, named_fault_walk Check words) (or_nil _)
+named_fault_is Elaborate words = rw (named_walk Elaborate words, named_fault_walk Elaborate words) (or_nil (level_fault (shape_named (codes "elaborate")) [] nothing_held words false []) ∙ no_name_matters words)
 
-pub check_rows : (words : List Text) → subcommand_of made (codes "check" ∷ words) ≡ Some (codes "check", finished rules (walk rules [] nothing_held words).held)
-check_rows words = rw (check_walk words) refl
+pub named_rows : (c : Command) (words : List Text) → subcommand_of made (name_of c ∷ words) ≡ Some (name_of c, finished rules (walk rules [] nothing_held words).held)
+named_rows Check words = rw (named_walk Check words) refl
+named_rows Elaborate words = rw (named_walk Elaborate words) refl
 
 -- ---- any other first word is refused
 
 abbrev first_turn : Text → Kinds
 first_turn word = turn_fault top_shape names (walk_from nothing_held) word
 
-other_word : (word : Text) → bytes_eq (codes "check") word ≡ false → IsUtf8 word → IsFlag word → first_turn word ≡ [] → ⊥
-other_word word no_check u f bad = first_faults word nothing_held refl u f (or_first _ _ (rw (no_check, f.no_end) at bad))
+-- the word is the name of no command
+record IsNoName (word : Text) : Type 0 where
+  no_check : bytes_eq (codes "check") word ≡ false
+  no_elaborate : bytes_eq (codes "elaborate") word ≡ false
 
-plain_word : (word : Text) → bytes_eq (codes "check") word ≡ false → IsPlain word → first_turn word ≡ [] → ⊥
-plain_word word no_check is bad = no_cons _ _ (rw (no_check, is.no_end, is.long, is.short) at bad)
+other_word : (word : Text) → IsNoName word → IsUtf8 word → IsFlag word → first_turn word ≡ [] → ⊥
+other_word word other u f bad = first_faults word nothing_held refl u f (or_first _ _ (rw (other.no_check, other.no_elaborate, f.no_end) at bad))
+
+plain_word : (word : Text) → IsNoName word → IsPlain word → first_turn word ≡ [] → ⊥
+plain_word word other is bad = no_cons _ _ (rw (other.no_check, other.no_elaborate, is.no_end, is.long, is.short) at bad)
 
 first_fails : (word : Text) (rest : List Text) → (first_turn word ≡ [] → ⊥) → fault_of made (word ∷ rest) ≡ [] → ⊥
 unfolding walk_fault
@@ -76,15 +96,15 @@ unfolding walk_fault walked defaults_fault
 only_end [] bad = no_cons _ _ bad
 only_end (word ∷ rest) bad = no_cons _ _ bad
 
-no_check : (word : Text) (rest : List Text) → bytes_eq (codes "check") word ≡ false → IsUtf8 word → Word word → fault_of made (word ∷ rest) ≡ [] → ⊥
-no_check word rest other u (ends is) bad = only_end rest (rw is at bad)
-no_check word rest other u (plain is) bad = first_fails word rest (plain_word word other is) bad
-no_check word rest other u (expands is) bad = first_fails word rest (other_word word other u (rw is (record { operand = refl; no_end = refl }))) bad
-no_check word rest other u (ignores is) bad = first_fails word rest (other_word word other u (rw is (record { operand = refl; no_end = refl }))) bad
-no_check word rest other u (is_strict is) bad = first_fails word rest (other_word word other u (rw is (record { operand = refl; no_end = refl }))) bad
-no_check word rest other u (numbers v is) bad = first_fails word rest (other_word word other u (rw is (record { operand = refl; no_end = refl }))) bad
-no_check word rest other u (waits is) bad = first_fails word rest (other_word word other u (rw is (record { operand = refl; no_end = refl }))) bad
-no_check word rest other u (strange f none) bad = first_fails word rest (other_word word other u f) bad
+no_name : (word : Text) (rest : List Text) → IsNoName word → IsUtf8 word → Word word → fault_of made (word ∷ rest) ≡ [] → ⊥
+no_name word rest other u (ends is) bad = only_end rest (rw is at bad)
+no_name word rest other u (plain is) bad = first_fails word rest (plain_word word other is) bad
+no_name word rest other u (expands is) bad = first_fails word rest (other_word word other u (rw is (record { operand = refl; no_end = refl }))) bad
+no_name word rest other u (ignores is) bad = first_fails word rest (other_word word other u (rw is (record { operand = refl; no_end = refl }))) bad
+no_name word rest other u (is_strict is) bad = first_fails word rest (other_word word other u (rw is (record { operand = refl; no_end = refl }))) bad
+no_name word rest other u (numbers v is) bad = first_fails word rest (other_word word other u (rw is (record { operand = refl; no_end = refl }))) bad
+no_name word rest other u (waits is) bad = first_fails word rest (other_word word other u (rw is (record { operand = refl; no_end = refl }))) bad
+no_name word rest other u (strange f none) bad = first_fails word rest (other_word word other u f) bad
 
 no_words : fault_of made [] ≡ [] → ⊥
 unfolding walk_fault defaults_fault
@@ -94,45 +114,66 @@ no_words bad = no_cons _ _ bad
 
 -- what is asked for is read from the words
 pub record IsRead (asked : Option Asked) (words : List Text) : Type 0 where
+  pub command : Command
+  pub wanted : Option Wanted
+  pub asks : asked_for command wanted ≡ asked
   pub rows : List Row
-  pub subcommand : subcommand_of made words ≡ Some (codes "check", rows)
-  pub reads : IsAskedBy asked rows
+  pub subcommand : subcommand_of made words ≡ Some (name_of command, rows)
+  pub reads : IsAskedBy wanted rows
 
 abbrev pub Outcome : Option Asked → List Text → Type 0
 Outcome None words = fault_of made words ≡ [] → IsRead None words
 Outcome (Some a) words = (fault_of made words ≡ []) × IsRead (Some a) words
 
-behind_check : (asked : Option Asked) (words : List Text) → Answers asked (walk_from nothing_held) words → Outcome asked (codes "check" ∷ words)
-behind_check None words h = λ bad. record {
-  rows = finished rules (walk rules [] nothing_held words).held;
-  subcommand = check_rows words;
-  reads = h (sym (check_fault_is words) ∙ bad);
-}
-behind_check (Some a) words h = (
-  check_fault_is words ∙ h.0,
-  record {
+module _ (c : Command) (words : List Text) where
+  read : (wanted : Option Wanted) → IsAskedBy wanted (finished rules (walk rules [] nothing_held words).held) → IsRead (asked_for c wanted) (name_of c ∷ words)
+  read wanted h = record {
+    command = c;
+    wanted = wanted;
+    asks = refl;
     rows = finished rules (walk rules [] nothing_held words).held;
-    subcommand = check_rows words;
-    reads = h.1;
-  },
-)
+    subcommand = named_rows c words;
+    reads = h;
+  }
 
-checked : (words : List Text) → AllUtf8 words → Outcome (asked_of (codes "check" ∷ words)) (codes "check" ∷ words)
-checked words u =
-    behind_check _ words (rw (options_are_told (filter is_flag (options_of (with_values words))), workers_are_told (filter gives_number (options_of (with_values words)))) at
+  behind : (wanted : Option Wanted) → Answers wanted (walk_from nothing_held) words → Outcome (asked_for c wanted) (name_of c ∷ words)
+  behind None h = λ bad. read None (h (sym (named_fault_is c words) ∙ bad))
+  behind (Some w) h = go (has_options c w.options) refl
+    where
+      go : (b : Bool) → has_options c w.options ≡ b → Outcome (asked_for c (Some w)) (name_of c ∷ words)
+      go true is =
+          let r : IsRead (asked_for c (Some w)) (name_of c ∷ words) = read (Some w) h.1 in
+          let s : IsRead (Some (asked_as c w)) (name_of c ∷ words) = rw is at r in
+          rw is (named_fault_is c words ∙ h.0, s)
+      go false is =
+          let r : IsRead (asked_for c (Some w)) (name_of c ∷ words) = read (Some w) h.1 in
+          let s : IsRead None (name_of c ∷ words) = rw is at r in
+          rw is (λ bad. s)
+
+named : (c : Command) (words : List Text) → AllUtf8 words → Outcome (asked_for c (wanted_by (with_values words))) (name_of c ∷ words)
+named c words u =
+    behind c words _ (rw (options_are_told (filter is_flag (options_of (with_values words))), workers_are_told (filter gives_number (options_of (with_values words)))) at
     (reaches words u nothing false false false false None [] None (record { settles = refl; are = no_rows })))
 
 pub outcome : (words : List Text) → AllUtf8 words → Outcome (asked_of words) words
 outcome [] u = λ bad. absurd (no_words bad)
-outcome (word ∷ rest) u = go (bytes_eq (codes "check") word) refl
+outcome (word ∷ rest) u = go (bytes_eq word (codes "check")) (bytes_eq word (codes "elaborate")) refl refl
   where
-    other : bytes_eq (codes "check") word ≡ false → (b : Bool) → bytes_eq word (codes "check") ≡ b → Outcome (asked_of (word ∷ rest)) (word ∷ rest)
-    other differs true is = let same : bytes_eq (codes "check") (codes "check") ≡ false = rw (same_bytes word (codes "check") is) at differs in absurd (true≢false same)
-    other differs false is = rw is (λ bad. absurd (no_check word rest differs u.0 (word_is word) bad))
+    is_no_name : bytes_eq word (codes "check") ≡ false → bytes_eq word (codes "elaborate") ≡ false → IsNoName word
+    is_no_name is other = record { no_check = back (codes "check") is refl; no_elaborate = back (codes "elaborate") other refl }
+      where
+        back : (name : Text) → bytes_eq word name ≡ false → bytes_eq name name ≡ true → bytes_eq name word ≡ false
+        back name differs same = each (bytes_eq name word) refl
+          where
+            each : (b : Bool) → bytes_eq name word ≡ b → bytes_eq name word ≡ false
+            each false e = e
+            each true e = let no : bytes_eq name name ≡ false = rw (← same_bytes name word e) at differs in absurd (true≢false (sym same ∙ no))
 
-    go : (b : Bool) → bytes_eq (codes "check") word ≡ b → Outcome (asked_of (word ∷ rest)) (word ∷ rest)
-    go true is = rw (← same_bytes (codes "check") word is) (checked rest u.1)
-    go false differs = other differs (bytes_eq word (codes "check")) refl
+    go : (b d : Bool) → bytes_eq word (codes "check") ≡ b → bytes_eq word (codes "elaborate") ≡ d → Outcome (asked_of (word ∷ rest)) (word ∷ rest)
+    go true d is other = rw (same_bytes word (codes "check") is) (named Check rest u.1)
+    go false true is other = rw (same_bytes word (codes "elaborate") other) (named Elaborate rest u.1)
+    go false false is other =
+        rw (is, other) (λ bad. absurd (no_name word rest (is_no_name is other) u.0 (word_is word) bad))
 
 -- ---- what the matches say
 
@@ -150,7 +191,7 @@ number_read : (n : Option Text) (rows : List Row) → at_id (codes "workers") ro
 number_read None rows h = rw h refl
 number_read (Some v) rows h = rw h refl
 
-read_from : (asked : Option Asked) (words : List Text) → (h : IsRead asked words) → IsReadFrom h.reads.given (subcommand_of made words)
+read_from : (asked : Option Asked) (words : List Text) → (h : IsRead asked words) → IsReadFrom h.command h.reads.given (subcommand_of made words)
 read_from asked words h = let g = h.reads.given in record {
   rows = h.rows;
   met = h.subcommand;
@@ -168,10 +209,11 @@ is_read (Some a) words h passes = h.1
 
 -- where `clap` takes the words, its matches say what they ask for
 pub taken : (asked : Option Asked) (words : List Text) → Outcome asked words → fault_of made words ≡ [] → (found : Option (Text × List Row))
-    → found ≡ subcommand_of made words → (told : Option Asked) → ((g : Given) → IsReadFrom g found → told ≡ asked_from g) → told ≡ asked
+    → found ≡ subcommand_of made words → (told : Option Asked)
+    → ((c : Command) (g : Given) → IsReadFrom c g found → told ≡ asked_for c (wanted_from g)) → told ≡ asked
 taken asked words h passes found is told reads =
     let read = is_read asked words h passes in
-    reads read.reads.given (rw (sym is) at (read_from asked words read)) ∙ read.reads.asks
+    reads read.command read.reads.given (rw (sym is) at (read_from asked words read)) ∙ ap (asked_for read.command) read.reads.asks ∙ read.asks
 
 -- where it refuses them, they ask for nothing
 pub refused : (asked : Option Asked) (words : List Text) → Outcome asked words → (k : ErrorKind) → (k ≡ OutOfMemory) ⊎ IsAmong k (fault_of made words)

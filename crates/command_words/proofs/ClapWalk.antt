@@ -1,4 +1,4 @@
--- The walk of `clap` over the words behind `check`, word by word.
+-- The walk of `clap` over the words behind a command, word by word.
 use Rattle.std.proofs.Common.{◌≡◌, refl, ℕ, Bool, true, false, List, [], ◌∷◌, ◌++◌, Option, Some, None}
 use Rattle.std.proofs.Math.Bool.{and-false}
 use Rattle.std.specs.Prelude.{codes, ⊤}

@@ -1,7 +1,7 @@
 -- What a word of the command line is, by the grammar and to `clap`.
 use Rattle.std.proofs.Common.{◌≡◌, ◌∙◌, ◌||◌, ◌==◌, ◌<◌, ap, subst, sym, refl, arith, ◌+◌, true≢false, ℕ, suc, Bool, true, false, cond, List, [], ◌∷◌, ◌++◌}
 use Rattle.std.proofs.Common.{Option, Some, None}
-use Rattle.std.specs.Prelude.{codes, drop, get_or, if◌then◌else◌, length, nat_eq, take}
+use Rattle.std.specs.Prelude.{codes, get_or, if◌then◌else◌, length, nat_eq, take}
 use Rattle.std.specs.List.{after_first, before_first, position_or_len}
 use Rattle.std.specs.Option.{option_map_or}
 use Rattle.std.specs.Str.{IsUtf8, bytes_eq, chars, encode_utf8_all}
@@ -231,12 +231,12 @@ module _ (c : List Rule) (none_short : (x : ℕ) → arg_by_short c x ≡ None) 
       go true false e d word f u long bad = short (eqb-true b 45 e) d word u bad
       go true true e d word f u long bad = longer (eqb-true b 45 e) (eqb-true x 45 d) word f long bad
 
--- behind `check`
+-- behind a command
 pub strange_faults : (word : Text) (h : Held) → h.skip ≡ 0 → IsUtf8 word → IsFlag word → IsNoOption word
     → flag_word_fault rules false (long_of word) word h ≡ [] → ⊥
 strange_faults word h skip u f none bad =
     flag_faults rules (λ x. refl) h skip word f u (λ x r e k. no_long x r h (subst IsNoOption e none) k) bad
 
--- in place of `check`
+-- in place of a command
 pub first_faults : (word : Text) (h : Held) → h.skip ≡ 0 → IsUtf8 word → IsFlag word → flag_word_fault [] false (long_of word) word h ≡ [] → ⊥
 first_faults word h skip u f bad = flag_faults [] (λ x. refl) h skip word f u (λ x r e k. no_cons _ _ k) bad

@@ -2,15 +2,29 @@
 use Rattle.std.proofs.Common.{◌≡◌, ◌∙◌, ap, refl, ℕ, Bool, true, false, List, Option, None, Some}
 use Rattle.std.proofs.lemmas.Option.{same_Some}
 use Rattle.std.specs.Prelude.{codes, option_map}
-use Rattle.clap.specs.Matches.{first_value, one_text}
+use Rattle.std.specs.Prelude.{Box}
+use Rattle.std.specs.Box.{box_value}
+use Rattle.clap.specs.Matches.{first_value, one_text, subcommand_name_of}
+use Rattle.clap.specs.Simple.{subcommand_rows, subcommand_rows_of}
+use Rattle.clap.specs.declared.parser.matches.ArgMatches.{ArgMatches}
+use Rattle.clap.specs.declared.parser.matches.SubCommand.{SubCommand}
+use Rattle.clap.specs.declared.parser.matches.ArgMatches.TheViews.{out-ArgMatches, out-SubCommand}
 use Rattle.clap.specs.Walk.{Row, Text, first_of, one_of, rows_of}
 use Rattle.clap.specs.declared.parser.matches.Found.{Found}
 use Rattle.clap.proofs.WalkLemmas.{first_value-rows, one_text-rows}
-use Rattle.command_words.specs.CommandLine.{Asked}
-use Rattle.command_words.specs.Found.{Given, asked_from, flag_text, workers_of}
+use Rattle.command_words.specs.CommandLine.{asked_for, has_options}
+use Rattle.command_words.specs.declared.request.Command.{Command}
+use Rattle.command_words.specs.Found.{Given, wanted_from, flag_text, workers_of}
 
 pub rows_are : (x rows : List Row) (found : Option (Text × List Row)) (name : Text) → Some x ≡ option_map (λ p. p.1) found → found ≡ Some (name, rows) → x ≡ rows
 rows_are x rows found name e is = same_Some x rows (e ∙ ap (option_map (λ p. p.1)) is)
+
+names_agree : {Z : Type 0} (found : Option (Box SubCommand Z)) → option_map (λ b. (out-SubCommand (box_value b)).name.now) found ≡ option_map (λ p. p.0) (subcommand_rows found)
+names_agree None = refl
+names_agree (Some b) = refl
+
+pub name_is : (x : Text) (rows : List Row) (m : ArgMatches) (name : Text) → Some x ≡ subcommand_name_of m → subcommand_rows_of m ≡ Some (name, rows) → x ≡ name
+name_is x rows m name e is = same_Some x name (e ∙ names_agree (out-ArgMatches m).subcommand ∙ ap (option_map (λ p. p.0)) is)
 
 pub value_is : (f : Found) (id : Text) (rows : List Row) (value : Text) (r : Option Text) → r ≡ first_value f id → rows_of f ≡ rows → first_of id rows ≡ Some value → r ≡ Some value
 value_is f id rows value r e is there = e ∙ first_value-rows f id ∙ ap (first_of id) is ∙ there
@@ -26,10 +40,22 @@ flag_is f id rows b r is there said other = by_text b (one_text f id) r (one_tex
 pub number_is : (f : Found) (id : Text) (rows : List Row) (n r : Option Text) → r ≡ first_value f id → rows_of f ≡ rows → first_of id rows ≡ n → r ≡ n
 number_is f id rows n r e is there = e ∙ first_value-rows f id ∙ ap (first_of id) is ∙ there
 
-pub asked_is : (p q : Text) (e i s : Bool) (g : Given) (k : ℕ) → Some p ≡ Some g.proof → Some q ≡ Some g.problem
+pub asked_is : (c : Command) (p q : Text) (e i s : Bool) (g : Given) (k : ℕ) → Some p ≡ Some g.proof → Some q ≡ Some g.problem
     → e ≡ g.options.replaces_lets → i ≡ g.options.ignores_unknown_rules → s ≡ g.options.is_strict → workers_of g.number ≡ Some k
-    → Some (record { proof = p; problem = q; options = record { replaces_lets = e; ignores_unknown_rules = i; is_strict = s }; workers = k }) ≡ asked_from g
-asked_is p q e i s g k proof problem lets unknown strict workers = rw (same_Some p g.proof proof, same_Some q g.problem problem, lets, unknown, strict, workers) refl
+    → has_options c (record { replaces_lets = e; ignores_unknown_rules = i; is_strict = s }) ≡ true
+    → Some (record { command = c; proof = p; problem = q; options = record { replaces_lets = e; ignores_unknown_rules = i; is_strict = s }; workers = k })
+    ≡ asked_for c (wanted_from g)
+asked_is c p q e i s g k proof problem lets unknown strict workers has =
+    let has_now : has_options c g.options ≡ true = rw (lets, unknown, strict) at has in
+    rw (same_Some p g.proof proof, same_Some q g.problem problem, lets, unknown, strict, workers, has_now) refl
 
-pub asks_nothing : (g : Given) → workers_of g.number ≡ None → None ≡ asked_from g
-asks_nothing g h = rw h refl
+-- the command has not these options
+pub has_none : (c : Command) (e i s : Bool) (g : Given) (k : ℕ) → e ≡ g.options.replaces_lets → i ≡ g.options.ignores_unknown_rules
+    → s ≡ g.options.is_strict → workers_of g.number ≡ Some k
+    → has_options c (record { replaces_lets = e; ignores_unknown_rules = i; is_strict = s }) ≡ false → None ≡ asked_for c (wanted_from g)
+has_none c e i s g k lets unknown strict workers has =
+    let has_not : has_options c g.options ≡ false = rw (lets, unknown, strict) at has in
+    rw (workers, has_not) refl
+
+pub asks_nothing : (c : Command) (g : Given) → workers_of g.number ≡ None → None ≡ asked_for c (wanted_from g)
+asks_nothing c g h = rw h refl

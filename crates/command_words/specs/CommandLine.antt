@@ -1,15 +1,25 @@
 -- Public. What the words of a command line ask for (POSIX.1-2017, Base Definitions, "Utility Syntax Guidelines"). The
--- first word is the command, and behind it stand operands and options, in any order. The first `--` ends the options:
--- every word behind it is an operand.
+-- first word is the command, `check` or `elaborate`, and behind it stand operands and options, in any order. The first `--`
+-- ends the options: every word behind it is an operand.
 use Rattle.std.specs.Prelude.{ℕ, List, [], ◌∷◌, ◌++◌, Bool, true, false, not, ◌&&◌, ◌||◌, if◌then◌else◌, Option, None, Some, nat_eq, nat_le}
 use Rattle.std.specs.Prelude.{bytes_eq, codes, drop, filter, length, take, take_while}
 use Rattle.std.specs.List.{list_any, prefix_len}
 use Rattle.std.specs.Str.{all_ascii_digits}
 use Rattle.std.specs.Str.Parse.{digits_value}
+use Rattle.command_words.specs.declared.request.Command.{Command}
+use Rattle.command_words.specs.declared.request.Command.TheVariants.{Check, Elaborate}
 use Rattle.command_words.specs.declared.request.Options.{Options}
 
--- a check of the proof at one path against the problem at another, how it is done, and by how many workers
+-- a command over the proof at one path and the problem at another, how the proof is checked, and by how many workers
 pub record Asked : Type 0 where
+  pub command : Command
+  pub proof : List ℕ
+  pub problem : List ℕ
+  pub options : Options
+  pub workers : ℕ
+
+-- what the words behind a command say
+pub record Wanted : Type 0 where
   pub proof : List ℕ
   pub problem : List ℕ
   pub options : Options
@@ -125,17 +135,36 @@ options_by words =
     else None
 
 -- the operands are the proof and the problem, in this order
-abbrev pub asked_with : List Word → Option Options → Option ℕ → Option Asked
-asked_with (proof ∷ problem ∷ []) (Some options) (Some workers) =
+abbrev pub wanted_with : List Word → Option Options → Option ℕ → Option Wanted
+wanted_with (proof ∷ problem ∷ []) (Some options) (Some workers) =
     Some (record { proof = proof; problem = problem; options = options; workers = workers })
-asked_with _ _ _ = None
+wanted_with _ _ _ = None
 
-abbrev pub asked_by : List Word → Option Asked
-asked_by words =
-    asked_with (operands_of words) (options_by (filter is_flag (options_of words))) (workers_by (filter gives_number (options_of words)))
+abbrev pub wanted_by : List Word → Option Wanted
+wanted_by words =
+    wanted_with (operands_of words) (options_by (filter is_flag (options_of words))) (workers_by (filter gives_number (options_of words)))
 
--- the first word is `check`
+-- `elaborate` has no `--strict`: with it the words spell no command
+abbrev pub has_options : Command → Options → Bool
+has_options Check options = true
+has_options Elaborate options = not options.is_strict
+
+abbrev pub asked_as : Command → Wanted → Asked
+asked_as command w = record { command = command; proof = w.proof; problem = w.problem; options = w.options; workers = w.workers }
+
+abbrev pub asked_for : Command → Option Wanted → Option Asked
+asked_for command None = None
+asked_for command (Some w) = if has_options command w.options then Some (asked_as command w) else None
+
+-- the first word is the command
+abbrev pub command_named : Word → Option Command
+command_named word =
+    if bytes_eq word (codes "check") then Some Check else (if bytes_eq word (codes "elaborate") then Some Elaborate else None)
+
+abbrev pub asked_behind : Option Command → List Word → Option Asked
+asked_behind None words = None
+asked_behind (Some command) words = asked_for command (wanted_by (with_values words))
+
 abbrev pub asked_of : List Word → Option Asked
 asked_of [] = None
-asked_of (command ∷ words) =
-    if bytes_eq command (codes "check") then asked_by (with_values words) else None
+asked_of (word ∷ words) = asked_behind (command_named word) words

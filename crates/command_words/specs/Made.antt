@@ -1,4 +1,4 @@
--- Private. The command line as it is made for `clap`: one subcommand, with two operands and four options.
+-- Private. The command line as it is made for `clap`: two subcommands, each with two operands and four options.
 use Rattle.std.specs.Prelude.{◌≡◌, Some, false, true, codes}
 use Rattle.clap.specs.Walk.{Rule, Text}
 use Rattle.clap.specs.Simple.{App, app_of, new_rule, new_shape, new_app, with_rule, with_subcommand}
@@ -33,26 +33,29 @@ made_strict = made_flag (codes "strict") (codes "strict")
 abbrev pub made_workers : Rule
 made_workers = made_valued (codes "workers") (codes "num-threads")
 
--- the command with its operands, and with the options without a value
-abbrev pub made_operands : App
-made_operands = with_rule (with_rule (new_app (codes "check")) made_proof) made_problem
+-- a command with its operands, and with the options without a value
+abbrev pub made_operands : Text → App
+made_operands name = with_rule (with_rule (new_app name) made_proof) made_problem
 
-abbrev pub made_flags : App
-made_flags = with_rule (with_rule (with_rule made_operands made_expand) made_ignore) made_strict
+abbrev pub made_flags : Text → App
+made_flags name = with_rule (with_rule (with_rule (made_operands name) made_expand) made_ignore) made_strict
 
-abbrev pub made_check : App
-made_check = with_rule made_flags made_workers
+abbrev pub made_command : Text → App
+made_command name = with_rule (made_flags name) made_workers
 
-pub record IsMadeCheck (c : Command) : Type 0 where
-  pub shape : app_of c ≡ made_check
+pub record IsMadeCommand (name : Text) (c : Command) : Type 0 where
+  pub shape : app_of c ≡ made_command name
   pub local : (out-Command c).has_globals ≡ false
 
-abbrev pub made : App
-made = with_subcommand (record (new_app (codes "carcara")) {
+abbrev pub made_top : App
+made_top = record (new_app (codes "carcara")) {
   top = record (new_shape (codes "carcara")) {
     no_binary_name = true;
     disable_help_flag = true;
     disable_help_subcommand = true;
     subcommand_required = true;
   };
-}) made_check.top
+}
+
+abbrev pub made : App
+made = with_subcommand (with_subcommand made_top (made_command (codes "check")).top) (made_command (codes "elaborate")).top

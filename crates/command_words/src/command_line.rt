@@ -1,13 +1,14 @@
 //! The words of the command line, read with `clap`.
-ghost use Rattle.std.specs.Prelude.{◌≡◌, ◌≢◌, false, Some, None, map, option_map, string_bytes, IfOk, IfSome};
+ghost use Rattle.std.specs.Prelude.{◌≡◌, ◌≢◌, true, false, Some, None, map, option_map, string_bytes, IfOk, IfSome};
 ghost use Rattle.clap.specs.Simple.{app_of, subcommand_rows_of};
 ghost use Rattle.clap.specs.Walk.{rule_of};
-ghost use Rattle.command_words.specs.CommandLine.{asked_of, workers_in};
+ghost use Rattle.command_words.specs.CommandLine.{asked_for, asked_of, has_options, workers_in};
 ghost use Rattle.command_words.specs.Requests.{told_of, IsNumberOfWorkers};
-ghost use Rattle.command_words.specs.Made.{made, made_flag, made_operand, made_valued, IsMadeCheck};
-ghost use Rattle.command_words.specs.Found.{asked_from, workers_of, Given, IsReadFrom};
+ghost use Rattle.command_words.specs.Made.{made, made_flag, made_operand, made_valued, IsMadeCommand};
+ghost use Rattle.command_words.specs.Found.{name_of, wanted_from, workers_of, Given, IsReadFrom};
+ghost use Rattle.command_words.specs.declared.request.Command.{Command as Asked};
 
-use crate::request::{Options, Request};
+use crate::request::{self, Options, Request};
 use clap::error::ErrorKind;
 use clap::{Arg, ArgAction, ArgMatches, Command};
 use std::alloc::{AllocError, Global};
@@ -36,11 +37,11 @@ fn valued<'a>(alloc: Global, id: &'a str, name: &'a str) -> Arg<'a>
     Arg::new(alloc, id).long(name).action(ArgAction::Set)
 }
 
-/// The command `check`, with two operands and four options.
-fn check_command<'a>(alloc: Global) -> Result<Command<'a>, AllocError>
-    ensures { IfOk result IsMadeCheck }
+/// A command of this name, with two operands and four options.
+fn command<'a>(alloc: Global, name: &'a str) -> Result<Command<'a>, AllocError>
+    ensures { IfOk result (IsMadeCommand name.now) }
 {
-    Command::new(alloc, "check")
+    Command::new(alloc, name)
         .arg(operand(alloc, "proof"))?
         .arg(operand(alloc, "problem"))?
         .arg(flag(alloc, "expand", "expand-let-bindings"))?
@@ -49,17 +50,40 @@ fn check_command<'a>(alloc: Global) -> Result<Command<'a>, AllocError>
         .arg(valued(alloc, "workers", "num-threads"))
 }
 
-/// The command line: one subcommand, and no help.
+/// The command line: two subcommands, and no help. Both take `--strict` here, and `elaborate` is refused with it afterwards.
 fn command_line<'a>(alloc: Global) -> Result<Command<'a>, AllocError>
     ensures { IfOk result (λ c. app_of c ≡ made) }
 {
-    let check = check_command(alloc)?;
+    let check = command(alloc, "check")?;
+    let elaborate = command(alloc, "elaborate")?;
     Command::new(alloc, "carcara")
         .no_binary_name(true)
         .disable_help_flag(true)
         .disable_help_subcommand(true)
         .subcommand_required(true)
-        .subcommand(check)
+        .subcommand(check)?
+        .subcommand(elaborate)
+}
+
+/// The command of a name that is one of a command.
+fn command_named(name: &str) -> request::Command
+    ensures { (c : Asked) → name.now ≡ name_of c → result ≡ c }
+{
+    if name == "elaborate" {
+        request::Command::Elaborate
+    } else {
+        request::Command::Check
+    }
+}
+
+/// Whether a command has these options.
+fn has_options(command: request::Command, options: Options) -> bool
+    ensures { result ≡ has_options command options }
+{
+    match command {
+        request::Command::Check => true,
+        request::Command::Elaborate => !options.is_strict,
+    }
 }
 
 /// The number of workers that a text spells, 1 to 64: decimal digits without sign or leading zero.
@@ -90,27 +114,33 @@ fn workers_of(number: Option<&str>) -> Option<u32>
 
 /// What the matches of a command line ask for.
 fn request_of<'a>(matches: &ArgMatches<'a>) -> Option<Request<'a>>
-    ensures told { (g : Given) → IsReadFrom g (subcommand_rows_of matches.now) → told_of result ≡ asked_from g }
+    ensures told { (c : Asked) (g : Given) → IsReadFrom c g (subcommand_rows_of matches.now) → told_of result ≡ asked_for c (wanted_from g) }
     ensures workers { IfSome result (λ request. IsNumberOfWorkers request.workers) }
+    ensures options { IfSome result (λ request. has_options request.command request.options ≡ true) }
 {
-    let Some((_, check)) = matches.subcommand() else {
+    let Some((name, found)) = matches.subcommand() else {
         return None;
     };
-    let Some(proof) = check.get_str("proof") else {
+    let Some(proof) = found.get_str("proof") else {
         return None;
     };
-    let Some(problem) = check.get_str("problem") else {
+    let Some(problem) = found.get_str("problem") else {
         return None;
     };
-    let Some(workers) = workers_of(check.get_str("workers")) else {
+    let Some(workers) = workers_of(found.get_str("workers")) else {
         return None;
     };
     let options = Options {
-        replaces_lets: check.get_flag("expand"),
-        ignores_unknown_rules: check.get_flag("ignore"),
-        is_strict: check.get_flag("strict"),
+        replaces_lets: found.get_flag("expand"),
+        ignores_unknown_rules: found.get_flag("ignore"),
+        is_strict: found.get_flag("strict"),
     };
+    let command = command_named(name);
+    if !has_options(command, options) {
+        return None;
+    }
     Some(Request {
+        command,
         proof,
         problem,
         options,
@@ -129,8 +159,9 @@ fn refused<'a>(kind: ErrorKind) -> Result<Option<Request<'a>>, AllocError>
 }
 
 /// What the words of a command line ask for, where they spell a command (POSIX.1-2017, Base
-/// Definitions, "Utility Syntax Guidelines"): `check PROOF PROBLEM`, and in any place behind `check` the options
-/// `--expand-let-bindings`, `--ignore-unknown-rules`, `--strict` and `--num-threads N`, each once at most. A `--` ends the options.
+/// Definitions, "Utility Syntax Guidelines"): `check PROOF PROBLEM` or `elaborate PROOF PROBLEM`, and in any place behind the first word
+/// the options `--expand-let-bindings`, `--ignore-unknown-rules`, `--strict` (of `check` alone) and `--num-threads N`, each once at
+/// most. A `--` ends the options.
 /// N, 1 to 64, is the next word, or stands behind `=` in the same one: decimal digits without sign or leading zero. Where it is not
 /// said, one worker is asked for.
 ///
@@ -138,6 +169,7 @@ fn refused<'a>(kind: ErrorKind) -> Result<Option<Request<'a>>, AllocError>
 pub fn asked_of<'a>(alloc: Global, words: &'a [String]) -> Result<Option<Request<'a>>, AllocError>
     ensures asked { IfOk result (λ r. told_of r ≡ asked_of (map string_bytes words.now)) }
     ensures workers { IfOk result (λ r. IfSome r (λ request. IsNumberOfWorkers request.workers)) }
+    ensures options { IfOk result (λ r. IfSome r (λ request. has_options request.command request.options ≡ true)) }
 {
     let command = command_line(alloc)?;
     match command.try_get_matches_from(words) {

@@ -1,4 +1,4 @@
-//! What the words of the command line ask for: `check PROOF PROBLEM` with its options.
+//! What the words of the command line ask for: `check PROOF PROBLEM` or `elaborate PROOF PROBLEM`, with options.
 //!
 //! - `request`: what is asked for. `command_line`: which words ask for it.
 #![tactic(auto)]
@@ -7,4 +7,4 @@ mod command_line;
 mod request;
 
 pub use command_line::asked_of;
-pub use request::{Options, Request};
+pub use request::{Command, Options, Request};

@@ -1,5 +1,14 @@
 //! What a command line asks for.
 
+/// What is done with a proof.
+#[derive(Debug, Clone, Copy)]
+pub enum Command {
+    /// It is checked.
+    Check,
+    /// It is checked, and printed in a form in which each step is strict.
+    Elaborate,
+}
+
 /// How a check is done.
 #[derive(Debug, Clone, Copy)]
 pub struct Options {
@@ -11,9 +20,10 @@ pub struct Options {
     pub is_strict: bool,
 }
 
-/// A check of the proof at one path against the problem at another, by 1 to 64 workers.
+/// A command over the proof at one path and the problem at another, by 1 to 64 workers.
 #[derive(Drop)]
 pub struct Request<'a> {
+    pub command: Command,
     pub proof: &'a str,
     pub problem: &'a str,
     pub options: Options,

@@ -1,4 +1,4 @@
-use Rattle.std.proofs.Common.{◌^◌, ◌∙◌, inl, inr, arith}
+use Rattle.std.proofs.Common.{◌^◌, ◌∙◌, inl, inr}
 use Rattle.sym_table.proofs.Tables.{keeps_table}
 use Rattle.term_model.specs.Terms.{Term}
 use Rattle.term_pool.specs.Placing.{PlacesCellsOf, LacksCellOf}
@@ -8,37 +8,17 @@ use Rattle.carcara_cli.specs.Judging.{IsJudgedProof}
 use Rattle.carcara_cli.specs.Texts.{flags_of}
 use Rattle.carcara_cli.specs.Cells.{HasMoreCells}
 use Rattle.carcara_cli.specs.Pools.{HoldsOnly}
-use Rattle.rules_resolution.specs.Steps.{IsShort}
-use Rattle.carcara_cli.specs.Reading.{settings_of, IsReadOf, NeedsRoom}
+use Rattle.carcara_cli.specs.Reading.{IsReadOf, NeedsRoom}
 use Rattle.carcara_cli.proofs.CellLemmas.{has_more_cells, holds_kind, holds_more}
 use Rattle.carcara_cli.proofs.JudgementLemmas.{judged_proof}
-use Rattle.carcara_cli.proofs.TruthClauses.{clauses_of_truths}
-use Rattle.carcara_cli.proofs.VerdictLemmas.{short_stands}
 use Rattle.carcara_cli.proofs.judging.judge_read.Goals as goal
 
--- no clause and no list of premises is longer than the text, and the text's proof is well sorted
 pub judge_commands-requires-clause-can : goal.judge_commands-requires-clause-can
 judge_commands-requires-clause-can g c =
     let texts = c.args.texts.now in
-    let text = texts.proof.now in
-    let settings = settings_of texts.options in
-    let script = c.requires.read.script in
-    let read = c.requires.read.read in
-    let sound = c.scripts_are_well_sorted.ensures texts.problem.now texts.options.replaces_lets script c.requires.read.problem_text in
-    let scoped = c.scripts_are_closed.ensures texts.problem.now texts.options.replaces_lets script c.requires.read.problem_text in
-    let sorted = c.proofs_have_scoped_terms.ensures text settings script read.proof read.after sound scoped read.stands in
-    let refs = c.args.both.now.proof in
-    let short : IsShort refs = short_stands _ _ refs read.proof (c.proofs_correspond.ensures _ _ refs read.proof read.refer) (record {
-      clauses = λ i. let h = c.proofs_are_short.ensures.clauses text settings script read.proof read.after i read.stands in omega (arith, h, c.requires.size);
-      premises = λ i. let h = c.proofs_are_short.ensures.premises text settings script read.proof read.after i read.stands in omega (arith, h, c.requires.size);
-    }) in
-    rw (c.job-check.ensures.proof, c.job-check.ensures.problem, c.job-check.ensures.symbols) (λ lives longer. record {
-      proof = read.proof;
-      stand = read.refer;
-      asserted = record { assertions = script.assertions; refer = c.requires.read.assertions };
-      short = short;
-      sorted = λ i. clauses_of_truths read.proof i sorted;
-    })
+    let can = c.read_proofs_can_be_checked.ensures texts.problem.now texts.options texts.proof.now c.args.symbols.now c.args.terms
+    c.args.both.now.problem.assertions c.args.both.now.proof c.requires.read c.requires.size in
+    rw (c.job-check.ensures.proof, c.job-check.ensures.problem, c.job-check.ensures.symbols) (λ lives longer. can)
 
 pub returns-in-Ok : goal.returns-in-Ok
 returns-in-Ok g c = λ bits places.

@@ -43,7 +43,7 @@ returns-clause-read c =
     let read : IsProofOf t.proof.now (settings_of t.options) before.script z w c.in-Ok.proof =
     search (rules, c.read_proof.ensures.proof before.script before.is, c.in-Ok.is, c.flags_of-flags.ensures) in
     let placed : PlacesCellsOf z old w.pass P = rw (c.flags_of-flags.ensures) at (c.read_proof.ensures.placed before.script before.is) in (
-      record { script = before.script; problem_text = before.stands; assertions = stays.assertions; read = read },
+      record { read = record { script = before.script; problem_text = before.stands; assertions = stays.assertions; read = read }; is = stays },
       holds_more c.args.symbols.now z old w.pass P Q (λ u h. inr (record { script = before.script; stands = before.stands; counted = h }))
           c.read_proof.ensures.symbols.keeps c.read_proof.ensures.keeps.pass c.requires.holds placed,
     )

@@ -4,6 +4,8 @@ use Rattle.clap.specs.Simple.{App, Shape, app_of, app_of_fields, on_top, with_su
 use Rattle.clap.specs.declared.builder.command.Command.{Command}
 use Rattle.clap.specs.declared.builder.command.Command.TheOpen.{Command-F}
 use Rattle.clap.specs.declared.builder.command.Command.TheViews.{out-Command as fields_of}
+use Rattle.std.specs.Prelude.{codes}
+use Rattle.command_words.specs.Made.{made_command, made_top}
 use Rattle.command_words.proofs.command_line.command_line.Goals as goal
 
 abbrev settings : Command-F Command → Command-F Command
@@ -29,6 +31,9 @@ returns c =
     ∙ ap (λ (f : Command-F Command). record f { disable_help_subcommand = true }) (c.disable_help_flag.ensures
     ∙ ap (λ (f : Command-F Command). record f { disable_help_flag = true }) c.no_binary_name.ensures)) in
     let top_is : app_of c.subcommand_required.result ≡ on_top settings_of_shape (app_of c.new.result) = ap app_of_fields set in
-    IfOk-weaker c.subcommand.result _ _
-    (λ m h. h.shape c.in_ok-check.ensures.local ∙ ap₂ with_subcommand (top_is ∙ ap (on_top settings_of_shape) c.new.ensures.app) (ap (λ (a : App). a.top) c.in_ok-check.ensures.shape))
-    c.subcommand.ensures
+    let first : app_of c.in_ok-subcommand.field-0 ≡ with_subcommand made_top (made_command (codes "check")).top =
+    c.in_ok-subcommand.ensures.shape c.in_ok-check.ensures.local
+    ∙ ap₂ with_subcommand (top_is ∙ ap (on_top settings_of_shape) c.new.ensures.app) (ap (λ (a : App). a.top) c.in_ok-check.ensures.shape) in
+    IfOk-weaker c.subcommand-2.result _ _
+    (λ m h. h.shape c.in_ok-elaborate.ensures.local ∙ ap₂ with_subcommand first (ap (λ (a : App). a.top) c.in_ok-elaborate.ensures.shape))
+    c.subcommand-2.ensures

@@ -1,4 +1,4 @@
-use Rattle.std.proofs.Common.{◌≡◌, ◌∙◌, ap, arith, sym, Some}
+use Rattle.std.proofs.Common.{◌∙◌, ap, arith}
 use Rattle.std.specs.Prelude.{slice_get}
 use Rattle.command_words.proofs.NumberLemmas.{missed, taken}
 use Rattle.command_words.proofs.command_line.workers_in.Goals as goal

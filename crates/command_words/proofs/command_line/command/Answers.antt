@@ -1,7 +1,7 @@
 use Rattle.std.proofs.Common.{ap₂, Bool, true, false, ◌≡◌, ◌∙◌, ◌||◌}
 use Rattle.std.proofs.lemmas.Result.{IfOk-weaker}
 use Rattle.clap.specs.Simple.{with_rule}
-use Rattle.command_words.proofs.command_line.check_command.Goals as goal
+use Rattle.command_words.proofs.command_line.command.Goals as goal
 
 neither : (a b : Bool) → a ≡ false → b ≡ false → (a || b) ≡ false
 neither true b is other = is
