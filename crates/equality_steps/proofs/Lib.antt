@@ -1,0 +1,9 @@
+pub mod Results
+pub mod SiteLemmas
+pub mod StepLemmas
+pub mod RuleLemmas
+pub mod LawLemmas
+pub mod FirstsLemmas
+pub mod DeniedLemmas
+pub mod ResolutionLemmas
+pub mod DeniedRules

@@ -1,0 +1,7 @@
+pub mod Sites
+pub mod Links
+pub mod Blocks
+pub mod Given
+pub mod Denied
+pub mod Clauses
+pub mod Joined
