@@ -1,0 +1,88 @@
+-- The numbers that are found are the core.
+use Rattle.std.proofs.Common.{◌≡◌, inl, inr, ℕ, Bool, List, [], ◌∷◌, ◌++◌, Contains, All, sym, ◌∙◌, ap, subst, arith}
+use Rattle.std.specs.List.{AllZip}
+use Rattle.pair_pool.specs.Trees.{Tree}
+use Rattle.pair_pool.specs.Views.{IsOneToOne}
+use Rattle.sym_table.specs.Table.{Table}
+use Rattle.term_model.proofs.Lists.{contains_none, contains_cases, contains_head, contains_later}
+use Rattle.term_model.specs.Terms.{Var, Term}
+use Rattle.term_pool.specs.StandsFor.{StandsFor}
+use Rattle.term_pool.specs.Views.{TermsView, RefersTo, ReferToAll, IsTerm}
+use Rattle.proof_store.specs.Meaning.{StandForItems}
+use Rattle.rule_model.specs.Proofs.{ProofItems}
+use Rattle.rule_model.specs.Reading.{clause_at, rule_at, scope_at, is_assume}
+use Rattle.rule_model.specs.Scopes.{commands_in}
+use Rattle.pruned_proofs.specs.Core.{IsKeptAssume, IsCore, IsFirstEqual}
+use Rattle.pruned_proofs.proofs.Nested.{all_if}
+use Rattle.proof_prune.specs.Numbering.{IsEqualToOne, AreAsserted, AreWantedTo, AreFirsts, Places}
+use Rattle.proof_prune.proofs.Wanted.{term_within}
+
+-- what goes with an item
+pub partner : {A B : Type 0} (R : A → B → Type 0) (xs : List A) (ys : List B) (x : A) → AllZip R xs ys → Contains xs x → (y : B) × Contains ys y × R x y
+partner R [] ys x h has = absurd (contains_none x has)
+partner R (a ∷ xs) [] x h has = absurd h
+partner R (a ∷ xs) (b ∷ ys) x h has =
+    elim (contains_cases a x xs has) [
+      | inl e ↦ (b, contains_head b ys, subst (λ z. R z b) e h.0)
+      | inr more ↦ (let p = partner R xs ys x h.1 more in (p.0, contains_later b p.0 ys p.1, p.2))
+    ]
+
+pub partner_back : {A B : Type 0} (R : A → B → Type 0) (xs : List A) (ys : List B) (y : B) → AllZip R xs ys → Contains ys y → (x : A) × Contains xs x × R x y
+partner_back R [] [] y h has = absurd (contains_none y has)
+partner_back R [] (b ∷ ys) y h has = absurd h
+partner_back R (a ∷ xs) [] y h has = absurd h
+partner_back R (a ∷ xs) (b ∷ ys) y h has =
+    elim (contains_cases b y ys has) [
+      | inl e ↦ (a, contains_head a xs, subst (λ z. R a z) e h.0)
+      | inr more ↦ (let p = partner_back R xs ys y h.1 more in (p.0, contains_later a p.0 xs p.1, p.2))
+    ]
+
+pub one_reference : (s : Table) (v : TermsView) → IsOneToOne v.pass → ((a : Tree) (t u : Term) → StandsFor s a t → StandsFor s a u → t ≡ u) → (r : ℕ) (t u : Term) → RefersTo s v r t → RefersTo s v r u → t ≡ u
+one_reference s v known one_term r t u h k =
+    let same = known.one_tree r k.tree h.tree k.known h.known in
+    one_term h.tree t u h.stands (subst (λ (a : Tree). StandsFor s a u) same k.stands)
+
+module _ (s : Table) (v : TermsView) (refs : ProofItems ℕ ℕ) (proof : ProofItems Var Term) (stand : StandForItems s v refs proof)
+    (rule : (i : ℕ) → rule_at refs i ≡ rule_at proof i) (scope : (i : ℕ) → scope_at refs i ≡ scope_at proof i) (clause : (i : ℕ) → AllZip (RefersTo s v) (clause_at refs i) (clause_at proof i))
+    (marks : List Bool) where
+  -- the assumes over references and over terms
+  to_term : (i r : ℕ) → IsKeptAssume marks refs i r → (t : Term) × IsKeptAssume marks proof i t × RefersTo s v r t
+  to_term i r h =
+      let p = partner (RefersTo s v) (clause_at refs i) (clause_at proof i) r (clause i) h.term in
+      (p.0, record { kept = h.kept; scope = sym (scope i) ∙ h.scope; assume = ap is_assume (sym (rule i)) ∙ h.assume; term = p.1 }, p.2)
+
+  to_reference : (i : ℕ) (t : Term) → IsKeptAssume marks proof i t → (r : ℕ) × IsKeptAssume marks refs i r × RefersTo s v r t
+  to_reference i t h =
+      let p = partner_back (RefersTo s v) (clause_at refs i) (clause_at proof i) t (clause i) h.term in
+      (p.0, record { kept = h.kept; scope = scope i ∙ h.scope; assume = ap is_assume (rule i) ∙ h.assume; term = p.1 }, p.2)
+
+  pub wanted_terms : (list : List ℕ) → AreWantedTo marks refs (commands_in refs) list → All (IsTerm s v) list
+  wanted_terms list h =
+      all_if (IsTerm s v) list (λ r has. let o = h.only r has in let t = to_term o.index r o.assume in record { means = t.0; refers = t.2 })
+
+  module _ (assertions : List ℕ) (ts : List Term) (refer : ReferToAll s v assertions ts) (one : (r : ℕ) (t u : Term) → RefersTo s v r t → RefersTo s v r u → t ≡ u)
+      (asserted : AreAsserted marks ts proof) (list : List ℕ) (wanted : AreWantedTo marks refs (commands_in refs) list) (none numbers : List ℕ)
+      (empty : none ≡ []) (places : Places s v assertions list 0 none numbers) where
+    firsts : AreFirsts s v ts list 0 none numbers
+    firsts =
+        places ts refer (λ r t has refers.
+        let o = wanted.only r has in
+        let u = to_term o.index r o.assume in
+        subst (IsEqualToOne ts) (one r u.0 t u.2 refers) (asserted o.index u.0 u.1))
+
+    pub found_core : IsCore marks ts proof numbers
+    found_core =
+        let f = firsts in
+        subst (IsCore marks ts proof) (sym (f.is ∙ ap (λ xs. xs ++ f.more) empty))
+        (record {
+          rising = f.rising;
+          only = λ n has.
+              let o = f.only n has in
+              let w = wanted.only o.reference o.among in
+              let u = to_term w.index o.reference w.assume in
+              record { index = w.index; term = u.0; assume = u.1; first = subst (λ t. IsFirstEqual ts t n) (one o.reference o.term u.0 o.refers u.2) (subst (IsFirstEqual ts o.term) (omega arith) o.first) };
+          each = λ i t h.
+              let r = to_reference i t h in
+              let n = f.each r.0 t (wanted.each i r.0 (term_within refs i r.0 r.1.term) r.1) r.2 in
+              record { number = n.number; first = subst (IsFirstEqual ts t) (omega arith) n.first; among = n.among };
+        })

@@ -1,0 +1,13 @@
+mod Marks
+mod Stepping
+mod Halving
+mod Wanted
+mod Found
+mod Corresponding
+mod ClosedOnce
+mod OldLines
+mod Scopes
+mod Leaving
+mod Taking
+mod Going
+mod Putting
