@@ -1,0 +1,7 @@
+mod TextLengths
+mod FewAssertions
+mod PrunedOver
+mod Asserted
+mod ReadAgain
+mod Ends
+mod Lines
