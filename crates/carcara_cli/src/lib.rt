@@ -1,25 +1,17 @@
-//! The top call of the checker: `check PROOF PROBLEM` and `elaborate PROOF PROBLEM`. What the words of the command line ask for is `command_words`'.
+//! The top call of the checker: `check`, `elaborate`, `core` and `prune` of a proof and a problem, and `generate`. What the words of the
+//! command line ask for is `command_words`', what two texts come to `judged_texts`', the text of an elaboration `elaborated_texts`', what a
+//! valid proof needs `pruned_texts`', and what the generator's texts come to `generated_texts`'.
 //!
-//! - `top`: the two files, the answer and its printing.
-//! - `judging`: what the two texts come to, by the statuses of the commands and the verdict; `texts`: how they are read; `pools`:
-//!   pools that are large enough; `naming`: the commands that a verdict names.
-//! - `making`: the elaboration of a proof that was read. `elaborating`: from the two texts to the text that is written.
-//! - `judgement`, `answer`: what is judged and returned, and how it is printed.
-//! - `laws`: why `valid` can be trusted, and when a pool is full.
+//! - `top`: the call. `commands`: the commands. `files`: the two files. `reporting`: what is printed.
+//! - `answer`: what is returned, and how it is printed.
+//! - `laws`: the words and the files define one answer.
 #![tactic(auto)]
 
 mod answer;
-mod elaborating;
-mod judgement;
-mod judging;
+mod commands;
+mod files;
 pub mod laws;
-mod making;
-mod naming;
-mod pools;
-mod texts;
+mod reporting;
 mod top;
 
-pub use judgement::{Hole, Judgement};
-pub use judging::{Workers, judge};
-pub use laws::full_pools_have_many_cells;
 pub use top::{carcara, carcara_within};

@@ -1,5 +1,5 @@
 //! Laws over a proof read in both modes. Each is the contract of a function that does nothing.
-ghost use Rattle.std.specs.Prelude.{ℕ, List, Option, Some};
+ghost use Rattle.std.specs.Prelude.{ℕ, List, Option};
 ghost use Rattle.term_model.specs.Terms.{Var, Term};
 ghost use Rattle.rule_model.specs.LeftOut.{IsSameUpToPivots};
 ghost use Rattle.rule_model.specs.Proofs.{ProofItems as Proof};
@@ -9,11 +9,11 @@ ghost use Rattle.alethe_text.specs.ProofTexts.{StandsForProof};
 ghost use Rattle.command_words.specs.CommandLine.{Asked};
 ghost use Rattle.command_words.specs.declared.request.Options.{Options};
 ghost use Rattle.carcara_cli.specs.Exactness.{IsDefinedAnswer, SaySame};
-ghost use Rattle.carcara_cli.specs.Judgement.{IsCheckedAs};
-ghost use Rattle.carcara_cli.specs.Reading.{settings_of};
+ghost use Rattle.judged_texts.specs.Judgement.{IsCheckedAs};
+ghost use Rattle.judged_texts.specs.Reading.{settings_of};
 ghost use Rattle.carcara_cli.specs.declared.answer.Answer.{Answer};
 ghost use Rattle.carcara_cli.specs.declared.answer.Answer.TheVariants.{Judged};
-ghost use Rattle.carcara_cli.specs.declared.judgement.Judgement.TheVariants.{Valid};
+ghost use Rattle.judged_texts.specs.declared.judgement.Judgement.TheVariants.{Valid};
 ghost use Rattle.mode_laws.specs.Modes.{asked_in_check_mode, asked_strictly, in_check_mode, strictly, FilesReadSameInCheckMode};
 
 use carcara_cli::laws::words_and_files_define_one_answer;
@@ -37,11 +37,11 @@ pub fn valid_strictly_is_valid()
 /// define is printed like it and ends with its status.
 pub fn runs_agree()
     ensures defined { (bits : ℕ) (content : List ℕ → Option (List ℕ)) (asked : Asked) →
-        IsDefinedAnswer bits content (Some (asked_strictly asked)) (Judged Valid) → FilesReadSameInCheckMode content asked →
-        IsDefinedAnswer bits content (Some (asked_in_check_mode asked)) (Judged Valid) }
+        IsDefinedAnswer bits content (asked_strictly asked) (Judged Valid) → FilesReadSameInCheckMode content asked →
+        IsDefinedAnswer bits content (asked_in_check_mode asked) (Judged Valid) }
     ensures same { (bits : ℕ) (content : List ℕ → Option (List ℕ)) (asked : Asked) (a : Answer) →
-        IsDefinedAnswer bits content (Some (asked_strictly asked)) (Judged Valid) → FilesReadSameInCheckMode content asked →
-        IsDefinedAnswer bits content (Some (asked_in_check_mode asked)) a → SaySame a (Judged Valid) }
+        IsDefinedAnswer bits content (asked_strictly asked) (Judged Valid) → FilesReadSameInCheckMode content asked →
+        IsDefinedAnswer bits content (asked_in_check_mode asked) a → SaySame a (Judged Valid) }
 {
     valid_strictly_is_valid();
     words_and_files_define_one_answer();

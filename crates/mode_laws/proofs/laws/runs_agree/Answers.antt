@@ -2,7 +2,7 @@
 use Rattle.std.proofs.Common.{◌≡◌, ℕ, List, Option, Some, None, refl, ap, sym}
 use Rattle.file_ports.specs.Texts.{AreTold}
 use Rattle.carcara_cli.specs.declared.answer.Answer.TheVariants.{Judged}
-use Rattle.carcara_cli.specs.declared.judgement.Judgement.TheVariants.{Valid}
+use Rattle.judged_texts.specs.declared.judgement.Judgement.TheVariants.{Valid}
 use Rattle.mode_laws.specs.Modes.{asked_in_check_mode}
 use Rattle.mode_laws.proofs.laws.runs_agree.Goals as goal
 
@@ -33,5 +33,5 @@ returns-clause-defined c = λ bits content asked defined reads.
 
 pub returns-clause-same : goal.returns-clause-same
 returns-clause-same c = λ bits content asked a strict reads loose.
-    c.words_and_files_define_one_answer.ensures bits content (Some (asked_in_check_mode asked)) a (Judged Valid) loose
+    c.words_and_files_define_one_answer.ensures bits content (asked_in_check_mode asked) a (Judged Valid) loose
     (returns-clause-defined c bits content asked strict reads)
