@@ -9,3 +9,4 @@ pub mod ScopedTerms
 pub mod ScopedProofs
 pub mod TruthClauses
 mod SomeJudgement
+mod OverLemmas
