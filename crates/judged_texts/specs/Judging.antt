@@ -1,4 +1,4 @@
--- Private. What the judgement of a proof that was read comes to.
+-- Public. What the judgement of a proof that was read comes to.
 use Rattle.std.specs.Prelude.{◌≡◌, ℕ, List}
 use Rattle.std.specs.List.{AllZip}
 use Rattle.sym_table.specs.Table.{Table}

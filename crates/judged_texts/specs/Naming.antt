@@ -1,4 +1,4 @@
--- Private. The judgement that a verdict is, with the commands that it names.
+-- Public. The judgement that a verdict is, with the commands that it names.
 use Rattle.std.specs.Prelude.{◌≡◌, ℕ, ◌<◌, List, map, ⊤}
 use Rattle.rule_model.specs.declared.statuses.Status.{Status}
 use Rattle.rule_model.specs.declared.statuses.Verdict.{Verdict}
