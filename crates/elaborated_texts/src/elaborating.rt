@@ -14,7 +14,7 @@ ghost use Rattle.command_words.specs.declared.request.Options.{Options as Chosen
 ghost use Rattle.rule_model.specs.Proofs.{ProofItems};
 ghost use Rattle.rule_model.specs.Scopes.{commands_in};
 ghost use Rattle.sym_table.specs.Table.{Table};
-ghost use Rattle.term_pool.specs.Views.{KeepsTerms, TermsView};
+ghost use Rattle.term_pool.specs.Views.{TermsView};
 ghost use Rattle.judged_texts.specs.declared.texts.Both.{Both as BothRead};
 ghost use Rattle.judged_texts.specs.Reading.{IsReadOf};
 ghost use Rattle.judged_texts.specs.Pools.{HoldsOnly};
@@ -30,12 +30,12 @@ use file_ports::{Gate, Sink};
 use judged_texts::laws::proofs_have_scoped_terms;
 use judged_texts::{
     Both, Judgement, LEAST_BITS, MOST_BITS, Read, Texts, Workers, pool_bits, proofs_correspond,
-    read_for,
+    read_for, read_texts_stay,
 };
 use pair_pool::{Pass, Pool};
 use printing_laws::laws::{read_proofs_have_sorts, well_sorted_proofs_are_of_sorted_terms};
 use problem_text::laws::{scripts_are_closed, scripts_are_well_sorted};
-use proof_store::{Proof, commands_correspond, proofs_stay};
+use proof_store::{Proof, commands_correspond};
 use readable_proofs::laws::{
     proofs_are_over_their_names, proofs_that_pass_have_coefficients,
     proofs_with_names_apart_are_read_back, scripts_are_well_named,
@@ -46,7 +46,6 @@ use std::thread::Threads;
 use sym_table::Symbols;
 use term_pool::Terms;
 use term_reader::Problem;
-use term_reader::view_laws::problems_stay;
 use term_sharing::{proof_names, terms_are_apart};
 
 /// How an elaboration ended.
@@ -116,15 +115,6 @@ fn made_elaborations_are_sorted()
     proofs_have_scoped_terms();
     well_sorted_proofs_are_of_sorted_terms();
     read_proofs_have_sorts();
-}
-
-/// A law: texts that were read stay so as the pool grows. The call does nothing.
-fn read_texts_stay()
-    ensures { (problem : List ℕ) (options : Chosen) (text : List ℕ) (s : Table) (v w : TermsView) (both : BothRead) → KeepsTerms v w →
-        AreReadBoth problem options text s v both → AreReadBoth problem options text s w both }
-{
-    proofs_stay();
-    problems_stay();
 }
 
 /// Elaborates the proof where both texts were read, and writes the elaboration.

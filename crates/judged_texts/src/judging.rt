@@ -135,30 +135,32 @@ pub fn read_proofs_can_be_checked()
     proofs_correspond();
 }
 
-/// What the texts come to where both were read.
-fn judge_read<R: Threads + Sync, G: Gate>(
+/// What the texts come to where both were read, by as many workers as there are. Refuses only when out of memory.
+pub fn judge_read<R: Threads + Sync, G: Gate>(
     workers: &Workers<'_, R, G>,
     alloc: Global,
     texts: &Texts<'_>,
     both: &Both,
     symbols: &Symbols,
-    mut terms: Terms<'_>,
+    terms: &mut Terms<'_>,
 ) -> Result<Judgement, Memory>
     requires workers { IsNumberOfWorkers workers.now.count }
-    requires for_many { 1 < workers.now.count → IsForMany terms.pool }
+    requires for_many { 1 < workers.now.count → IsForMany terms.old.pool }
     requires size { length texts.now.proof.now ≤ most_bytes }
-    requires read { IsReadProof texts.now.problem.now texts.now.options texts.now.proof.now symbols.now terms both.now.problem.assertions both.now.proof }
-    requires shares { terms.pass.shares ≡ 65 }
-    requires holds { HoldsOnly symbols.now terms.pass (IsReadOf texts.now.problem.now texts.now.options texts.now.proof.now) }
-    ensures { (bits : ℕ) → terms.entry.pass.places ≡ 2 ^ bits → IfOk result (IsJudgement texts.now.problem.now texts.now.options texts.now.proof.now bits) }
+    requires read { IsReadProof texts.now.problem.now texts.now.options texts.now.proof.now symbols.now terms.old both.now.problem.assertions both.now.proof }
+    requires shares { terms.old.pass.shares ≡ 65 }
+    requires holds { HoldsOnly symbols.now terms.old.pass (IsReadOf texts.now.problem.now texts.now.options texts.now.proof.now) }
+    ensures judged { (bits : ℕ) → terms.old.pass.places ≡ 2 ^ bits →
+        IfOk result (IsJudgement texts.now.problem.now texts.now.options texts.now.proof.now bits) }
+    ensures keeps { KeepsTerms terms.old terms.new }
 {
     read_proofs_can_be_checked();
     proofs_correspond();
     let flags = flags_of(texts.options);
     let check = job(&both.proof, &both.problem, symbols, flags);
-    match judge_commands(workers, alloc, &check, &mut terms) {
+    match judge_commands(workers, alloc, &check, terms) {
         Ok(judgement) => Ok(judgement),
-        Err(RuleStop::PoolFull) => Ok(pool_full(symbols, &terms)),
+        Err(RuleStop::PoolFull) => Ok(pool_full(symbols, terms)),
         Err(RuleStop::Memory) => Err(Memory),
     }
 }
@@ -185,8 +187,8 @@ fn judge_with<R: Threads + Sync, G: Gate>(
     let (read, pass) = read_for(workers.count, alloc, texts, symbols, pool, pass)?;
     match read {
         Read::Whole(both) => {
-            let terms = Terms::new(pool, pass);
-            let judged = judge_read(workers, alloc, texts, &both, symbols, terms);
+            let mut terms = Terms::new(pool, pass);
+            let judged = judge_read(workers, alloc, texts, &both, symbols, &mut terms);
             drop(both);
             judged
         }

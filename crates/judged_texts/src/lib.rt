@@ -17,10 +17,10 @@ mod texts;
 
 pub use judgement::{Hole, Judgement, status_of_judgement, text_of_judgement};
 pub use judging::{
-    Workers, check_commands, joined, judge, judge_commands, proofs_correspond,
+    Workers, check_commands, joined, judge, judge_commands, judge_read, proofs_correspond,
     read_proofs_can_be_checked,
 };
 pub use laws::full_pools_have_many_cells;
 pub use over::{Ended, OverTexts, over_texts};
 pub use pools::{LEAST_BITS, MOST_BITS, pool_bits, pool_full};
-pub use texts::{Both, Read, Texts, flags_of, read_for};
+pub use texts::{Both, Read, Texts, flags_of, read_for, read_texts_stay};

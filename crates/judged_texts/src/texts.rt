@@ -1,11 +1,14 @@
 //! The two texts, as they are read into one table of symbols and one pool.
-ghost use Rattle.std.specs.Prelude.{◌≡◌, ◌<◌, ◌≤◌, ◌+◌, ◌^◌, [], length, IfOk, OnOk};
+ghost use Rattle.std.specs.Prelude.{◌≡◌, ◌<◌, ◌≤◌, ◌+◌, ◌^◌, ℕ, List, [], length, IfOk, OnOk};
 ghost use Rattle.pair_pool.specs.Views.{IsForMany, IsPassOf};
-ghost use Rattle.term_pool.specs.Views.{KeepsTerms};
+ghost use Rattle.sym_table.specs.Table.{Table};
+ghost use Rattle.term_pool.specs.Views.{KeepsTerms, TermsView};
 ghost use Rattle.term_reader.specs.ProblemViews.{IsNewTable};
 ghost use Rattle.judged_texts.specs.Reading.{IsReadOf};
 ghost use Rattle.judged_texts.specs.Pools.{HoldsOnly, IsReadProblem};
-ghost use Rattle.judged_texts.specs.Texts.{flags_of, IsRead};
+ghost use Rattle.judged_texts.specs.Texts.{flags_of, AreReadBoth, IsRead};
+ghost use Rattle.judged_texts.specs.declared.texts.Both.{Both as BothRead};
+ghost use Rattle.command_words.specs.declared.request.Options.{Options as Chosen};
 ghost use Rattle.judged_texts.specs.Reading.{most_bytes};
 
 use crate::judgement::Judgement;
@@ -13,7 +16,7 @@ use crate::pools::{pool_full, share_among};
 use alethe_reader::read_proof;
 use command_words::Options;
 use pair_pool::{Memory, Pass, Pool};
-use proof_store::Proof;
+use proof_store::{Proof, proofs_stay};
 use smtlib_reader::{Flags, Problem, ReadFault, read_problem};
 use std::alloc::Global;
 use sym_table::Symbols;
@@ -51,6 +54,15 @@ pub fn flags_of(options: Options) -> Flags
         strict: options.is_strict,
         ignore_unknown: options.ignores_unknown_rules,
     }
+}
+
+/// A law: texts that were read stay so as the pool grows. The call does nothing.
+pub fn read_texts_stay()
+    ensures { (problem : List ℕ) (options : Chosen) (text : List ℕ) (s : Table) (v w : TermsView) (both : BothRead) → KeepsTerms v w →
+        AreReadBoth problem options text s v both → AreReadBoth problem options text s w both }
+{
+    proofs_stay();
+    problems_stay();
 }
 
 /// The proof's text as it is read behind a problem that was read.

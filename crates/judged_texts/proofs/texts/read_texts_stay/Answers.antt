@@ -1,7 +1,7 @@
 use Rattle.sym_table.proofs.Tables.{keeps_table}
 use Rattle.term_reader.specs.ProblemViews.{IsProblemOf}
 use Rattle.term_reader.proofs.Staying.{adds_none}
-use Rattle.elaborated_texts.proofs.elaborating.read_texts_stay.Goals as goal
+use Rattle.judged_texts.proofs.texts.read_texts_stay.Goals as goal
 
 pub returns : goal.returns
 returns c = λ problem options text s v w both keeps h.
