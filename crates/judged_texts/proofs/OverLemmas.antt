@@ -1,5 +1,6 @@
 -- What comes of two texts, by what was read of them.
-use Rattle.std.proofs.Common.{◌≡◌, ℕ, List, inl, true, false, true≢false, sym}
+use Rattle.std.proofs.Common.{◌≡◌, ◌^◌, ℕ, List, inl, true, false, true≢false, sym}
+use Rattle.pair_pool.specs.Views.{Holding, IsPassOf, PoolView}
 use Rattle.term_model.specs.Terms.{Term}
 use Rattle.command_words.specs.declared.request.Options.{Options}
 use Rattle.judged_texts.specs.declared.judgement.Judgement.{Judgement}
@@ -10,6 +11,11 @@ use Rattle.judged_texts.specs.Over.{is_pool_full, EndsOver, IsFullFor, IsSaidOfT
 use Rattle.judged_texts.specs.Reading.{NeedsRoom}
 use Rattle.judged_texts.specs.Texts.{IsNotRead}
 use Rattle.judged_texts.proofs.CellLemmas.{more_cells_of}
+
+-- a pass has as many places as its pool
+pub places_of : (pool : PoolView) (pass : Holding) → IsPassOf pool pass → pass.view.places ≡ 2 ^ pool.bits
+unfolding IsPassOf
+places_of pool pass h = h.1
 
 module _ (problem : List ℕ) (options : Options) (proof : List ℕ) where
   -- a text that is refused

@@ -16,6 +16,11 @@ pub record IsPoolSize (bytes most bits : ℕ) : Type 0 where
   pub enough : (bytes ≤ 4 * 2 ^ bits) ⊎ (bits ≡ most)
   pub smallest : (fewer : ℕ) → 12 ≤ fewer → fewer < bits → 4 * 2 ^ fewer < bytes
 
+-- the pool has 2^bits places
+pub record HasBits (pass : PassView) : Type 0 where
+  pub bits : ℕ
+  pub are : pass.places ≡ 2 ^ bits
+
 -- what stands in the pass are cells of terms that are wanted
 abbrev pub HoldsOnly : Table → PassView → (Term → Type 0) → Type 0
 HoldsOnly s pass IsWanted = (r a b : ℕ) → IsPlaced pass r a b → IsWantedCell s pass IsWanted a b

@@ -6,7 +6,7 @@ ghost use Rattle.term_parts.specs.declared.answers.RuleStop.TheVariants as RuleS
 ghost use Rattle.term_reader.specs.ProblemViews.{IsNewTable};
 ghost use Rattle.command_words.specs.declared.request.Options.{Options as Chosen};
 ghost use Rattle.judged_texts.specs.Over.{is_pool_full, EndsOver, IsFullFor, IsSaidOfTexts};
-ghost use Rattle.judged_texts.specs.Pools.{HoldsOnly};
+ghost use Rattle.judged_texts.specs.Pools.{HasBits, HoldsOnly};
 ghost use Rattle.judged_texts.specs.Reading.{most_bytes, IsReadOf, NeedsRoom};
 ghost use Rattle.judged_texts.specs.Texts.{AreReadBoth};
 
@@ -60,6 +60,7 @@ pub trait OverTexts<S> {
         requires proof { length texts.now.proof.now ≤ most_bytes }
         requires read { AreReadBoth texts.now.problem.now texts.now.options texts.now.proof.now symbols.now terms both.now }
         requires shares { terms.pass.shares ≡ 65 }
+        requires bits { HasBits terms.pass }
         requires holds { HoldsOnly symbols.now terms.pass (IsReadOf texts.now.problem.now texts.now.options texts.now.proof.now) }
         ensures ends { IfOk result (ends self.now texts.now.problem.now texts.now.options texts.now.proof.now state.old state.new) }
         ensures full { (bits : ℕ) → terms.entry.pass.places ≡ 2 ^ bits → IfErr result (λ stop. stop ≡ RuleStop.PoolFull →
