@@ -1,27 +1,34 @@
 -- Public. The answer that the words and the bytes of the two files define, and that a call gives this answer.
-use Rattle.std.specs.Prelude.{◌≡◌, ◌≢◌, ◌⊎◌, ℕ, List, Option, None, Some, ⊤}
+use Rattle.std.specs.Prelude.{◌≡◌, ◌≢◌, ◌⊎◌, ◌^◌, ℕ, List, Option, None, Some, ⊤}
 use Rattle.std.specs.Io.KnownBytes.{Appends}
-use Rattle.command_words.specs.CommandLine.{Asked}
+use Rattle.file_ports.specs.Faults.{HasRisen}
+use Rattle.file_ports.specs.Texts.{AreTold}
+use Rattle.proof_gen.specs.Texts.{problem_text, proof_text}
+use Rattle.command_words.specs.CommandLine.{Asked, Task, over, generate}
+use Rattle.command_words.specs.declared.request.Options.{Options}
 use Rattle.command_words.specs.declared.request.Command.{Command}
-use Rattle.command_words.specs.declared.request.Command.TheVariants.{Check, Elaborate}
-use Rattle.carcara_cli.specs.declared.answer.Answer.{Answer}
-use Rattle.carcara_cli.specs.declared.answer.Answer.TheVariants.{Judged}
+use Rattle.command_words.specs.declared.request.Command.TheVariants.{Check, Elaborate, Core, Prune}
 use Rattle.judged_texts.specs.declared.judgement.Judgement.TheVariants.{Valid, Holey, PoolFull}
+use Rattle.judged_texts.specs.Cells.{HasMoreCells}
+use Rattle.judged_texts.specs.Printed.{status_of_judgement}
+use Rattle.judged_texts.specs.Reading.{NeedsRoom}
+use Rattle.elaborated_texts.specs.Elaborated.{HasManyCommands, NeedsRoomToElaborate}
+use Rattle.generated_texts.specs.declared.summarizing.Summary.{Summary}
+use Rattle.generated_texts.specs.Summaries.{no_options, IsSummaryOfLinks, text_of_summary}
+use Rattle.carcara_cli.specs.declared.answer.Answer.{Answer}
+use Rattle.carcara_cli.specs.declared.answer.Answer.TheVariants.{Usage, Judged}
 use Rattle.carcara_cli.specs.Printed.{status_of, text_of}
-use Rattle.elaborated_texts.specs.Elaborated.{IsLeftOutText}
-use Rattle.carcara_cli.specs.Outcomes.{left_out_answer}
-use Rattle.carcara_cli.specs.TopCall.{IsAnswerTo, IsOfFiles}
+use Rattle.carcara_cli.specs.TopCall.{IsAnswerTo}
 
 -- the folder tells the bytes of both files that are asked for
-abbrev pub TellsBoth : (List ℕ → Option (List ℕ)) → Option Asked → Type 0
-TellsBoth content None = ⊤
-TellsBoth content (Some p) = (content p.problem ≢ None) × (content p.proof ≢ None)
+abbrev pub TellsBoth : (List ℕ → Option (List ℕ)) → Asked → Type 0
+TellsBoth content p = (content p.problem ≢ None) × (content p.proof ≢ None)
 
--- The answer that the words and the files define: it is one where no call of the folder fails, and no full pool. Words that spell
--- no command define the usage line. Where a proof is to be elaborated, it is what a check says.
-pub record IsDefinedAnswer (bits : ℕ) (content : List ℕ → Option (List ℕ)) (asked : Option Asked) (a : Answer) : Type 0 where
-  pub told : TellsBoth content asked
-  pub answers : IsAnswerTo bits content 0 0 asked a
+-- The answer that is defined where a proof and a problem are asked for: what a check says where no call of the folder fails, and no full
+-- pool.
+pub record IsDefinedAnswer (bits : ℕ) (content : List ℕ → Option (List ℕ)) (p : Asked) (a : Answer) : Type 0 where
+  pub told : TellsBoth content p
+  pub answers : IsAnswerTo bits content 0 0 (Some p) a
   pub has_room : a ≢ Judged PoolFull
 
 -- two answers that are printed alike and end with one status
@@ -33,29 +40,63 @@ pub record SaySame (a b : Answer) : Type 0 where
 abbrev pub IsSaid : Answer → Option (List ℕ) → Option (List ℕ) → ℕ → Type 0
 IsSaid a old new status = (status ≡ status_of a) × Appends old new (text_of a)
 
--- The status is that of a proof that was elaborated; or the proof is left out, which was printed.
-abbrev pub IsElaboratedAs : ℕ → (List ℕ → Option (List ℕ)) → Asked → Option (List ℕ) → Option (List ℕ) → ℕ → Type 0
-IsElaboratedAs expected content p old new status =
-    (status ≡ expected)
-    ⊎ (IsOfFiles (content p.problem) (content p.proof) (λ problem proof. IsLeftOutText problem p.options proof) × IsSaid left_out_answer old new status)
+-- Where a proof is to be elaborated, the status is that of the answer, and its whole text was printed where that is neither `valid` nor
+-- `holey`.
+abbrev pub IsSaidOfElaborated : Answer → Option (List ℕ) → Option (List ℕ) → ℕ → Type 0
+IsSaidOfElaborated (Judged Valid) old new status = status ≡ 0
+IsSaidOfElaborated (Judged (Holey holes)) old new status = status ≡ 2
+IsSaidOfElaborated a old new status = IsSaid a old new status
 
--- Where a proof is to be elaborated, the text of no other answer is printed in place of this one.
-abbrev pub IsSaidInstead : (List ℕ → Option (List ℕ)) → Asked → Answer → Option (List ℕ) → Option (List ℕ) → ℕ → Type 0
-IsSaidInstead content p (Judged Valid) old new status = IsElaboratedAs 0 content p old new status
-IsSaidInstead content p (Judged (Holey holes)) old new status = IsElaboratedAs 2 content p old new status
-IsSaidInstead content p a old new status = IsSaid a old new status
+-- The same where what a valid proof needs is to be printed, and the answer is not `valid`.
+abbrev pub IsSaidOfNeeded : Answer → Option (List ℕ) → Option (List ℕ) → ℕ → Type 0
+IsSaidOfNeeded (Judged Valid) old new status = status ≡ 0
+IsSaidOfNeeded a old new status = IsSaid a old new status
 
-abbrev pub IsSaidBy : (List ℕ → Option (List ℕ)) → Command → Asked → Answer → Option (List ℕ) → Option (List ℕ) → ℕ → Type 0
-IsSaidBy content Check p = IsSaid
-IsSaidBy content Elaborate p = IsSaidInstead content p
+abbrev pub IsSaidBy : Command → Answer → Option (List ℕ) → Option (List ℕ) → ℕ → Type 0
+IsSaidBy Check = IsSaid
+IsSaidBy Elaborate = IsSaidOfElaborated
+IsSaidBy Core = IsSaidOfNeeded
+IsSaidBy Prune = IsSaidOfNeeded
 
-abbrev pub IsSaidTo : (List ℕ → Option (List ℕ)) → Option Asked → Answer → Option (List ℕ) → Option (List ℕ) → ℕ → Type 0
-IsSaidTo content None = IsSaid
-IsSaidTo content (Some p) = IsSaidBy content p.command p
+-- the status is that of the summary, and its whole text was printed
+abbrev pub IsSummed : Summary → Option (List ℕ) → Option (List ℕ) → ℕ → Type 0
+IsSummed summary old new status = (status ≡ status_of_judgement summary.judgement) × Appends old new (text_of_summary summary)
 
--- Unless a file was not read (5), the output not written (6), memory ran out (7) or the pool was full (8), the status is that of
--- the answer that is defined, and its whole text was printed. Where a proof is to be elaborated, this is so of each answer but `valid`
--- and `holey`: there the status is that one, with the text of an elaboration, or the proof is left out.
-abbrev pub IsExact : ℕ → (List ℕ → Option (List ℕ)) → Option Asked → Option (List ℕ) → Option (List ℕ) → ℕ → Type 0
-IsExact bits content asked old new status =
-    (a : Answer) → IsDefinedAnswer bits content asked a → status ≢ 5 → status ≢ 6 → status ≢ 7 → status ≢ 8 → IsSaidTo content asked a old new status
+-- The status and the text are those that the words and the files define: the usage line where the words spell no command, the one answer
+-- of a proof and a problem, as its command says it, and the one summary of the generator's texts.
+abbrev pub IsSaidTo : ℕ → (List ℕ → Option (List ℕ)) → Option Task → Option (List ℕ) → Option (List ℕ) → ℕ → Type 0
+IsSaidTo bits content None old new status = IsSaid Usage old new status
+IsSaidTo bits content (Some (over p)) old new status = (a : Answer) → IsDefinedAnswer bits content p a → IsSaidBy p.command a old new status
+IsSaidTo bits content (Some (generate n workers)) old new status = (summary : Summary) → IsSummaryOfLinks n summary → IsSummed summary old new status
+
+-- This is so unless a file was not read (5), the output not written (6), memory ran out (7) or the pool was full (8).
+abbrev pub IsExact : ℕ → (List ℕ → Option (List ℕ)) → Option Task → Option (List ℕ) → Option (List ℕ) → ℕ → Type 0
+IsExact bits content task old new status = status ≢ 5 → status ≢ 6 → status ≢ 7 → status ≢ 8 → IsSaidTo bits content task old new status
+
+-- more cells need room than 2^bits, for what a command does with two texts; or an elaboration may have too many commands
+abbrev pub IsTooMuch : Command → ℕ → List ℕ → Options → List ℕ → Type 0
+IsTooMuch Check bits problem options proof = HasMoreCells (NeedsRoom problem options proof) (2 ^ bits)
+IsTooMuch Elaborate bits problem options proof =
+    HasMoreCells (NeedsRoomToElaborate problem options proof) (2 ^ bits) ⊎ HasManyCommands problem options proof
+IsTooMuch Core bits problem options proof = HasMoreCells (NeedsRoom problem options proof) (2 ^ bits)
+IsTooMuch Prune bits problem options proof = HasMoreCells (NeedsRoom problem options proof) (2 ^ bits)
+
+-- the largest pool has room for what is asked for, whatever a file has that is not told
+abbrev pub HasRoom : ℕ → (List ℕ → Option (List ℕ)) → Option Task → Type 0
+HasRoom bits content None = ⊤
+HasRoom bits content (Some (over p)) =
+    (problem proof : List ℕ) → AreTold (content p.problem) problem → AreTold (content p.proof) proof → ¬ IsTooMuch p.command bits problem p.options proof
+HasRoom bits content (Some (generate n workers)) = ¬ HasMoreCells (NeedsRoom (problem_text n) no_options (proof_text n)) (2 ^ bits)
+
+-- What the outside does while a call lasts: the counts of faults of the folder and of the sink, before and after.
+pub record Faults : Type 0 where
+  pub read_before : ℕ
+  pub read_after : ℕ
+  pub write_before : ℕ
+  pub write_after : ℕ
+
+-- Where no count of faults rose and the pool has room, what is defined was said, or memory ran out.
+abbrev pub IsComplete : ℕ → (List ℕ → Option (List ℕ)) → Faults → Option Task → Option (List ℕ) → Option (List ℕ) → ℕ → Type 0
+IsComplete bits content faults task old new status =
+    ¬ HasRisen faults.read_before faults.read_after → ¬ HasRisen faults.write_before faults.write_after → HasRoom bits content task →
+    (status ≡ 7) ⊎ IsSaidTo bits content task old new status

@@ -1,32 +1,43 @@
 -- Public. What the top call returns, over what a folder tells of its files and what the command line asks for, and what
 -- it prints.
-use Rattle.std.specs.Prelude.{◌≡◌, ◌≢◌, ◌⊎◌, ℕ, ◌≤◌, List, length, Option, None, Some, ⊤}
+use Rattle.std.specs.Prelude.{◌≡◌, ◌≢◌, ◌⊎◌, ℕ, ◌≤◌, false, List, length, Option, None, Some, ⊤}
 use Rattle.std.specs.Io.KnownBytes.{Appends}
 use Rattle.term_model.specs.Unsatisfiable.{Unsatisfiable}
 use Rattle.problem_text.specs.Problems.{StandsForProblem}
 use Rattle.problem_text.specs.Scripts.{Script}
 use Rattle.file_ports.specs.Faults.{HasRisen}
 use Rattle.file_ports.specs.Texts.{AreTold, IsLongerThan, AppendsPrefix}
+use Rattle.proof_gen.specs.Texts.{problem_text}
+use Rattle.command_words.specs.declared.request.Options.{Options}
+use Rattle.command_words.specs.CommandLine.{Asked, Task, over, generate}
+use Rattle.command_words.specs.declared.request.Command.{Command}
+use Rattle.command_words.specs.declared.request.Command.TheVariants.{Check, Elaborate, Core, Prune}
 use Rattle.judged_texts.specs.declared.judgement.Judgement.{Judgement}
+use Rattle.judged_texts.specs.Judgement.{IsJudgement}
+use Rattle.judged_texts.specs.Printed.{status_of_judgement}
+use Rattle.judged_texts.specs.Reading.{most_bytes}
+use Rattle.elaborated_texts.specs.Elaborated.{IsElaboratedText}
+use Rattle.elaborated_texts.specs.Elaborated as Elaborated
+use Rattle.pruned_texts.specs.declared.needing.Part.{Part}
+use Rattle.pruned_texts.specs.Needed.{IsNeededText}
+use Rattle.pruned_texts.specs.Needed as Needed
+use Rattle.generated_texts.specs.declared.generating.Generated.TheVariants as Generated
+use Rattle.generated_texts.specs.declared.summarizing.Summary.{Summary}
+use Rattle.generated_texts.specs.Generating.{ComesOfLinks}
+use Rattle.generated_texts.specs.Summaries.{IsSummaryOfLinks, text_of_summary}
 use Rattle.carcara_cli.specs.declared.answer.Answer.{Answer}
 use Rattle.carcara_cli.specs.declared.answer.Answer.TheVariants.{Usage, ReadFault, TooLong, Judged}
-use Rattle.command_words.specs.declared.request.Options.{Options}
-use Rattle.command_words.specs.CommandLine.{Asked}
-use Rattle.command_words.specs.declared.request.Command.{Command}
-use Rattle.command_words.specs.declared.request.Command.TheVariants.{Check, Elaborate}
-use Rattle.judged_texts.specs.Judgement.{IsJudgement}
-use Rattle.judged_texts.specs.Reading.{most_bytes}
-use Rattle.elaborated_texts.specs.Elaborated.{IsElaboratedText, IsJudgementInstead, IsLeftOutText}
-use Rattle.carcara_cli.specs.Outcomes.{Outcome, answered, left_out, elaborated, status_of_outcome, text_of_outcome}
+use Rattle.carcara_cli.specs.Outcomes.{Outcome, answered, printed, status_of_outcome, text_of_outcome}
 
 -- the largest pool has 2^26 places
 abbrev pub most_bits : ℕ
 most_bits = 26
 
--- each of the two paths may be asked for
-abbrev pub MayAskBoth : (List ℕ → Type 0) → Option Asked → Type 0
+-- each of the two paths may be asked for, where there are two
+abbrev pub MayAskBoth : (List ℕ → Type 0) → Option Task → Type 0
 MayAskBoth may_ask None = ⊤
-MayAskBoth may_ask (Some p) = may_ask p.problem × may_ask p.proof
+MayAskBoth may_ask (Some (over p)) = may_ask p.problem × may_ask p.proof
+MayAskBoth may_ask (Some (generate n workers)) = ⊤
 
 -- the file has no more bytes than it may, where it is told
 abbrev pub IsWithinLimit : Option (List ℕ) → Type 0
@@ -67,34 +78,57 @@ pub record IsOfFiles (problem proof : Option (List ℕ)) (Is : List ℕ → List
   pub proof_within : length proof_text ≤ most_bytes
   pub is : Is problem_text proof_text
 
--- An answer where a proof is to be elaborated: as to a check, but it is not that the proof is valid or has holes.
-abbrev pub IsAnswerInstead : ℕ → (List ℕ → Option (List ℕ)) → ℕ → ℕ → Asked → Answer → Type 0
-IsAnswerInstead bits content before after p (Judged j) =
-    IsOfFiles (content p.problem) (content p.proof) (λ problem proof. IsJudgementInstead problem p.options proof bits j)
-IsAnswerInstead bits content before after p a = IsAnswerTo bits content before after (Some p) a
-
--- What an elaboration comes to: such an answer, a proof that is left out, or the text of an elaboration.
-abbrev pub ElaboratesTo : ℕ → (List ℕ → Option (List ℕ)) → ℕ → ℕ → Asked → Outcome → Type 0
-ElaboratesTo bits content before after p (answered a) = IsAnswerInstead bits content before after p a
-ElaboratesTo bits content before after p left_out =
-    IsOfFiles (content p.problem) (content p.proof) (λ problem proof. IsLeftOutText problem p.options proof)
-ElaboratesTo bits content before after p (elaborated status text) =
-    IsOfFiles (content p.problem) (content p.proof) (λ problem proof. IsElaboratedText problem p.options proof status text)
+-- An answer where a text of its own is printed of some proofs: as to a check, but what is said of the two texts is this.
+abbrev pub IsAnswerInstead : (List ℕ → Options → List ℕ → ℕ → Judgement → Type 0) → ℕ → (List ℕ → Option (List ℕ)) → ℕ → ℕ → Asked → Answer → Type 0
+IsAnswerInstead IsSaidOf bits content before after p (Judged j) =
+    IsOfFiles (content p.problem) (content p.proof) (λ problem proof. IsSaidOf problem p.options proof bits j)
+IsAnswerInstead IsSaidOf bits content before after p a = IsAnswerTo bits content before after (Some p) a
 
 -- what a check comes to: an answer
 abbrev pub ChecksTo : ℕ → (List ℕ → Option (List ℕ)) → ℕ → ℕ → Asked → Outcome → Type 0
 ChecksTo bits content before after p (answered a) = IsAnswerTo bits content before after (Some p) a
-ChecksTo bits content before after p left_out = ⊥
-ChecksTo bits content before after p (elaborated status text) = ⊥
+ChecksTo bits content before after p (printed status text) = ⊥
+
+-- What an elaboration comes to: the text of an elaboration, or an answer that is neither `valid` nor `holey`.
+abbrev pub ElaboratesTo : ℕ → (List ℕ → Option (List ℕ)) → ℕ → ℕ → Asked → Outcome → Type 0
+ElaboratesTo bits content before after p (answered a) = IsAnswerInstead Elaborated.IsJudgementInstead bits content before after p a
+ElaboratesTo bits content before after p (printed status text) =
+    IsOfFiles (content p.problem) (content p.proof) (λ problem proof. IsElaboratedText problem p.options proof status text)
+
+-- What `core` and `prune` come to: the part of a valid proof that they print, with status 0, or an answer that is not `valid`.
+abbrev pub NeedsTo : Part → ℕ → (List ℕ → Option (List ℕ)) → ℕ → ℕ → Asked → Outcome → Type 0
+NeedsTo part bits content before after p (answered a) = IsAnswerInstead Needed.IsJudgementInstead bits content before after p a
+NeedsTo part bits content before after p (printed status text) =
+    (status ≡ 0) × IsOfFiles (content p.problem) (content p.proof) (λ problem proof. IsNeededText part problem p.options proof text)
 
 abbrev pub ComesTo : Command → ℕ → (List ℕ → Option (List ℕ)) → ℕ → ℕ → Asked → Outcome → Type 0
 ComesTo Check = ChecksTo
 ComesTo Elaborate = ElaboratesTo
+ComesTo Core = NeedsTo Part.Core
+ComesTo Prune = NeedsTo Part.Commands
+
+-- the text and the status are those of a summary of the texts of n links
+pub record IsSummaryText (n : ℕ) (status : ℕ) (text : List ℕ) : Type 0 where
+  pub summary : Summary
+  pub is : IsSummaryOfLinks n summary
+  pub is_status : status ≡ status_of_judgement summary.judgement
+  pub is_text : text ≡ text_of_summary summary
+
+-- What `generate` comes to, which asks for no file: a summary; or what is said of the two texts instead, which is that the largest pool is
+-- full. That these texts are never refused is not said here.
+abbrev pub GeneratesTo : ℕ → ℕ → Outcome → Type 0
+GeneratesTo bits n (answered (Judged j)) = ComesOfLinks n bits (Generated.Not j)
+GeneratesTo bits n (answered a) = ⊥
+GeneratesTo bits n (printed status text) = IsSummaryText n status text
+
+abbrev pub DoesTo : ℕ → (List ℕ → Option (List ℕ)) → ℕ → ℕ → Task → Outcome → Type 0
+DoesTo bits content before after (over p) o = ComesTo p.command bits content before after p o
+DoesTo bits content before after (generate n workers) o = GeneratesTo bits n o
 
 -- What the words come to: the usage line where they spell no command, and else what their command comes to.
-abbrev pub IsOutcomeTo : ℕ → (List ℕ → Option (List ℕ)) → ℕ → ℕ → Option Asked → Outcome → Type 0
+abbrev pub IsOutcomeTo : ℕ → (List ℕ → Option (List ℕ)) → ℕ → ℕ → Option Task → Outcome → Type 0
 IsOutcomeTo bits content before after None o = o ≡ answered Usage
-IsOutcomeTo bits content before after (Some p) o = ComesTo p.command bits content before after p o
+IsOutcomeTo bits content before after (Some task) o = DoesTo bits content before after task o
 
 -- the whole text of an outcome was printed, and the status is the outcome's
 pub record PrintsWhole (MayComeTo : Outcome → Type 0) (old new : Option (List ℕ)) (status : ℕ) : Type 0 where
@@ -127,6 +161,13 @@ pub record IsShownUnsatisfiable (options : Options) (problem proof : Option (Lis
   pub stands : StandsForProblem problem_text options.replaces_lets script
   pub unsatisfiable : Unsatisfiable script.assertions
 
-abbrev pub ShowsUnsatisfiable : (List ℕ → Option (List ℕ)) → Option Asked → Type 0
+-- no interpretation makes every assertion of the generator's problem true
+pub record IsUnsatisfiableOfLinks (n : ℕ) : Type 0 where
+  pub script : Script
+  pub stands : StandsForProblem (problem_text n) false script
+  pub unsatisfiable : Unsatisfiable script.assertions
+
+abbrev pub ShowsUnsatisfiable : (List ℕ → Option (List ℕ)) → Option Task → Type 0
 ShowsUnsatisfiable content None = ⊥
-ShowsUnsatisfiable content (Some p) = IsShownUnsatisfiable p.options (content p.problem) (content p.proof)
+ShowsUnsatisfiable content (Some (over p)) = IsShownUnsatisfiable p.options (content p.problem) (content p.proof)
+ShowsUnsatisfiable content (Some (generate n workers)) = IsUnsatisfiableOfLinks n
