@@ -14,6 +14,6 @@ mod numbers;
 mod tests;
 mod texts;
 
-pub use laws::proofs_have_27_commands_a_link;
+pub use laws::{proofs_have_27_commands_a_link, texts_are_short};
 pub use memory::Memory;
 pub use texts::make;

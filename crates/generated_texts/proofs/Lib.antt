@@ -1,0 +1,2 @@
+pub mod LikeTrees
+pub mod CellLemmas
