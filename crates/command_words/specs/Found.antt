@@ -3,7 +3,7 @@ use Rattle.std.specs.Prelude.{◌≡◌, List, Bool, true, false, ℕ, Option, N
 use Rattle.clap.specs.Walk.{Row, Text, first_of, one_of}
 use Rattle.command_words.specs.CommandLine.{Wanted, workers_in}
 use Rattle.command_words.specs.declared.request.Command.{Command}
-use Rattle.command_words.specs.declared.request.Command.TheVariants.{Check, Elaborate}
+use Rattle.command_words.specs.declared.request.Command.TheVariants.{Check, Elaborate, Core, Prune}
 use Rattle.command_words.specs.declared.request.Options.{Options}
 
 -- what the words behind a command give, the number of workers as it is spelled
@@ -28,6 +28,8 @@ wanted_from g = option_map (wanted_as g) (workers_of g.number)
 abbrev pub name_of : Command → Text
 name_of Check = codes "check"
 name_of Elaborate = codes "elaborate"
+name_of Core = codes "core"
+name_of Prune = codes "prune"
 
 abbrev pub flag_text : Bool → Text
 flag_text true = codes "true"

@@ -50,29 +50,34 @@ fn command<'a>(alloc: Global, name: &'a str) -> Result<Command<'a>, AllocError>
         .arg(valued(alloc, "workers", "num-threads"))
 }
 
-/// The command line: two subcommands, and no help. Both take `--strict` here, and `elaborate` is refused with it afterwards.
+/// The command line: four subcommands, and no help. All take `--strict` here, and all but `check` are refused with it afterwards.
 fn command_line<'a>(alloc: Global) -> Result<Command<'a>, AllocError>
     ensures { IfOk result (λ c. app_of c ≡ made) }
 {
     let check = command(alloc, "check")?;
     let elaborate = command(alloc, "elaborate")?;
+    let core = command(alloc, "core")?;
+    let prune = command(alloc, "prune")?;
     Command::new(alloc, "carcara")
         .no_binary_name(true)
         .disable_help_flag(true)
         .disable_help_subcommand(true)
         .subcommand_required(true)
         .subcommand(check)?
-        .subcommand(elaborate)
+        .subcommand(elaborate)?
+        .subcommand(core)?
+        .subcommand(prune)
 }
 
 /// The command of a name that is one of a command.
 fn command_named(name: &str) -> request::Command
     ensures { (c : Asked) → name.now ≡ name_of c → result ≡ c }
 {
-    if name == "elaborate" {
-        request::Command::Elaborate
-    } else {
-        request::Command::Check
+    match name {
+        "elaborate" => request::Command::Elaborate,
+        "core" => request::Command::Core,
+        "prune" => request::Command::Prune,
+        _ => request::Command::Check,
     }
 }
 
@@ -82,7 +87,9 @@ fn has_options(command: request::Command, options: Options) -> bool
 {
     match command {
         request::Command::Check => true,
-        request::Command::Elaborate => !options.is_strict,
+        request::Command::Elaborate | request::Command::Core | request::Command::Prune => {
+            !options.is_strict
+        }
     }
 }
 
@@ -159,8 +166,8 @@ fn refused<'a>(kind: ErrorKind) -> Result<Option<Request<'a>>, AllocError>
 }
 
 /// What the words of a command line ask for, where they spell a command (POSIX.1-2017, Base
-/// Definitions, "Utility Syntax Guidelines"): `check PROOF PROBLEM` or `elaborate PROOF PROBLEM`, and in any place behind the first word
-/// the options `--expand-let-bindings`, `--ignore-unknown-rules`, `--strict` (of `check` alone) and `--num-threads N`, each once at
+/// Definitions, "Utility Syntax Guidelines"): `check`, `elaborate`, `core` or `prune` with PROOF PROBLEM, and in any place
+/// behind the first word the options `--expand-let-bindings`, `--ignore-unknown-rules`, `--strict` (of `check` alone) and `--num-threads N`, each once at
 /// most. A `--` ends the options.
 /// N, 1 to 64, is the next word, or stands behind `=` in the same one: decimal digits without sign or leading zero. Where it is not
 /// said, one worker is asked for.

@@ -7,6 +7,10 @@ pub enum Command {
     Check,
     /// It is checked, and printed in a form in which each step is strict.
     Elaborate,
+    /// It is checked, and the numbers of the assertions are printed that it uses.
+    Core,
+    /// It is checked, and printed without the commands that it does not need.
+    Prune,
 }
 
 /// How a check is done.
