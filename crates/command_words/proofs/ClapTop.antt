@@ -15,7 +15,7 @@ use Rattle.command_words.specs.declared.request.Command.{Command}
 use Rattle.command_words.specs.declared.request.Command.TheVariants.{Check, Elaborate, Core, Prune}
 use Rattle.command_words.specs.CommandLine.{Asked, Wanted, asked_as, asked_for, asked_of, has_options, wanted_by, gives_number, is_flag, options_of, with_values}
 use Rattle.command_words.specs.Made.{made}
-use Rattle.command_words.specs.Found.{Given, IsReadFrom, name_of, wanted_from, flag_text}
+use Rattle.command_words.specs.Found.{Given, IsGivenBy, IsReadFrom, name_of, wanted_from, flag_text}
 use Rattle.command_words.proofs.ClapApp.{check_shape, rules, shape_named, top_shape}
 use Rattle.command_words.proofs.ClapRows.{nothing, at_id, no_rows, row_for}
 use Rattle.command_words.proofs.ClapWords.{IsFlag, IsPlain, Word, ends, expands, first_faults, ignores, is_strict, no_cons, numbers, plain, same_bytes, strange, waits}
@@ -24,7 +24,7 @@ use Rattle.command_words.proofs.ClapWalk.{or_first}
 use Rattle.command_words.proofs.ClapEnd.{flag_at_end}
 use Rattle.command_words.proofs.ClapGrammar.{options_are_told, workers_are_told}
 use Rattle.command_words.proofs.ClapLost.{AllUtf8}
-use Rattle.command_words.proofs.ClapReach.{Answers, IsAskedBy, reaches}
+use Rattle.command_words.proofs.ClapReach.{Answers, IsAskedBy, ReadsAs, reaches}
 
 abbrev names : Names
 names = (codes "check", []) ∷ (codes "elaborate", []) ∷ (codes "core", []) ∷ (codes "prune", []) ∷ []
@@ -165,10 +165,14 @@ module _ (c : Command) (words : List Text) where
           let s : IsRead None (name_of c ∷ words) = rw is at r in
           rw is (λ bad. s)
 
+-- what the words behind a command are taken for
+pub answers : (words : List Text) → AllUtf8 words → Answers (wanted_by (with_values words)) (walk_from nothing_held) words
+answers words u =
+    rw (options_are_told (filter is_flag (options_of (with_values words))), workers_are_told (filter gives_number (options_of (with_values words)))) at
+    (reaches words u nothing false false false false None [] None (record { settles = refl; are = no_rows }))
+
 named : (c : Command) (words : List Text) → AllUtf8 words → Outcome (asked_for c (wanted_by (with_values words))) (name_of c ∷ words)
-named c words u =
-    behind c words _ (rw (options_are_told (filter is_flag (options_of (with_values words))), workers_are_told (filter gives_number (options_of (with_values words)))) at
-    (reaches words u nothing false false false false None [] None (record { settles = refl; are = no_rows })))
+named c words u = behind c words _ (answers words u)
 
 pub outcome : (words : List Text) → AllUtf8 words → Outcome (asked_of words) words
 outcome [] u = λ bad. absurd (no_words bad)
@@ -216,16 +220,22 @@ number_read : (n : Option Text) (rows : List Row) → at_id (codes "workers") ro
 number_read None rows h = rw h refl
 number_read (Some v) rows h = rw h refl
 
+-- the rows say what is given
+pub given_by : (g : Given) (rows : List Row) → ReadsAs g rows → IsGivenBy g rows
+given_by g rows h = record {
+  proof = rw h.proof refl;
+  problem = rw h.problem refl;
+  expand = flag_read (codes "expand") g.options.replaces_lets rows h.expand;
+  ignore = flag_read (codes "ignore") g.options.ignores_unknown_rules rows h.ignore;
+  strict = flag_read (codes "strict") g.options.is_strict rows h.strict;
+  number = number_read g.number rows h.number;
+}
+
 read_from : (asked : Option Asked) (words : List Text) → (h : IsRead asked words) → IsReadFrom h.command h.reads.given (subcommand_of made words)
-read_from asked words h = let g = h.reads.given in record {
+read_from asked words h = record {
   rows = h.rows;
   met = h.subcommand;
-  proof = rw h.reads.reads.proof refl;
-  problem = rw h.reads.reads.problem refl;
-  expand = flag_read (codes "expand") g.options.replaces_lets h.rows h.reads.reads.expand;
-  ignore = flag_read (codes "ignore") g.options.ignores_unknown_rules h.rows h.reads.reads.ignore;
-  strict = flag_read (codes "strict") g.options.is_strict h.rows h.reads.reads.strict;
-  number = number_read g.number h.rows h.reads.reads.number;
+  given = given_by h.reads.given h.rows h.reads.reads;
 }
 
 is_read : (asked : Option Asked) (words : List Text) → Outcome asked words → fault_of made words ≡ [] → IsRead asked words

@@ -62,3 +62,13 @@ made_two = with_subcommand (with_subcommand made_top (made_command (codes "check
 
 abbrev pub made : App
 made = with_subcommand (with_subcommand made_two (made_command (codes "core")).top) (made_command (codes "prune")).top
+
+-- The command line of `generate`, which has no subcommand: its word is the first operand.
+abbrev pub made_alone : App
+made_alone = record (made_command (codes "generate")) {
+  top = record (made_command (codes "generate")).top {
+    no_binary_name = true;
+    disable_help_flag = true;
+    disable_help_subcommand = true;
+  };
+}
