@@ -1,9 +1,10 @@
 //! When the largest pool that may be made is full, and that a full pool is read again, through the library's call.
 ghost use Rattle.std.specs.Prelude.{◌≤◌};
 
-use carcara_cli::{Judgement, Workers, carcara_within, judge};
+use carcara_cli::carcara_within;
 use command_words::Options;
 use file_ports::{MemoryFolder, MemorySink, OpenGate};
+use judged_texts::{Judgement, Workers, judge};
 use std::alloc::{AllocError, Global};
 use std::test::Fail;
 use std::thread::Threads;

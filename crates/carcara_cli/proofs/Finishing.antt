@@ -1,14 +1,14 @@
 -- What was printed where an elaboration ended.
-use Rattle.std.proofs.Common.{◌≡◌, ◌≢◌, ◌⊎◌, inl, inr, ℕ, List, refl, sym, ◌∙◌, ap, subst, arith, true, false, true≢false}
+use Rattle.std.proofs.Common.{◌≡◌, ◌≢◌, ◌⊎◌, inl, inr, ℕ, List, refl, sym, ◌∙◌, ap, subst, arith}
 use Rattle.std.specs.Io.KnownBytes.{Appends}
 use Rattle.file_ports.specs.Faults.{HasRisen}
 use Rattle.file_ports.specs.Texts.{AppendsPrefix}
 use Rattle.command_words.specs.declared.request.Options.{Options}
 use Rattle.carcara_cli.specs.declared.answer.Answer.{Answer}
-use Rattle.carcara_cli.specs.declared.elaborating.End.{End}
-use Rattle.carcara_cli.specs.declared.elaborating.End.TheVariants as end
-use Rattle.carcara_cli.specs.declared.judgement.Judgement.TheVariants.{Valid, Holey, NoEmptyClause, Faulty, TooWide, RefusedProblem, RefusedProof, PoolFull}
-use Rattle.carcara_cli.specs.Making.{is_full, EndsSo, IsFinished, SinkView, TextsComeTo}
+use Rattle.elaborated_texts.specs.declared.elaborating.End.{End}
+use Rattle.elaborated_texts.specs.declared.elaborating.End.TheVariants as end
+use Rattle.elaborated_texts.specs.Ending.{EndsSo, SinkView}
+use Rattle.carcara_cli.specs.Finishing.{IsFinished, TextsComeTo}
 use Rattle.carcara_cli.specs.Outcomes.{Outcome, elaborated, status_of_outcome, text_of_outcome}
 use Rattle.carcara_cli.specs.Printed.{status_of, text_of}
 use Rattle.carcara_cli.proofs.OneAnswer.{printed_or}
@@ -93,27 +93,3 @@ module _ (problem : List ℕ) (options : Options) (proof : List ℕ) (bits : ℕ
         };
         failed = λ six. absurd (omega (arith, is.1, six));
       }
-
--- An end for which no larger pool is to be tried does not depend on the pool.
-module _ (problem : List ℕ) (options : Options) (proof : List ℕ) (bits most : ℕ) (first last : SinkView) where
-  pub any_pool : (e : End) → is_full e ≡ false → EndsSo problem options proof bits first last e → EndsSo problem options proof most first last e
-  any_pool (end.Instead Valid) e h = h
-  any_pool (end.Instead (Holey holes)) e h = h
-  any_pool (end.Instead NoEmptyClause) e h = h
-  any_pool (end.Instead (Faulty id cause)) e h = h
-  any_pool (end.Instead (TooWide id)) e h = h
-  any_pool (end.Instead (RefusedProblem r)) e h = h
-  any_pool (end.Instead (RefusedProof r)) e h = h
-  any_pool (end.Instead PoolFull) e h = absurd (true≢false e)
-  any_pool end.LeftOut e h = h
-  any_pool (end.Written status) e h = h
-  any_pool end.Failed e h = h
-  any_pool end.Memory e h = h
-
-  -- and else nothing was written
-  pub nothing_written : (e : End) → is_full e ≡ true → EndsSo problem options proof bits first last e → last ≡ first
-  nothing_written (end.Instead j) e h = h.0
-  nothing_written end.LeftOut e h = h.0
-  nothing_written (end.Written status) e h = absurd (true≢false (sym e))
-  nothing_written end.Failed e h = absurd (true≢false (sym e))
-  nothing_written end.Memory e h = absurd (true≢false (sym e))

@@ -1,19 +1,5 @@
-pub mod JudgementLemmas
-pub mod HoleLemmas
-pub mod VerdictLemmas
-pub mod CellLemmas
-pub mod PoolLemmas
-pub mod CellSums
-pub mod TermsOfTexts
-pub mod ScopedTerms
-pub mod ScopedProofs
-pub mod TruthClauses
+mod AnswerLemmas
 mod OneAnswer
 mod Outcomes
 mod Finishing
-mod TextsInstead
-mod MadeLemmas
-mod SomeJudgement
-mod Narrowed
-mod ElaboratedTexts
-mod WrittenElaborations
+mod FilesInstead

@@ -21,17 +21,19 @@ use Rattle.command_words.specs.declared.request.Command.{Command}
 use Rattle.command_words.specs.declared.request.Command.TheVariants.{Check, Elaborate}
 use Rattle.carcara_cli.specs.declared.answer.Answer.{Answer}
 use Rattle.carcara_cli.specs.declared.answer.Answer.TheVariants.{Usage, ReadFault, TooLong, Judged}
-use Rattle.carcara_cli.specs.declared.judgement.Hole as code
-use Rattle.carcara_cli.specs.declared.judgement.Judgement.{Judgement}
-use Rattle.carcara_cli.specs.declared.judgement.Judgement.TheVariants.{Valid, Holey, NoEmptyClause, Faulty, TooWide, RefusedProblem, RefusedProof, PoolFull}
-use Rattle.carcara_cli.specs.Elaborated.{IsElaboratedText, IsJudgementInstead, IsLeftOutText, IsStatusOfPrinted}
+use Rattle.judged_texts.specs.declared.judgement.Hole as code
+use Rattle.judged_texts.specs.declared.judgement.Judgement.{Judgement}
+use Rattle.judged_texts.specs.declared.judgement.Judgement.TheVariants.{Valid, Holey, NoEmptyClause, Faulty, TooWide, RefusedProblem, RefusedProof, PoolFull}
+use Rattle.elaborated_texts.specs.Elaborated.{IsElaboratedText, IsJudgementInstead, IsLeftOutText, IsStatusOfPrinted}
 use Rattle.carcara_cli.specs.Exactness.{IsDefinedAnswer, IsElaboratedAs, IsExact, IsSaidBy, IsSaidInstead, IsSaidTo, SaySame}
-use Rattle.carcara_cli.specs.Holes.{Hole, holes_from, told_hole}
-use Rattle.carcara_cli.specs.Judgement.{IsCheckedAs, IsJudgement}
-use Rattle.carcara_cli.specs.Printed.{line_end, text_of_step_cause, step_text, hole_line, refusal_text, text_of_judgement, status_of_judgement, status_of, text_of}
+use Rattle.judged_texts.specs.Holes.{Hole, holes_from, told_hole}
+use Rattle.judged_texts.specs.Judgement.{IsCheckedAs, IsJudgement}
+use Rattle.judged_texts.specs.Printed.{line_end, text_of_step_cause, step_text, hole_line, refusal_text, text_of_judgement, status_of_judgement}
+use Rattle.carcara_cli.specs.Printed.{status_of, text_of}
 use Rattle.carcara_cli.specs.Outcomes.{Outcome, answered, left_out, elaborated, status_of_outcome, text_of_outcome}
-use Rattle.carcara_cli.specs.Reading.{checking_of, settings_of}
-use Rattle.carcara_cli.specs.TopCall.{most_bytes, IsTooLong, IsJudgedOfFiles, IsAnswerInstead, IsAnswerTo, IsOfFiles, IsOutcomeTo, IsPrinted}
+use Rattle.judged_texts.specs.Reading.{checking_of, settings_of}
+use Rattle.judged_texts.specs.Reading.{most_bytes}
+use Rattle.carcara_cli.specs.TopCall.{IsTooLong, IsJudgedOfFiles, IsAnswerInstead, IsAnswerTo, IsOfFiles, IsOutcomeTo, IsPrinted}
 use Rattle.carcara_cli.specs.TopCall.{ElaboratesTo, ComesTo}
 
 same_lists : (ss zs : List Status) → length ss ≡ length zs → ((i : ℕ) (s z : Status) → slice_get ss i ≡ Some s → slice_get zs i ≡ Some z → s ≡ z) → ss ≡ zs

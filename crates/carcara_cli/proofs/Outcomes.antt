@@ -7,14 +7,15 @@ use Rattle.command_words.specs.declared.request.Command.{Command}
 use Rattle.command_words.specs.declared.request.Command.TheVariants.{Check, Elaborate}
 use Rattle.carcara_cli.specs.declared.answer.Answer.{Answer}
 use Rattle.carcara_cli.specs.declared.answer.Answer.TheVariants.{Usage, ReadFault, TooLong, Judged}
-use Rattle.carcara_cli.specs.declared.judgement.Judgement.{Judgement}
-use Rattle.carcara_cli.specs.declared.judgement.Judgement.TheVariants.{Valid, Holey, NoEmptyClause, Faulty, TooWide, RefusedProblem, RefusedProof, PoolFull}
-use Rattle.carcara_cli.specs.Elaborated.{IsElaboratedText, IsStatusOfPrinted}
+use Rattle.judged_texts.specs.declared.judgement.Judgement.{Judgement}
+use Rattle.judged_texts.specs.declared.judgement.Judgement.TheVariants.{Valid, Holey, NoEmptyClause, Faulty, TooWide, RefusedProblem, RefusedProof, PoolFull}
+use Rattle.elaborated_texts.specs.Elaborated.{IsElaboratedText, IsStatusOfPrinted}
 use Rattle.carcara_cli.specs.Outcomes.{Outcome, answered, left_out, elaborated, status_of_outcome}
-use Rattle.carcara_cli.specs.Judgement.{IsCheckedAs}
-use Rattle.carcara_cli.specs.Printed.{status_of, status_of_judgement}
+use Rattle.judged_texts.specs.Judgement.{IsCheckedAs}
+use Rattle.carcara_cli.specs.Printed.{status_of}
+use Rattle.judged_texts.specs.Printed.{status_of_judgement}
 use Rattle.carcara_cli.specs.TopCall.{ComesTo, IsAnswerInstead, IsAnswerTo, IsOfFiles, IsOutcomeTo, IsPrinted, IsShownUnsatisfiable, ShowsUnsatisfiable}
-use Rattle.carcara_cli.proofs.JudgementLemmas.{AreSound, valid_shows}
+use Rattle.carcara_cli.proofs.AnswerLemmas.{AreSound, valid_shows}
 use Rattle.carcara_cli.proofs.OneAnswer.{never_printed, printed_or}
 
 -- an answer of the status 5 is a read fault

@@ -6,9 +6,9 @@ use Rattle.command_words.specs.declared.request.Command.{Command}
 use Rattle.command_words.specs.declared.request.Command.TheVariants.{Check, Elaborate}
 use Rattle.carcara_cli.specs.declared.answer.Answer.{Answer}
 use Rattle.carcara_cli.specs.declared.answer.Answer.TheVariants.{Judged}
-use Rattle.carcara_cli.specs.declared.judgement.Judgement.TheVariants.{Valid, Holey, PoolFull}
+use Rattle.judged_texts.specs.declared.judgement.Judgement.TheVariants.{Valid, Holey, PoolFull}
 use Rattle.carcara_cli.specs.Printed.{status_of, text_of}
-use Rattle.carcara_cli.specs.Elaborated.{IsLeftOutText}
+use Rattle.elaborated_texts.specs.Elaborated.{IsLeftOutText}
 use Rattle.carcara_cli.specs.Outcomes.{left_out_answer}
 use Rattle.carcara_cli.specs.TopCall.{IsAnswerTo, IsOfFiles}
 

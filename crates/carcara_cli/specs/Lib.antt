@@ -1,16 +1,6 @@
-pub mod Reading
-pub mod Cells
-pub mod CellSums
-pub mod Holes
-pub mod Judgement
 pub mod Printed
 pub mod Outcomes
-pub mod Elaborated
 pub mod TopCall
 pub mod Exactness
-pub mod Pools
-pub mod Texts
 pub mod Answering
-pub mod Judging
-pub mod Statuses
-pub mod Making
+pub mod Finishing

@@ -3,7 +3,7 @@ use Rattle.std.specs.Prelude.{ℕ, List}
 use Rattle.sexpr.specs.declared.causes.Cause.TheVariants.{LeftOut}
 use Rattle.carcara_cli.specs.declared.answer.Answer.{Answer}
 use Rattle.carcara_cli.specs.declared.answer.Answer.TheVariants.{Judged}
-use Rattle.carcara_cli.specs.declared.judgement.Judgement.TheVariants.{RefusedProof}
+use Rattle.judged_texts.specs.declared.judgement.Judgement.TheVariants.{RefusedProof}
 use Rattle.carcara_cli.specs.Printed.{status_of, text_of}
 
 -- An answer; or, of `elaborate`, a proof that is left out, or the text of an elaborated proof, with its status.

@@ -7,20 +7,17 @@ use Rattle.problem_text.specs.Problems.{StandsForProblem}
 use Rattle.problem_text.specs.Scripts.{Script}
 use Rattle.file_ports.specs.Faults.{HasRisen}
 use Rattle.file_ports.specs.Texts.{AreTold, IsLongerThan, AppendsPrefix}
-use Rattle.carcara_cli.specs.declared.judgement.Judgement.{Judgement}
+use Rattle.judged_texts.specs.declared.judgement.Judgement.{Judgement}
 use Rattle.carcara_cli.specs.declared.answer.Answer.{Answer}
 use Rattle.carcara_cli.specs.declared.answer.Answer.TheVariants.{Usage, ReadFault, TooLong, Judged}
 use Rattle.command_words.specs.declared.request.Options.{Options}
 use Rattle.command_words.specs.CommandLine.{Asked}
 use Rattle.command_words.specs.declared.request.Command.{Command}
 use Rattle.command_words.specs.declared.request.Command.TheVariants.{Check, Elaborate}
-use Rattle.carcara_cli.specs.Judgement.{IsJudgement}
-use Rattle.carcara_cli.specs.Elaborated.{IsElaboratedText, IsJudgementInstead, IsLeftOutText}
+use Rattle.judged_texts.specs.Judgement.{IsJudgement}
+use Rattle.judged_texts.specs.Reading.{most_bytes}
+use Rattle.elaborated_texts.specs.Elaborated.{IsElaboratedText, IsJudgementInstead, IsLeftOutText}
 use Rattle.carcara_cli.specs.Outcomes.{Outcome, answered, left_out, elaborated, status_of_outcome, text_of_outcome}
-
--- the most bytes that a file may have
-abbrev pub most_bytes : ℕ
-most_bytes = 268435456
 
 -- the largest pool has 2^26 places
 abbrev pub most_bits : ℕ

@@ -2,7 +2,7 @@
 ghost use Rattle.std.specs.Prelude.{◌≡◌, IfOk};
 ghost use Rattle.carcara_cli.specs.Printed.{status_of, text_of};
 
-use crate::judgement::{Judgement, status_of_judgement, text_of_judgement};
+use judged_texts::{Judgement, status_of_judgement, text_of_judgement};
 use std::alloc::{AllocError, Global};
 
 /// What the checker returns.

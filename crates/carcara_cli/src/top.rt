@@ -7,25 +7,23 @@ ghost use Rattle.carcara_cli.specs.Printed as spec;
 ghost use Rattle.command_words.specs.CommandLine.{asked_of, has_options};
 ghost use Rattle.command_words.specs.Requests.{told, IsNumberOfWorkers};
 ghost use Rattle.command_words.specs.declared.request.Options.{Options as Chosen};
-ghost use Rattle.carcara_cli.specs.Making.{EndsSo, IsFinished, SinkView};
+ghost use Rattle.elaborated_texts.specs.Ending.{EndsSo, SinkView};
+ghost use Rattle.carcara_cli.specs.Finishing.{IsFinished};
 ghost use Rattle.carcara_cli.specs.Outcomes.{left_out_answer};
-ghost use Rattle.carcara_cli.specs.TopCall.{most_bits, most_bytes, ChecksTo, ElaboratesTo, IsTooLong, IsAnswerTo, IsOutcomeTo, IsPrinted};
+ghost use Rattle.carcara_cli.specs.TopCall.{most_bits, ChecksTo, ElaboratesTo, IsTooLong, IsAnswerTo, IsOutcomeTo, IsPrinted};
+ghost use Rattle.judged_texts.specs.Reading.{most_bytes};
 ghost use Rattle.carcara_cli.specs.TopCall.{MayAskBoth, ShowsUnsatisfiable};
 ghost use Rattle.carcara_cli.specs.declared.answer.Answer.{Answer as Said};
 ghost use Rattle.carcara_cli.specs.Answering.{IsUnread};
 ghost use Rattle.carcara_cli.specs.Exactness.{IsExact};
 
 use crate::answer::{Answer, status_of, text_of};
-use crate::elaborating::{End, elaborate};
-use crate::judgement::Judgement;
-use crate::judging::{Workers, judge};
-use crate::laws::{
-    elaborations_say_what_checks_say, valid_proofs_are_sound, words_and_files_define_one_answer,
-};
-use crate::pools::{LEAST_BITS, MOST_BITS};
-use crate::texts::Texts;
+use crate::laws::{elaborations_say_what_checks_say, words_and_files_define_one_answer};
 use command_words::{Command, Request, asked_of};
+use elaborated_texts::{End, elaborate};
 use file_ports::{Folder, Gate, OutStop, ReadStop, Sink, read_whole, write_whole};
+use judged_texts::laws::valid_proofs_are_sound;
+use judged_texts::{Judgement, LEAST_BITS, MOST_BITS, Texts, Workers, judge};
 use pair_pool::Memory;
 use sexpr::{Cause, Refusal};
 use std::alloc::Global;

@@ -8,7 +8,7 @@ use Rattle.problem_text.specs.Scripts.{Script}
 use Rattle.alethe_text.specs.ProofTexts.{StandsForProof}
 use Rattle.command_words.specs.declared.request.Options.{Options}
 use Rattle.command_words.specs.CommandLine.{Asked}
-use Rattle.carcara_cli.specs.Reading.{settings_of}
+use Rattle.judged_texts.specs.Reading.{settings_of}
 
 -- the same options with `--strict`, and without it
 abbrev pub strictly : Options → Options

@@ -9,11 +9,11 @@ ghost use Rattle.alethe_text.specs.ProofTexts.{StandsForProof};
 ghost use Rattle.command_words.specs.CommandLine.{Asked};
 ghost use Rattle.command_words.specs.declared.request.Options.{Options};
 ghost use Rattle.carcara_cli.specs.Exactness.{IsDefinedAnswer, SaySame};
-ghost use Rattle.carcara_cli.specs.Judgement.{IsCheckedAs};
-ghost use Rattle.carcara_cli.specs.Reading.{settings_of};
+ghost use Rattle.judged_texts.specs.Judgement.{IsCheckedAs};
+ghost use Rattle.judged_texts.specs.Reading.{settings_of};
 ghost use Rattle.carcara_cli.specs.declared.answer.Answer.{Answer};
 ghost use Rattle.carcara_cli.specs.declared.answer.Answer.TheVariants.{Judged};
-ghost use Rattle.carcara_cli.specs.declared.judgement.Judgement.TheVariants.{Valid};
+ghost use Rattle.judged_texts.specs.declared.judgement.Judgement.TheVariants.{Valid};
 ghost use Rattle.mode_laws.specs.Modes.{asked_in_check_mode, asked_strictly, in_check_mode, strictly, FilesReadSameInCheckMode};
 
 use carcara_cli::laws::words_and_files_define_one_answer;

@@ -1,5 +1,5 @@
-use Rattle.carcara_cli.specs.Judgement.{IsJudgement}
-use Rattle.carcara_cli.proofs.JudgementLemmas.{judged_of_files}
+use Rattle.judged_texts.specs.Judgement.{IsJudgement}
+use Rattle.carcara_cli.proofs.AnswerLemmas.{judged_of_files}
 use Rattle.carcara_cli.proofs.top.answer_to.Goals as goal
 
 pub returns : goal.returns

@@ -1,7 +1,8 @@
 use Rattle.std.proofs.Common.{ap, Err}
 use Rattle.command_words.specs.Requests.{told}
-use Rattle.carcara_cli.specs.Making.{EndsSo, SinkView}
-use Rattle.carcara_cli.proofs.TextsInstead.{or_weaker, printed_of, unread_printed}
+use Rattle.elaborated_texts.specs.Ending.{EndsSo, SinkView}
+use Rattle.elaborated_texts.proofs.TextsInstead.{or_weaker}
+use Rattle.carcara_cli.proofs.FilesInstead.{printed_of, unread_printed}
 use Rattle.carcara_cli.proofs.top.elaborate_files.Goals as goal
 
 pub returns-clause-printed : goal.returns-clause-printed

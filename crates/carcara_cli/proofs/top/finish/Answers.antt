@@ -1,7 +1,7 @@
 use Rattle.std.proofs.Common.{inl, inr, refl, subst, sym, ap}
 use Rattle.carcara_cli.specs.declared.answer.Answer.TheVariants.{Judged}
-use Rattle.carcara_cli.specs.declared.elaborating.End.TheVariants as end
-use Rattle.carcara_cli.specs.Making.{EndsSo, SinkView}
+use Rattle.elaborated_texts.specs.declared.elaborating.End.TheVariants as end
+use Rattle.elaborated_texts.specs.Ending.{EndsSo, SinkView}
 use Rattle.carcara_cli.specs.Outcomes.{answered, left_out}
 use Rattle.carcara_cli.specs.Printed.{status_of, text_of}
 use Rattle.carcara_cli.proofs.Finishing.{finished, said}

@@ -2,7 +2,7 @@
 use Rattle.std.proofs.Common.{◌≡◌, ℕ, List, Option, Some, None, refl, ap, sym}
 use Rattle.file_ports.specs.Texts.{AreTold}
 use Rattle.carcara_cli.specs.declared.answer.Answer.TheVariants.{Judged}
-use Rattle.carcara_cli.specs.declared.judgement.Judgement.TheVariants.{Valid}
+use Rattle.judged_texts.specs.declared.judgement.Judgement.TheVariants.{Valid}
 use Rattle.mode_laws.specs.Modes.{asked_in_check_mode}
 use Rattle.mode_laws.proofs.laws.runs_agree.Goals as goal
 

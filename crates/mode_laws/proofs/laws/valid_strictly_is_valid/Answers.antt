@@ -1,7 +1,7 @@
 -- Private.
 use Rattle.std.proofs.Common.{sym}
 use Rattle.rule_model.specs.declared.statuses.Verdict.{Verdict}
-use Rattle.carcara_cli.specs.Reading.{checking_of}
+use Rattle.judged_texts.specs.Reading.{checking_of}
 use Rattle.mode_laws.specs.Modes.{strictly}
 use Rattle.mode_laws.proofs.laws.valid_strictly_is_valid.Goals as goal
 

@@ -1,7 +1,0 @@
-use Rattle.std.proofs.Common.{◌≡◌, ◌++◌, drop}
-use Rattle.std.specs.List.{flat_map}
-use Rattle.carcara_cli.specs.Printed.{hole_line, holey_text}
-use Rattle.carcara_cli.proofs.judgement.holey_text.Given as goal
-
-abbrev pub invariant-holes : goal.invariant-holes
-invariant-holes l = l.text.items ++ flat_map hole_line (drop l.hole-index l.holes) ≡ holey_text l.holes

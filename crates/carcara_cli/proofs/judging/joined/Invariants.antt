@@ -1,6 +1,0 @@
-use Rattle.std.proofs.Common.{◌≡◌, take}
-use Rattle.step_check.specs.Chunks.{statuses_in}
-use Rattle.carcara_cli.proofs.judging.joined.Given as goal
-
-abbrev pub invariant-pieces : goal.invariant-pieces
-invariant-pieces l = l.list.items ≡ statuses_in (take l.piece-index l.pieces)

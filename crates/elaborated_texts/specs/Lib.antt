@@ -1,0 +1,4 @@
+pub mod Elaborated
+pub mod Ending
+pub mod Statuses
+pub mod Making

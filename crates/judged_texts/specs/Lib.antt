@@ -1,0 +1,11 @@
+pub mod Reading
+pub mod Cells
+pub mod CellSums
+pub mod Holes
+pub mod Judgement
+pub mod Printed
+pub mod Pools
+pub mod Texts
+pub mod Naming
+pub mod Judging
+pub mod Over
