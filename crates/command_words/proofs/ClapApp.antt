@@ -78,7 +78,10 @@ top_shape = record (new_shape (codes "carcara")) {
   is_built = true;
 }
 
-pub built_is : built made ≡ record { top = top_shape; subs = check_shape ∷ shape_named (codes "elaborate") ∷ [] }
+pub built_is : built made ≡ record {
+  top = top_shape;
+  subs = check_shape ∷ shape_named (codes "elaborate") ∷ shape_named (codes "core") ∷ shape_named (codes "prune") ∷ [];
+}
 built_is = refl
 
 pub made_is_simple : is_simple made ≡ true

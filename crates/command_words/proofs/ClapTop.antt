@@ -12,10 +12,10 @@ use Rattle.clap.specs.Simple.{subcommand_of}
 use Rattle.clap.specs.Faults.{fault_of, level_fault, turn_fault, walk_fault, defaults_fault}
 use Rattle.clap.proofs.FaultLemmas.{stopped_fault}
 use Rattle.command_words.specs.declared.request.Command.{Command}
-use Rattle.command_words.specs.declared.request.Command.TheVariants.{Check, Elaborate}
+use Rattle.command_words.specs.declared.request.Command.TheVariants.{Check, Elaborate, Core, Prune}
 use Rattle.command_words.specs.CommandLine.{Asked, Wanted, asked_as, asked_for, asked_of, has_options, wanted_by, gives_number, is_flag, options_of, with_values}
 use Rattle.command_words.specs.Made.{made}
-use Rattle.command_words.specs.Found.{Given, IsReadFrom, name_of, wanted_from, flag_text}
+use Rattle.command_words.specs.Found.{Given, IsGivenBy, IsReadFrom, name_of, wanted_from, flag_text}
 use Rattle.command_words.proofs.ClapApp.{check_shape, rules, shape_named, top_shape}
 use Rattle.command_words.proofs.ClapRows.{nothing, at_id, no_rows, row_for}
 use Rattle.command_words.proofs.ClapWords.{IsFlag, IsPlain, Word, ends, expands, first_faults, ignores, is_strict, no_cons, numbers, plain, same_bytes, strange, waits}
@@ -24,10 +24,10 @@ use Rattle.command_words.proofs.ClapWalk.{or_first}
 use Rattle.command_words.proofs.ClapEnd.{flag_at_end}
 use Rattle.command_words.proofs.ClapGrammar.{options_are_told, workers_are_told}
 use Rattle.command_words.proofs.ClapLost.{AllUtf8}
-use Rattle.command_words.proofs.ClapReach.{Answers, IsAskedBy, reaches}
+use Rattle.command_words.proofs.ClapReach.{Answers, IsAskedBy, ReadsAs, reaches}
 
 abbrev names : Names
-names = (codes "check", []) ∷ (codes "elaborate", []) ∷ []
+names = (codes "check", []) ∷ (codes "elaborate", []) ∷ (codes "core", []) ∷ (codes "prune", []) ∷ []
 
 or_nil : (a : Kinds) → or_else a [] ≡ a
 or_nil [] = refl
@@ -47,29 +47,42 @@ named_walk : (c : Command) (words : List Text) → walk [] names nothing_held (n
 unfolding walked
 named_walk Check words = rest_stops (codes "check") [] words
 named_walk Elaborate words = rest_stops (codes "elaborate") [] words
+named_walk Core words = rest_stops (codes "core") [] words
+named_walk Prune words = rest_stops (codes "prune") [] words
 
 named_fault_walk : (c : Command) (words : List Text) → walk_fault top_shape names (walk_from nothing_held) (name_of c ∷ words) ≡ []
 unfolding walk_fault walked
 named_fault_walk Check words = stopped_fault top_shape names (walk_from nothing_held) (codes "check", []) words
 named_fault_walk Elaborate words = stopped_fault top_shape names (walk_from nothing_held) (codes "elaborate", []) words
+named_fault_walk Core words = stopped_fault top_shape names (walk_from nothing_held) (codes "core", []) words
+named_fault_walk Prune words = stopped_fault top_shape names (walk_from nothing_held) (codes "prune", []) words
 
 -- the name of a command plays no part in what its words are
-turns_alike : (w : Walk) (words : List Text) → walk_fault (shape_named (codes "elaborate")) [] w words ≡ walk_fault check_shape [] w words
+turns_alike : (name : Text) (w : Walk) (words : List Text) → walk_fault (shape_named name) [] w words ≡ walk_fault check_shape [] w words
 unfolding walk_fault
-turns_alike w [] = refl
-turns_alike w (word ∷ rest) = ap (or_else (turn_fault check_shape [] w word)) (turns_alike (walked rules [] w word) rest)
+turns_alike name w [] = refl
+turns_alike name w (word ∷ rest) = ap (or_else (turn_fault check_shape [] w word)) (turns_alike name (walked rules [] w word) rest)
 
-no_name_matters : (words : List Text) → level_fault (shape_named (codes "elaborate")) [] nothing_held words false [] ≡ level_fault check_shape [] nothing_held words false []
-no_name_matters words = rw (turns_alike (walk_from nothing_held) words) refl
+pub no_name_matters : (name : Text) (words : List Text)
+    → level_fault (shape_named name) [] nothing_held words false [] ≡ level_fault check_shape [] nothing_held words false []
+no_name_matters name words = rw (turns_alike name (walk_from nothing_held) words) refl
+
+behind_name : (name : Text) (words : List Text)
+    → or_else (level_fault (shape_named name) [] nothing_held words false []) [] ≡ level_fault check_shape [] nothing_held words false []
+behind_name name words = or_nil (level_fault (shape_named name) [] nothing_held words false []) ∙ no_name_matters name words
 
 pub named_fault_is : (c : Command) (words : List Text) → fault_of made (name_of c ∷ words) ≡ level_fault check_shape [] nothing_held words false []
 unfolding defaults_fault
 named_fault_is Check words = rw (named_walk Check words, named_fault_walk Check words) (or_nil _)
-named_fault_is Elaborate words = rw (named_walk Elaborate words, named_fault_walk Elaborate words) (or_nil (level_fault (shape_named (codes "elaborate")) [] nothing_held words false []) ∙ no_name_matters words)
+named_fault_is Elaborate words = rw (named_walk Elaborate words, named_fault_walk Elaborate words) (behind_name (codes "elaborate") words)
+named_fault_is Core words = rw (named_walk Core words, named_fault_walk Core words) (behind_name (codes "core") words)
+named_fault_is Prune words = rw (named_walk Prune words, named_fault_walk Prune words) (behind_name (codes "prune") words)
 
 pub named_rows : (c : Command) (words : List Text) → subcommand_of made (name_of c ∷ words) ≡ Some (name_of c, finished rules (walk rules [] nothing_held words).held)
 named_rows Check words = rw (named_walk Check words) refl
 named_rows Elaborate words = rw (named_walk Elaborate words) refl
+named_rows Core words = rw (named_walk Core words) refl
+named_rows Prune words = rw (named_walk Prune words) refl
 
 -- ---- any other first word is refused
 
@@ -80,12 +93,14 @@ first_turn word = turn_fault top_shape names (walk_from nothing_held) word
 record IsNoName (word : Text) : Type 0 where
   no_check : bytes_eq (codes "check") word ≡ false
   no_elaborate : bytes_eq (codes "elaborate") word ≡ false
+  no_core : bytes_eq (codes "core") word ≡ false
+  no_prune : bytes_eq (codes "prune") word ≡ false
 
 other_word : (word : Text) → IsNoName word → IsUtf8 word → IsFlag word → first_turn word ≡ [] → ⊥
-other_word word other u f bad = first_faults word nothing_held refl u f (or_first _ _ (rw (other.no_check, other.no_elaborate, f.no_end) at bad))
+other_word word other u f bad = first_faults word nothing_held refl u f (or_first _ _ (rw (other.no_check, other.no_elaborate, other.no_core, other.no_prune, f.no_end) at bad))
 
 plain_word : (word : Text) → IsNoName word → IsPlain word → first_turn word ≡ [] → ⊥
-plain_word word other is bad = no_cons _ _ (rw (other.no_check, other.no_elaborate, is.no_end, is.long, is.short) at bad)
+plain_word word other is bad = no_cons _ _ (rw (other.no_check, other.no_elaborate, other.no_core, other.no_prune, is.no_end, is.long, is.short) at bad)
 
 first_fails : (word : Text) (rest : List Text) → (first_turn word ≡ [] → ⊥) → fault_of made (word ∷ rest) ≡ [] → ⊥
 unfolding walk_fault
@@ -150,17 +165,29 @@ module _ (c : Command) (words : List Text) where
           let s : IsRead None (name_of c ∷ words) = rw is at r in
           rw is (λ bad. s)
 
+-- what the words behind a command are taken for
+pub answers : (words : List Text) → AllUtf8 words → Answers (wanted_by (with_values words)) (walk_from nothing_held) words
+answers words u =
+    rw (options_are_told (filter is_flag (options_of (with_values words))), workers_are_told (filter gives_number (options_of (with_values words)))) at
+    (reaches words u nothing false false false false None [] None (record { settles = refl; are = no_rows }))
+
 named : (c : Command) (words : List Text) → AllUtf8 words → Outcome (asked_for c (wanted_by (with_values words))) (name_of c ∷ words)
-named c words u =
-    behind c words _ (rw (options_are_told (filter is_flag (options_of (with_values words))), workers_are_told (filter gives_number (options_of (with_values words)))) at
-    (reaches words u nothing false false false false None [] None (record { settles = refl; are = no_rows })))
+named c words u = behind c words _ (answers words u)
 
 pub outcome : (words : List Text) → AllUtf8 words → Outcome (asked_of words) words
 outcome [] u = λ bad. absurd (no_words bad)
-outcome (word ∷ rest) u = go (bytes_eq word (codes "check")) (bytes_eq word (codes "elaborate")) refl refl
+outcome (word ∷ rest) u = go _ _ _ _ refl refl refl refl
   where
-    is_no_name : bytes_eq word (codes "check") ≡ false → bytes_eq word (codes "elaborate") ≡ false → IsNoName word
-    is_no_name is other = record { no_check = back (codes "check") is refl; no_elaborate = back (codes "elaborate") other refl }
+    Is : Command → Bool → Type 0
+    Is c b = bytes_eq word (name_of c) ≡ b
+
+    is_no_name : Is Check false → Is Elaborate false → Is Core false → Is Prune false → IsNoName word
+    is_no_name check elaborate core prune = record {
+      no_check = back (codes "check") check refl;
+      no_elaborate = back (codes "elaborate") elaborate refl;
+      no_core = back (codes "core") core refl;
+      no_prune = back (codes "prune") prune refl;
+    }
       where
         back : (name : Text) → bytes_eq word name ≡ false → bytes_eq name name ≡ true → bytes_eq name word ≡ false
         back name differs same = each (bytes_eq name word) refl
@@ -169,11 +196,13 @@ outcome (word ∷ rest) u = go (bytes_eq word (codes "check")) (bytes_eq word (c
             each false e = e
             each true e = let no : bytes_eq name name ≡ false = rw (← same_bytes name word e) at differs in absurd (true≢false (sym same ∙ no))
 
-    go : (b d : Bool) → bytes_eq word (codes "check") ≡ b → bytes_eq word (codes "elaborate") ≡ d → Outcome (asked_of (word ∷ rest)) (word ∷ rest)
-    go true d is other = rw (same_bytes word (codes "check") is) (named Check rest u.1)
-    go false true is other = rw (same_bytes word (codes "elaborate") other) (named Elaborate rest u.1)
-    go false false is other =
-        rw (is, other) (λ bad. absurd (no_name word rest (is_no_name is other) u.0 (word_is word) bad))
+    go : (a b c d : Bool) → Is Check a → Is Elaborate b → Is Core c → Is Prune d → Outcome (asked_of (word ∷ rest)) (word ∷ rest)
+    go true b c d e f g h = rw (same_bytes word (codes "check") e) (named Check rest u.1)
+    go false true c d e f g h = rw (same_bytes word (codes "elaborate") f) (named Elaborate rest u.1)
+    go false false true d e f g h = rw (same_bytes word (codes "core") g) (named Core rest u.1)
+    go false false false true e f g h = rw (same_bytes word (codes "prune") h) (named Prune rest u.1)
+    go false false false false e f g h =
+        rw (e, f, g, h) (λ bad. absurd (no_name word rest (is_no_name e f g h) u.0 (word_is word) bad))
 
 -- ---- what the matches say
 
@@ -191,16 +220,22 @@ number_read : (n : Option Text) (rows : List Row) → at_id (codes "workers") ro
 number_read None rows h = rw h refl
 number_read (Some v) rows h = rw h refl
 
+-- the rows say what is given
+pub given_by : (g : Given) (rows : List Row) → ReadsAs g rows → IsGivenBy g rows
+given_by g rows h = record {
+  proof = rw h.proof refl;
+  problem = rw h.problem refl;
+  expand = flag_read (codes "expand") g.options.replaces_lets rows h.expand;
+  ignore = flag_read (codes "ignore") g.options.ignores_unknown_rules rows h.ignore;
+  strict = flag_read (codes "strict") g.options.is_strict rows h.strict;
+  number = number_read g.number rows h.number;
+}
+
 read_from : (asked : Option Asked) (words : List Text) → (h : IsRead asked words) → IsReadFrom h.command h.reads.given (subcommand_of made words)
-read_from asked words h = let g = h.reads.given in record {
+read_from asked words h = record {
   rows = h.rows;
   met = h.subcommand;
-  proof = rw h.reads.reads.proof refl;
-  problem = rw h.reads.reads.problem refl;
-  expand = flag_read (codes "expand") g.options.replaces_lets h.rows h.reads.reads.expand;
-  ignore = flag_read (codes "ignore") g.options.ignores_unknown_rules h.rows h.reads.reads.ignore;
-  strict = flag_read (codes "strict") g.options.is_strict h.rows h.reads.reads.strict;
-  number = number_read g.number h.rows h.reads.reads.number;
+  given = given_by h.reads.given h.rows h.reads.reads;
 }
 
 is_read : (asked : Option Asked) (words : List Text) → Outcome asked words → fault_of made words ≡ [] → IsRead asked words

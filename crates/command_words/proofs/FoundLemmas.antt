@@ -12,9 +12,9 @@ use Rattle.clap.specs.declared.parser.matches.ArgMatches.TheViews.{out-ArgMatche
 use Rattle.clap.specs.Walk.{Row, Text, first_of, one_of, rows_of}
 use Rattle.clap.specs.declared.parser.matches.Found.{Found}
 use Rattle.clap.proofs.WalkLemmas.{first_value-rows, one_text-rows}
-use Rattle.command_words.specs.CommandLine.{asked_for, has_options}
+use Rattle.command_words.specs.CommandLine.{Task, generate, asked_for, has_options, links_in}
 use Rattle.command_words.specs.declared.request.Command.{Command}
-use Rattle.command_words.specs.Found.{Given, wanted_from, flag_text, workers_of}
+use Rattle.command_words.specs.Found.{Given, generate_of, has_none, wanted_from, flag_text, workers_of}
 
 pub rows_are : (x rows : List Row) (found : Option (Text × List Row)) (name : Text) → Some x ≡ option_map (λ p. p.1) found → found ≡ Some (name, rows) → x ≡ rows
 rows_are x rows found name e is = same_Some x rows (e ∙ ap (option_map (λ p. p.1)) is)
@@ -50,12 +50,32 @@ asked_is c p q e i s g k proof problem lets unknown strict workers has =
     rw (same_Some p g.proof proof, same_Some q g.problem problem, lets, unknown, strict, workers, has_now) refl
 
 -- the command has not these options
-pub has_none : (c : Command) (e i s : Bool) (g : Given) (k : ℕ) → e ≡ g.options.replaces_lets → i ≡ g.options.ignores_unknown_rules
+pub lacks_options : (c : Command) (e i s : Bool) (g : Given) (k : ℕ) → e ≡ g.options.replaces_lets → i ≡ g.options.ignores_unknown_rules
     → s ≡ g.options.is_strict → workers_of g.number ≡ Some k
     → has_options c (record { replaces_lets = e; ignores_unknown_rules = i; is_strict = s }) ≡ false → None ≡ asked_for c (wanted_from g)
-has_none c e i s g k lets unknown strict workers has =
+lacks_options c e i s g k lets unknown strict workers has =
     let has_not : has_options c g.options ≡ false = rw (lets, unknown, strict) at has in
     rw (workers, has_not) refl
 
 pub asks_nothing : (c : Command) (g : Given) → workers_of g.number ≡ None → None ≡ asked_for c (wanted_from g)
 asks_nothing c g h = rw h refl
+
+-- ---- `generate`
+
+pub generate_is : (q : Text) (e i s : Bool) (g : Given) (k : ℕ) → Some q ≡ Some g.problem → e ≡ g.options.replaces_lets
+    → i ≡ g.options.ignores_unknown_rules → s ≡ g.options.is_strict → workers_of g.number ≡ Some k
+    → has_none (record { replaces_lets = e; ignores_unknown_rules = i; is_strict = s }) ≡ true
+    → option_map (λ links. generate links k) (links_in q) ≡ generate_of (wanted_from g)
+generate_is q e i s g k problem lets unknown strict workers none =
+    let none_now : has_none g.options ≡ true = rw (lets, unknown, strict) at none in
+    rw (same_Some q g.problem problem, workers, none_now) refl
+
+pub generate_has_options : (e i s : Bool) (g : Given) (k : ℕ) → e ≡ g.options.replaces_lets → i ≡ g.options.ignores_unknown_rules
+    → s ≡ g.options.is_strict → workers_of g.number ≡ Some k
+    → has_none (record { replaces_lets = e; ignores_unknown_rules = i; is_strict = s }) ≡ false → None ≡ generate_of (wanted_from g)
+generate_has_options e i s g k lets unknown strict workers some =
+    let some_now : has_none g.options ≡ false = rw (lets, unknown, strict) at some in
+    rw (workers, some_now) refl
+
+pub generate_has_no_workers : (g : Given) → workers_of g.number ≡ None → None ≡ generate_of (wanted_from g)
+generate_has_no_workers g h = rw h refl

@@ -7,5 +7,6 @@ pub mod ClapGrammar
 pub mod ClapLost
 pub mod ClapReach
 pub mod ClapTop
+pub mod ClapAlone
 pub mod FoundLemmas
 pub mod NumberLemmas

@@ -1,13 +1,13 @@
 -- Public. What the words of a command line ask for (POSIX.1-2017, Base Definitions, "Utility Syntax Guidelines"). The
--- first word is the command, `check` or `elaborate`, and behind it stand operands and options, in any order. The first `--`
--- ends the options: every word behind it is an operand.
+-- first word is the command, and behind it stand operands and options, in any order. The first `--` ends the options: every word
+-- behind it is an operand. `check`, `elaborate`, `core` and `prune` have a proof and a problem, and `generate` a number of links.
 use Rattle.std.specs.Prelude.{ℕ, List, [], ◌∷◌, ◌++◌, Bool, true, false, not, ◌&&◌, ◌||◌, if◌then◌else◌, Option, None, Some, nat_eq, nat_le}
-use Rattle.std.specs.Prelude.{bytes_eq, codes, drop, filter, length, take, take_while}
+use Rattle.std.specs.Prelude.{bytes_eq, codes, drop, filter, length, option_map, take, take_while}
 use Rattle.std.specs.List.{list_any, prefix_len}
 use Rattle.std.specs.Str.{all_ascii_digits}
 use Rattle.std.specs.Str.Parse.{digits_value}
 use Rattle.command_words.specs.declared.request.Command.{Command}
-use Rattle.command_words.specs.declared.request.Command.TheVariants.{Check, Elaborate}
+use Rattle.command_words.specs.declared.request.Command.TheVariants.{Check, Elaborate, Core, Prune}
 use Rattle.command_words.specs.declared.request.Options.{Options}
 
 -- a command over the proof at one path and the problem at another, how the proof is checked, and by how many workers
@@ -17,6 +17,12 @@ pub record Asked : Type 0 where
   pub problem : List ℕ
   pub options : Options
   pub workers : ℕ
+
+-- What the words of a command line ask for: such a command; or a problem and a proof of so many links that are made and checked, by so
+-- many workers.
+pub data Task : Type 0 where
+  over : Asked → Task
+  generate : ℕ → ℕ → Task
 
 -- what the words behind a command say
 pub record Wanted : Type 0 where
@@ -85,12 +91,20 @@ abbrev pub is_number : Word → Bool
 is_number [] = false
 is_number (b ∷ word) = not (nat_eq b 48) && all_ascii_digits (b ∷ word)
 
--- from 1 to 64
-abbrev pub is_for_workers : ℕ → Bool
-is_for_workers n = nat_le 1 n && nat_le n 64
+-- the number from 1 to a greatest one that a word spells
+abbrev pub is_up_to : ℕ → ℕ → Bool
+is_up_to most n = nat_le 1 n && nat_le n most
 
+abbrev pub number_up_to : ℕ → Word → Option ℕ
+number_up_to most word = if is_number word && is_up_to most (digits_value 10 word) then Some (digits_value 10 word) else None
+
+-- from 1 to 64 workers
 abbrev pub workers_in : Word → Option ℕ
-workers_in word = if is_number word && is_for_workers (digits_value 10 word) then Some (digits_value 10 word) else None
+workers_in word = number_up_to 64 word
+
+-- from 1 to 50,000 links
+abbrev pub links_in : Word → Option ℕ
+links_in word = number_up_to 50000 word
 
 -- how many workers the options ask for: one, where none of them says it, and it is said once at most
 abbrev pub workers_by : List Word → Option ℕ
@@ -144,10 +158,12 @@ abbrev pub wanted_by : List Word → Option Wanted
 wanted_by words =
     wanted_with (operands_of words) (options_by (filter is_flag (options_of words))) (workers_by (filter gives_number (options_of words)))
 
--- `elaborate` has no `--strict`: with it the words spell no command
+-- `check` alone has `--strict`: with it the words spell no other command
 abbrev pub has_options : Command → Options → Bool
 has_options Check options = true
 has_options Elaborate options = not options.is_strict
+has_options Core options = not options.is_strict
+has_options Prune options = not options.is_strict
 
 abbrev pub asked_as : Command → Wanted → Asked
 asked_as command w = record { command = command; proof = w.proof; problem = w.problem; options = w.options; workers = w.workers }
@@ -159,7 +175,10 @@ asked_for command (Some w) = if has_options command w.options then Some (asked_a
 -- the first word is the command
 abbrev pub command_named : Word → Option Command
 command_named word =
-    if bytes_eq word (codes "check") then Some Check else (if bytes_eq word (codes "elaborate") then Some Elaborate else None)
+    if bytes_eq word (codes "check") then Some Check
+    else (if bytes_eq word (codes "elaborate") then Some Elaborate
+    else (if bytes_eq word (codes "core") then Some Core
+    else (if bytes_eq word (codes "prune") then Some Prune else None)))
 
 abbrev pub asked_behind : Option Command → List Word → Option Asked
 asked_behind None words = None
@@ -168,3 +187,17 @@ asked_behind (Some command) words = asked_for command (wanted_by (with_values wo
 abbrev pub asked_of : List Word → Option Asked
 asked_of [] = None
 asked_of (word ∷ words) = asked_behind (command_named word) words
+
+-- `generate` has one operand, the number of links, and no option but the number of workers
+abbrev pub generate_with : List Word → List Word → Option ℕ → Option Task
+generate_with (count ∷ []) [] (Some workers) = option_map (λ links. generate links workers) (links_in count)
+generate_with _ _ _ = None
+
+abbrev pub generate_by : List Word → Option Task
+generate_by words = generate_with (operands_of words) (filter is_flag (options_of words)) (workers_by (filter gives_number (options_of words)))
+
+-- the first word is `generate`, or a command
+abbrev pub task_of : List Word → Option Task
+task_of [] = None
+task_of (word ∷ words) =
+    if bytes_eq word (codes "generate") then generate_by (with_values words) else option_map over (asked_of (word ∷ words))

@@ -1,9 +1,9 @@
 -- Private. What is asked for, as `clap`'s matches say it.
-use Rattle.std.specs.Prelude.{◌≡◌, List, Bool, true, false, ℕ, Option, None, Some, codes, option_map}
+use Rattle.std.specs.Prelude.{◌≡◌, List, [], ◌∷◌, Bool, true, false, not, ◌||◌, if◌then◌else◌, ℕ, Option, None, Some, bytes_eq, codes, option_map}
 use Rattle.clap.specs.Walk.{Row, Text, first_of, one_of}
-use Rattle.command_words.specs.CommandLine.{Wanted, workers_in}
+use Rattle.command_words.specs.CommandLine.{Wanted, Task, generate, links_in, workers_in}
 use Rattle.command_words.specs.declared.request.Command.{Command}
-use Rattle.command_words.specs.declared.request.Command.TheVariants.{Check, Elaborate}
+use Rattle.command_words.specs.declared.request.Command.TheVariants.{Check, Elaborate, Core, Prune}
 use Rattle.command_words.specs.declared.request.Options.{Options}
 
 -- what the words behind a command give, the number of workers as it is spelled
@@ -28,18 +28,38 @@ wanted_from g = option_map (wanted_as g) (workers_of g.number)
 abbrev pub name_of : Command → Text
 name_of Check = codes "check"
 name_of Elaborate = codes "elaborate"
+name_of Core = codes "core"
+name_of Prune = codes "prune"
 
 abbrev pub flag_text : Bool → Text
 flag_text true = codes "true"
 flag_text false = codes "false"
 
--- the rows of the subcommand that was met say what is given
-pub record IsReadFrom (command : Command) (g : Given) (subcommand : Option (Text × List Row)) : Type 0 where
-  pub rows : List Row
-  pub met : subcommand ≡ Some (name_of command, rows)
+-- the rows of a command say what is given
+pub record IsGivenBy (g : Given) (rows : List Row) : Type 0 where
   pub proof : first_of (codes "proof") rows ≡ Some g.proof
   pub problem : first_of (codes "problem") rows ≡ Some g.problem
   pub expand : one_of (codes "expand") rows ≡ Some (flag_text g.options.replaces_lets)
   pub ignore : one_of (codes "ignore") rows ≡ Some (flag_text g.options.ignores_unknown_rules)
   pub strict : one_of (codes "strict") rows ≡ Some (flag_text g.options.is_strict)
   pub number : first_of (codes "workers") rows ≡ g.number
+
+-- the rows of the subcommand that was met say it
+pub record IsReadFrom (command : Command) (g : Given) (subcommand : Option (Text × List Row)) : Type 0 where
+  pub rows : List Row
+  pub met : subcommand ≡ Some (name_of command, rows)
+  pub given : IsGivenBy g rows
+
+-- no option without a value is given
+abbrev pub has_none : Options → Bool
+has_none options = not (options.replaces_lets || (options.ignores_unknown_rules || options.is_strict))
+
+-- `generate` is read as a command with two operands, of which its own word is the first: the second is the number of links
+abbrev pub generate_of : Option Wanted → Option Task
+generate_of None = None
+generate_of (Some w) = if has_none w.options then option_map (λ links. generate links w.workers) (links_in w.problem) else None
+
+-- the first word is `generate`
+abbrev pub begins_generate : List Text → Bool
+begins_generate [] = false
+begins_generate (word ∷ words) = bytes_eq word (codes "generate")

@@ -1,4 +1,4 @@
--- Private. The command line as it is made for `clap`: two subcommands, each with two operands and four options.
+-- Private. The command line as it is made for `clap`: four subcommands, each with two operands and four options.
 use Rattle.std.specs.Prelude.{◌≡◌, Some, false, true, codes}
 use Rattle.clap.specs.Walk.{Rule, Text}
 use Rattle.clap.specs.Simple.{App, app_of, new_rule, new_shape, new_app, with_rule, with_subcommand}
@@ -57,5 +57,18 @@ made_top = record (new_app (codes "carcara")) {
   };
 }
 
+abbrev pub made_two : App
+made_two = with_subcommand (with_subcommand made_top (made_command (codes "check")).top) (made_command (codes "elaborate")).top
+
 abbrev pub made : App
-made = with_subcommand (with_subcommand made_top (made_command (codes "check")).top) (made_command (codes "elaborate")).top
+made = with_subcommand (with_subcommand made_two (made_command (codes "core")).top) (made_command (codes "prune")).top
+
+-- The command line of `generate`, which has no subcommand: its word is the first operand.
+abbrev pub made_alone : App
+made_alone = record (made_command (codes "generate")) {
+  top = record (made_command (codes "generate")).top {
+    no_binary_name = true;
+    disable_help_flag = true;
+    disable_help_subcommand = true;
+  };
+}

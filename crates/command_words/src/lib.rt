@@ -6,5 +6,5 @@
 mod command_line;
 mod request;
 
-pub use command_line::asked_of;
-pub use request::{Command, Options, Request};
+pub use command_line::{asked_of, task_of};
+pub use request::{Command, Generation, Options, Request, Task};

@@ -7,6 +7,10 @@ pub enum Command {
     Check,
     /// It is checked, and printed in a form in which each step is strict.
     Elaborate,
+    /// It is checked, and the numbers of the assertions are printed that it uses.
+    Core,
+    /// It is checked, and printed without the commands that it does not need.
+    Prune,
 }
 
 /// How a check is done.
@@ -28,4 +32,20 @@ pub struct Request<'a> {
     pub problem: &'a str,
     pub options: Options,
     pub workers: u32,
+}
+
+/// A problem and a proof of so many links, 1 to 50,000, that are made and checked by 1 to 64 workers.
+#[derive(Debug, Clone, Copy)]
+pub struct Generation {
+    pub links: u32,
+    pub workers: u32,
+}
+
+/// What the words of a command line ask for.
+#[derive(Drop)]
+pub enum Task<'a> {
+    /// A command over a proof and a problem.
+    Over(Request<'a>),
+    /// A problem and a proof are made and checked.
+    Generate(Generation),
 }

@@ -4,38 +4,38 @@ use Rattle.clap.specs.Matches.{found_of}
 use Rattle.clap.specs.Walk.{rows_of}
 use Rattle.clap.specs.Simple.{subcommand_rows_of}
 use Rattle.command_words.specs.Found.{workers_of}
-use Rattle.command_words.proofs.FoundLemmas.{asked_is, asks_nothing, has_none, name_is, flag_is, number_is, rows_are, value_is}
+use Rattle.command_words.proofs.FoundLemmas.{asked_is, asks_nothing, lacks_options, name_is, flag_is, number_is, rows_are, value_is}
 use Rattle.command_words.proofs.command_line.request_of.Goals as goal
 
 pub returns-in_default-get_str-clause-told : goal.returns-in_default-get_str-clause-told
 returns-in_default-get_str-clause-told c = λ k g h.
     let rows : rows_of (found_of c.in-Some.found.now) ≡ h.rows = rows_are _ h.rows (subcommand_rows_of c.args.matches.now) _ c.in-Some.ensures.rows h.met in
-    let proof = value_is (found_of c.in-Some.found.now) (codes "proof") h.rows g.proof _ c.in_default-get_str.ensures rows h.proof in
+    let proof = value_is (found_of c.in-Some.found.now) (codes "proof") h.rows g.proof _ c.in_default-get_str.ensures rows h.given.proof in
     absurd (cc)
 
 pub returns-in_default-get_str-2-clause-told : goal.returns-in_default-get_str-2-clause-told
 returns-in_default-get_str-2-clause-told c = λ k g h.
     let rows : rows_of (found_of c.in-Some.found.now) ≡ h.rows = rows_are _ h.rows (subcommand_rows_of c.args.matches.now) _ c.in-Some.ensures.rows h.met in
-    let problem = value_is (found_of c.in-Some.found.now) (codes "problem") h.rows g.problem _ c.in_default-get_str-2.ensures rows h.problem in
+    let problem = value_is (found_of c.in-Some.found.now) (codes "problem") h.rows g.problem _ c.in_default-get_str-2.ensures rows h.given.problem in
     absurd (cc)
 
 pub returns-in_default-workers_of-clause-told : goal.returns-in_default-workers_of-clause-told
 returns-in_default-workers_of-clause-told c = λ k g h.
     let f = found_of c.in-Some.found.now in
     let rows : rows_of f ≡ h.rows = rows_are _ h.rows (subcommand_rows_of c.args.matches.now) _ c.in-Some.ensures.rows h.met in
-    let number : option_map (λ t. t.now) c.get_str-3.result ≡ g.number = number_is f (codes "workers") h.rows g.number _ c.get_str-3.ensures rows h.number in
+    let number : option_map (λ t. t.now) c.get_str-3.result ≡ g.number = number_is f (codes "workers") h.rows g.number _ c.get_str-3.ensures rows h.given.number in
     asks_nothing k g (ap workers_of (sym number) ∙ sym c.in_default-workers_of.ensures.value)
 
 pub returns-then-not-has_options-clause-told : goal.returns-then-not-has_options-clause-told
 returns-then-not-has_options-clause-told c = λ k g h.
     let f = found_of c.in-Some.found.now in
     let rows : rows_of f ≡ h.rows = rows_are _ h.rows (subcommand_rows_of c.args.matches.now) _ c.in-Some.ensures.rows h.met in
-    let number : option_map (λ t. t.now) c.get_str-3.result ≡ g.number = number_is f (codes "workers") h.rows g.number _ c.get_str-3.ensures rows h.number in
+    let number : option_map (λ t. t.now) c.get_str-3.result ≡ g.number = number_is f (codes "workers") h.rows g.number _ c.get_str-3.ensures rows h.given.number in
     let named : c.command_named-command.result ≡ k = c.command_named-command.ensures k (name_is _ h.rows c.args.matches.now _ c.in-Some.ensures.name h.met) in
-    has_none k _ _ _ g c.in-Some-workers_of.workers
-    (flag_is f (codes "expand") h.rows _ _ rows h.expand c.get_flag.ensures.value c.get_flag.ensures.other)
-    (flag_is f (codes "ignore") h.rows _ _ rows h.ignore c.get_flag-2.ensures.value c.get_flag-2.ensures.other)
-    (flag_is f (codes "strict") h.rows _ _ rows h.strict c.get_flag-3.ensures.value c.get_flag-3.ensures.other)
+    lacks_options k _ _ _ g c.in-Some-workers_of.workers
+    (flag_is f (codes "expand") h.rows _ _ rows h.given.expand c.get_flag.ensures.value c.get_flag.ensures.other)
+    (flag_is f (codes "ignore") h.rows _ _ rows h.given.ignore c.get_flag-2.ensures.value c.get_flag-2.ensures.other)
+    (flag_is f (codes "strict") h.rows _ _ rows h.given.strict c.get_flag-3.ensures.value c.get_flag-3.ensures.other)
     (ap workers_of (sym number) ∙ sym c.in-Some-workers_of.ensures.value)
     (rw named at (sym c.has_options.ensures ∙ c.if-not-has_options.true))
 
@@ -43,14 +43,14 @@ pub returns-clause-told : goal.returns-clause-told
 returns-clause-told c = λ k g h.
     let f = found_of c.in-Some.found.now in
     let rows : rows_of f ≡ h.rows = rows_are _ h.rows (subcommand_rows_of c.args.matches.now) _ c.in-Some.ensures.rows h.met in
-    let number : option_map (λ t. t.now) c.get_str-3.result ≡ g.number = number_is f (codes "workers") h.rows g.number _ c.get_str-3.ensures rows h.number in
+    let number : option_map (λ t. t.now) c.get_str-3.result ≡ g.number = number_is f (codes "workers") h.rows g.number _ c.get_str-3.ensures rows h.given.number in
     let named : c.command_named-command.result ≡ k = c.command_named-command.ensures k (name_is _ h.rows c.args.matches.now _ c.in-Some.ensures.name h.met) in
     rw named
     (asked_is k _ _ _ _ _ g c.in-Some-workers_of.workers
-    (value_is f (codes "proof") h.rows g.proof _ c.in-Some-get_str.ensures rows h.proof)
-    (value_is f (codes "problem") h.rows g.problem _ c.in-Some-get_str-2.ensures rows h.problem)
-    (flag_is f (codes "expand") h.rows _ _ rows h.expand c.get_flag.ensures.value c.get_flag.ensures.other)
-    (flag_is f (codes "ignore") h.rows _ _ rows h.ignore c.get_flag-2.ensures.value c.get_flag-2.ensures.other)
-    (flag_is f (codes "strict") h.rows _ _ rows h.strict c.get_flag-3.ensures.value c.get_flag-3.ensures.other)
+    (value_is f (codes "proof") h.rows g.proof _ c.in-Some-get_str.ensures rows h.given.proof)
+    (value_is f (codes "problem") h.rows g.problem _ c.in-Some-get_str-2.ensures rows h.given.problem)
+    (flag_is f (codes "expand") h.rows _ _ rows h.given.expand c.get_flag.ensures.value c.get_flag.ensures.other)
+    (flag_is f (codes "ignore") h.rows _ _ rows h.given.ignore c.get_flag-2.ensures.value c.get_flag-2.ensures.other)
+    (flag_is f (codes "strict") h.rows _ _ rows h.given.strict c.get_flag-3.ensures.value c.get_flag-3.ensures.other)
     (ap workers_of (sym number) ∙ sym c.in-Some-workers_of.ensures.value)
     (rw named at (sym c.has_options.ensures ∙ c.if-not-has_options.false)))
