@@ -15,7 +15,7 @@ ghost use Rattle.generated_texts.specs.Summaries.{IsSummary};
 use crate::standing::standing;
 use file_ports::Gate;
 use judged_texts::{
-    Both, Judgement, OverTexts, Texts, Workers, flags_of, judge_commands, pool_full, proofs_correspond, read_proofs_can_be_checked,
+    Both, Judgement, Texts, Workers, flags_of, judge_commands, pool_full, proofs_correspond, read_proofs_can_be_checked,
     read_texts_stay,
 };
 use pair_pool::Memory;
@@ -32,6 +32,12 @@ pub struct Summary {
     /// How many commands the proof has that have an index.
     pub steps: u32,
     /// How many distinct cells the terms have that stand in the texts.
+    pub cells: u64,
+    /// What the proof comes to.
+    pub judgement: Judgement,
+}
+
+/// How many distinct cells the terms have that stand in the texts.
     pub cells: u64,
     /// What the proof comes to.
     pub judgement: Judgement,
@@ -97,7 +103,7 @@ fn judge_both<R: Threads + Sync, G: Gate>(
 }
 
 /// The summary of two texts that were read. Refuses as `judge_both`.
-fn summarize<R: Threads + Sync, G: Gate>(
+pub(crate) fn summarize<R: Threads + Sync, G: Gate>(
     workers: &Workers<'_, R, G>,
     alloc: Global,
     texts: &Texts<'_>,
@@ -130,40 +136,4 @@ fn summarize<R: Threads + Sync, G: Gate>(
         cells,
         judgement,
     })
-}
-
-impl<'a, R: Threads + Sync, G: Gate> OverTexts<()> for Summarizing<'a, R, G> {
-    ghost use Rattle.command_words.specs.Requests.{IsNumberOfWorkers};
-    ghost use Rattle.judged_texts.specs.Reading.{NeedsRoom};
-    ghost use Rattle.generated_texts.specs.Summaries.{IsSummary};
-
-    type End = Summary;
-
-    ghost count = { λ work. work.workers.now.count };
-
-    ghost may = { λ work options. IsNumberOfWorkers work.workers.now.count };
-
-    ghost ends = { λ work problem options proof old new summary. IsSummary problem options proof summary };
-
-    ghost needs = { λ work problem options proof t. NeedsRoom problem options proof t };
-
-    ghost crowds = { λ work problem options proof. ⊥ };
-
-    fn count(&self) -> u32 {
-        self.workers.count
-    }
-
-    fn over(
-        &self,
-        alloc: Global,
-        texts: &Texts<'_>,
-        both: &Both,
-        symbols: &Symbols,
-        mut terms: Terms<'_>,
-        _state: &mut (),
-    ) -> Result<Summary, RuleStop> {
-        summarize(self.workers, alloc, texts, both, symbols, &mut terms)
-    }
-
-    fn checks_need_room(&self) {}
 }
