@@ -1,21 +1,45 @@
--- Private. What is printed where an elaboration ended.
-use Rattle.std.specs.Prelude.{◌≡◌, ℕ, List}
+-- Private. What is printed where the printing of a text of its own ended.
+use Rattle.std.specs.Prelude.{◌≡◌, ◌⊎◌, ℕ, List, Option}
+use Rattle.std.specs.Io.KnownBytes.{Appends}
 use Rattle.file_ports.specs.Faults.{HasRisen}
+use Rattle.file_ports.specs.Texts.{AppendsPrefix}
 use Rattle.command_words.specs.declared.request.Options.{Options}
-use Rattle.elaborated_texts.specs.Elaborated.{IsElaboratedText, IsJudgementInstead, IsLeftOutText}
-use Rattle.elaborated_texts.specs.Ending.{SinkView}
+use Rattle.named_proofs.specs.Written.{SinkView}
+use Rattle.elaborated_texts.specs.declared.elaborating.End.{End}
+use Rattle.elaborated_texts.specs.declared.elaborating.End.TheVariants as end
 use Rattle.carcara_cli.specs.declared.answer.Answer.TheVariants.{Judged}
-use Rattle.carcara_cli.specs.Outcomes.{Outcome, answered, left_out, elaborated}
+use Rattle.carcara_cli.specs.Outcomes.{Outcome, answered, left_out, printed}
+use Rattle.carcara_cli.specs.OwnTexts.{Own, IsLeftOutBy, IsOwnText, IsSaidInsteadBy}
 use Rattle.carcara_cli.specs.TopCall.{IsPrinted}
 
--- what the texts come to
-abbrev pub TextsComeTo : List ℕ → Options → List ℕ → ℕ → Outcome → Type 0
-TextsComeTo problem options proof bits (answered (Judged j)) = IsJudgementInstead problem options proof bits j
-TextsComeTo problem options proof bits (answered a) = ⊥
-TextsComeTo problem options proof bits left_out = IsLeftOutText problem options proof
-TextsComeTo problem options proof bits (elaborated status text) = IsElaboratedText problem options proof status text
+-- what the two texts come to
+abbrev pub TextsComeTo : Own → List ℕ → Options → List ℕ → ℕ → Outcome → Type 0
+TextsComeTo own problem options proof bits (answered (Judged j)) = IsSaidInsteadBy own problem options proof bits j
+TextsComeTo own problem options proof bits (answered a) = ⊥
+TextsComeTo own problem options proof bits left_out = IsLeftOutBy own problem options proof
+TextsComeTo own problem options proof bits (printed status text) = IsOwnText own problem options proof status text
 
 -- what was printed of it
-pub record IsFinished (problem : List ℕ) (options : Options) (proof : List ℕ) (bits : ℕ) (old new : SinkView) (status : ℕ) : Type 0 where
-  pub printed : IsPrinted (TextsComeTo problem options proof bits) old.written new.written status
+pub record IsFinished (own : Own) (problem : List ℕ) (options : Options) (proof : List ℕ) (bits : ℕ) (old new : SinkView) (status : ℕ) : Type 0 where
+  pub printed : IsPrinted (TextsComeTo own problem options proof bits) old.written new.written status
   pub failed : status ≡ 6 → HasRisen old.faults new.faults
+
+-- the whole text was written, with this status, and a prefix of it
+pub record WritesOwn (own : Own) (problem : List ℕ) (options : Options) (proof : List ℕ) (status : ℕ) (old new : Option (List ℕ)) : Type 0 where
+  pub text : List ℕ
+  pub is : IsOwnText own problem options proof status text
+  pub printed : Appends old new text
+
+pub record BeginsOwn (own : Own) (problem : List ℕ) (options : Options) (proof : List ℕ) (old new : Option (List ℕ)) : Type 0 where
+  pub status : ℕ
+  pub text : List ℕ
+  pub is : IsOwnText own problem options proof status text
+  pub printed : AppendsPrefix old new text
+
+-- what was written, by how the printing ended
+abbrev pub EndsBy : Own → List ℕ → Options → List ℕ → ℕ → SinkView → SinkView → End → Type 0
+EndsBy own problem options proof bits old new (end.Instead j) = (new ≡ old) × IsSaidInsteadBy own problem options proof bits j
+EndsBy own problem options proof bits old new end.LeftOut = (new ≡ old) × IsLeftOutBy own problem options proof
+EndsBy own problem options proof bits old new (end.Written status) = WritesOwn own problem options proof status old.written new.written
+EndsBy own problem options proof bits old new end.Failed = HasRisen old.faults new.faults × BeginsOwn own problem options proof old.written new.written
+EndsBy own problem options proof bits old new end.Memory = (new.written ≡ old.written) ⊎ BeginsOwn own problem options proof old.written new.written

@@ -1,5 +1,6 @@
 pub mod Printed
 pub mod Outcomes
+pub mod OwnTexts
 pub mod TopCall
 pub mod Exactness
 pub mod Answering

@@ -16,18 +16,15 @@ use Rattle.judged_texts.specs.declared.judgement.Judgement.{Judgement}
 use Rattle.judged_texts.specs.Judgement.{IsJudgement}
 use Rattle.judged_texts.specs.Printed.{status_of_judgement}
 use Rattle.judged_texts.specs.Reading.{most_bytes}
-use Rattle.elaborated_texts.specs.Elaborated.{IsElaboratedText}
-use Rattle.elaborated_texts.specs.Elaborated as Elaborated
-use Rattle.pruned_texts.specs.declared.needing.Part.{Part}
-use Rattle.pruned_texts.specs.Needed.{IsNeededText}
-use Rattle.pruned_texts.specs.Needed as Needed
+use Rattle.pruned_texts.specs.declared.needing.Part.TheVariants as Part
 use Rattle.generated_texts.specs.declared.generating.Generated.TheVariants as Generated
 use Rattle.generated_texts.specs.declared.summarizing.Summary.{Summary}
 use Rattle.generated_texts.specs.Generating.{ComesOfLinks}
 use Rattle.generated_texts.specs.Summaries.{IsSummaryOfLinks, text_of_summary}
 use Rattle.carcara_cli.specs.declared.answer.Answer.{Answer}
 use Rattle.carcara_cli.specs.declared.answer.Answer.TheVariants.{Usage, ReadFault, TooLong, Judged}
-use Rattle.carcara_cli.specs.Outcomes.{Outcome, answered, printed, status_of_outcome, text_of_outcome}
+use Rattle.carcara_cli.specs.OwnTexts.{Own, elaboration, needed, IsLeftOutBy, IsOwnText, IsSaidInsteadBy}
+use Rattle.carcara_cli.specs.Outcomes.{Outcome, answered, left_out, printed, status_of_outcome, text_of_outcome}
 
 -- the largest pool has 2^26 places
 abbrev pub most_bits : ℕ
@@ -78,34 +75,31 @@ pub record IsOfFiles (problem proof : Option (List ℕ)) (Is : List ℕ → List
   pub proof_within : length proof_text ≤ most_bytes
   pub is : Is problem_text proof_text
 
--- An answer where a text of its own is printed of some proofs: as to a check, but what is said of the two texts is this.
-abbrev pub IsAnswerInstead : (List ℕ → Options → List ℕ → ℕ → Judgement → Type 0) → ℕ → (List ℕ → Option (List ℕ)) → ℕ → ℕ → Asked → Answer → Type 0
-IsAnswerInstead IsSaidOf bits content before after p (Judged j) =
-    IsOfFiles (content p.problem) (content p.proof) (λ problem proof. IsSaidOf problem p.options proof bits j)
-IsAnswerInstead IsSaidOf bits content before after p a = IsAnswerTo bits content before after (Some p) a
-
 -- what a check comes to: an answer
 abbrev pub ChecksTo : ℕ → (List ℕ → Option (List ℕ)) → ℕ → ℕ → Asked → Outcome → Type 0
 ChecksTo bits content before after p (answered a) = IsAnswerTo bits content before after (Some p) a
+ChecksTo bits content before after p left_out = ⊥
 ChecksTo bits content before after p (printed status text) = ⊥
 
--- What an elaboration comes to: the text of an elaboration, or an answer that is neither `valid` nor `holey`.
-abbrev pub ElaboratesTo : ℕ → (List ℕ → Option (List ℕ)) → ℕ → ℕ → Asked → Outcome → Type 0
-ElaboratesTo bits content before after p (answered a) = IsAnswerInstead Elaborated.IsJudgementInstead bits content before after p a
-ElaboratesTo bits content before after p (printed status text) =
-    IsOfFiles (content p.problem) (content p.proof) (λ problem proof. IsElaboratedText problem p.options proof status text)
+-- An answer where a text of its own is printed of some proofs: as to a check, but for what is said of the two texts.
+abbrev pub IsAnswerInstead : Own → ℕ → (List ℕ → Option (List ℕ)) → ℕ → ℕ → Asked → Answer → Type 0
+IsAnswerInstead own bits content before after p (Judged j) =
+    IsOfFiles (content p.problem) (content p.proof) (λ problem proof. IsSaidInsteadBy own problem p.options proof bits j)
+IsAnswerInstead own bits content before after p a = IsAnswerTo bits content before after (Some p) a
 
--- What `core` and `prune` come to: the part of a valid proof that they print, with status 0, or an answer that is not `valid`.
-abbrev pub NeedsTo : Part → ℕ → (List ℕ → Option (List ℕ)) → ℕ → ℕ → Asked → Outcome → Type 0
-NeedsTo part bits content before after p (answered a) = IsAnswerInstead Needed.IsJudgementInstead bits content before after p a
-NeedsTo part bits content before after p (printed status text) =
-    (status ≡ 0) × IsOfFiles (content p.problem) (content p.proof) (λ problem proof. IsNeededText part problem p.options proof text)
+-- what such a command comes to: such an answer, a proof that is left out, or a text of its own
+abbrev pub OwnTo : Own → ℕ → (List ℕ → Option (List ℕ)) → ℕ → ℕ → Asked → Outcome → Type 0
+OwnTo own bits content before after p (answered a) = IsAnswerInstead own bits content before after p a
+OwnTo own bits content before after p left_out =
+    IsOfFiles (content p.problem) (content p.proof) (λ problem proof. IsLeftOutBy own problem p.options proof)
+OwnTo own bits content before after p (printed status text) =
+    IsOfFiles (content p.problem) (content p.proof) (λ problem proof. IsOwnText own problem p.options proof status text)
 
 abbrev pub ComesTo : Command → ℕ → (List ℕ → Option (List ℕ)) → ℕ → ℕ → Asked → Outcome → Type 0
 ComesTo Check = ChecksTo
-ComesTo Elaborate = ElaboratesTo
-ComesTo Core = NeedsTo Part.Core
-ComesTo Prune = NeedsTo Part.Commands
+ComesTo Elaborate = OwnTo elaboration
+ComesTo Core = OwnTo (needed Part.Core)
+ComesTo Prune = OwnTo (needed Part.Commands)
 
 -- the text and the status are those of a summary of the texts of n links
 pub record IsSummaryText (n : ℕ) (status : ℕ) (text : List ℕ) : Type 0 where
@@ -119,6 +113,7 @@ pub record IsSummaryText (n : ℕ) (status : ℕ) (text : List ℕ) : Type 0 whe
 abbrev pub GeneratesTo : ℕ → ℕ → Outcome → Type 0
 GeneratesTo bits n (answered (Judged j)) = ComesOfLinks n bits (Generated.Not j)
 GeneratesTo bits n (answered a) = ⊥
+GeneratesTo bits n left_out = ⊥
 GeneratesTo bits n (printed status text) = IsSummaryText n status text
 
 abbrev pub DoesTo : ℕ → (List ℕ → Option (List ℕ)) → ℕ → ℕ → Task → Outcome → Type 0
