@@ -1,6 +1,6 @@
 -- `generate` is read as a command with two operands, of which its own word is the first.
 use Rattle.std.proofs.Common.{◌≡◌, ◌≢◌, ◌⊎◌, inl, inr, ◌∙◌, ◌&&◌, ◌||◌, ap, sym, refl, Bool, true, false, List, [], ◌∷◌, Option, Some, None, true≢false}
-use Rattle.std.specs.Prelude.{codes, filter, fold, is_some, not, ℕ}
+use Rattle.std.specs.Prelude.{codes, filter, is_some, not, ℕ}
 use Rattle.std.specs.Str.{bytes_eq}
 use Rattle.clap.specs.Kinds.{IsAmong}
 use Rattle.clap.specs.Simple.{App, built, entered, is_simple, matches_of}
@@ -70,8 +70,11 @@ generates (count ∷ []) (flag ∷ flags) workers = go (are_known_once (flag ∷
     go false e workers = rw e refl
     go true e None = rw e refl
     go true e (Some k) =
-        rw (e, known_one (bytes_eq flag expand_lets) (bytes_eq flag ignore_unknown) (bytes_eq flag be_strict) (is_among expand_lets flags)
-        (is_among ignore_unknown flags) (is_among be_strict flags) (first_known (is_known flag) _ e)) refl
+        rw (
+          e,
+          known_one (bytes_eq flag expand_lets) (bytes_eq flag ignore_unknown) (bytes_eq flag be_strict) (is_among expand_lets flags)
+              (is_among ignore_unknown flags) (is_among be_strict flags) (first_known (is_known flag) _ e),
+        ) refl
       where
         first_known : (b c : Bool) → (b && c) ≡ true → b ≡ true
         first_known true c h = refl

@@ -12,7 +12,7 @@ use Rattle.clap.specs.declared.parser.matches.ArgMatches.TheViews.{out-ArgMatche
 use Rattle.clap.specs.Walk.{Row, Text, first_of, one_of, rows_of}
 use Rattle.clap.specs.declared.parser.matches.Found.{Found}
 use Rattle.clap.proofs.WalkLemmas.{first_value-rows, one_text-rows}
-use Rattle.command_words.specs.CommandLine.{Task, generate, asked_for, has_options, links_in}
+use Rattle.command_words.specs.CommandLine.{generate, asked_for, has_options, links_in}
 use Rattle.command_words.specs.declared.request.Command.{Command}
 use Rattle.command_words.specs.Found.{Given, generate_of, has_none, wanted_from, flag_text, workers_of}
 

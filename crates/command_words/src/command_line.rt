@@ -192,10 +192,11 @@ fn generate_line<'a>(alloc: Global) -> Result<Command<'a>, AllocError>
     ensures { IfOk result (λ c. app_of c ≡ made_alone) }
 {
     let made = command(alloc, "generate")?;
-    Ok(made
-        .no_binary_name(true)
-        .disable_help_flag(true)
-        .disable_help_subcommand(true))
+    Ok(
+        made.no_binary_name(true)
+            .disable_help_flag(true)
+            .disable_help_subcommand(true),
+    )
 }
 
 /// Whether no option without a value is given.

@@ -1,0 +1,77 @@
+-- How the printing ends, by pools of different sizes, and what was written.
+use Rattle.std.proofs.Common.{◌≡◌, ◌<◌, ◌≤◌, ◌^◌, ℕ, List, [], ◌∷◌, Option, All, length, refl, sym, subst, arith, true, false, true≢false, ap, suc}
+use Rattle.std.specs.Io.KnownBytes.{Appends}
+use Rattle.std.specs.List.{AllZip}
+use Rattle.std.proofs.lemmas.List.Elements.{All-nil, All-cons}
+use Rattle.file_ports.specs.Texts.{AppendsPrefix}
+use Rattle.sym_table.specs.Table.{Table}
+use Rattle.term_model.specs.Terms.{Term}
+use Rattle.term_pool.specs.Views.{TermsView, IsTerm, ReferToAll}
+use Rattle.named_proofs.specs.Written.{SinkView, WritesPrefix, WritesWhole}
+use Rattle.command_words.specs.declared.request.Options.{Options}
+use Rattle.judged_texts.specs.declared.judgement.Judgement.{Judgement}
+use Rattle.judged_texts.specs.declared.judgement.Judgement.TheVariants.{Valid, Holey, NoEmptyClause, Faulty, TooWide, RefusedProblem, RefusedProof, PoolFull}
+use Rattle.judged_texts.specs.Judgement.{IsJudgement}
+use Rattle.judged_texts.specs.Texts.{IsNotRead}
+use Rattle.pruned_texts.specs.declared.needing.End.{End}
+use Rattle.pruned_texts.specs.declared.needing.End.TheVariants as end
+use Rattle.pruned_texts.specs.declared.needing.Part.{Part}
+use Rattle.pruned_texts.specs.Ending.{EndsSo}
+use Rattle.pruned_texts.specs.Needed.{IsJudgementInstead}
+use Rattle.pruned_texts.specs.Needing.{is_full}
+
+-- An end for which no larger pool is to be tried does not depend on the pool.
+module _ (part : Part) (problem : List ℕ) (options : Options) (proof : List ℕ) (bits most : ℕ) (first last : SinkView) where
+  pub any_pool : (e : End) → is_full e ≡ false → EndsSo part problem options proof bits first last e → EndsSo part problem options proof most first last e
+  any_pool (end.Instead Valid) e h = h
+  any_pool (end.Instead (Holey holes)) e h = h
+  any_pool (end.Instead NoEmptyClause) e h = h
+  any_pool (end.Instead (Faulty id cause)) e h = h
+  any_pool (end.Instead (TooWide id)) e h = h
+  any_pool (end.Instead (RefusedProblem r)) e h = h
+  any_pool (end.Instead (RefusedProof r)) e h = h
+  any_pool (end.Instead PoolFull) e h = absurd (true≢false e)
+  any_pool end.Written e h = h
+  any_pool end.Failed e h = h
+  any_pool end.Memory e h = h
+
+  -- and else nothing was written
+  pub nothing_written : (e : End) → is_full e ≡ true → EndsSo part problem options proof bits first last e → last ≡ first
+  nothing_written (end.Instead j) e h = h.0
+  nothing_written end.Written e h = absurd (true≢false (sym e))
+  nothing_written end.Failed e h = absurd (true≢false (sym e))
+  nothing_written end.Memory e h = absurd (true≢false (sym e))
+
+module _ (problem : List ℕ) (options : Options) (proof : List ℕ) (bits : ℕ) where
+  pub not_read_instead : (j : Judgement) → IsNotRead problem options proof bits j → IsJudgementInstead problem options proof bits j
+  not_read_instead (RefusedProblem r) h = h
+  not_read_instead (RefusedProof r) h = h
+  not_read_instead PoolFull h = h
+  not_read_instead Valid h = absurd h
+  not_read_instead (Holey holes) h = absurd h
+  not_read_instead NoEmptyClause h = absurd h
+  not_read_instead (Faulty id cause) h = absurd h
+  not_read_instead (TooWide id) h = absurd h
+
+  pub judged_instead : (j : Judgement) → (j ≡ Valid → ⊥) → IsJudgement problem options proof bits j → IsJudgementInstead problem options proof bits j
+  judged_instead Valid other h = absurd (other refl)
+  judged_instead (Holey holes) other h = h
+  judged_instead NoEmptyClause other h = h
+  judged_instead (Faulty id cause) other h = h
+  judged_instead (TooWide id) other h = h
+  judged_instead (RefusedProblem r) other h = h
+  judged_instead (RefusedProof r) other h = h
+  judged_instead PoolFull other h = h
+
+-- references that stand for terms
+module _ (s : Table) (v : TermsView) where
+  pub all_terms : (rs : List ℕ) (ts : List Term) → ReferToAll s v rs ts → All (IsTerm s v) rs
+  all_terms [] ts zip = All-nil (IsTerm s v)
+  all_terms (r ∷ rs) [] zip = absurd zip
+  all_terms (r ∷ rs) (t ∷ ts) zip = All-cons (IsTerm s v) r rs (record { means = t; refers = zip.0 }) (all_terms rs ts zip.1)
+
+  pub as_many : (rs : List ℕ) (ts : List Term) → ReferToAll s v rs ts → length rs ≡ length ts
+  as_many [] [] zip = refl
+  as_many [] (t ∷ ts) zip = absurd zip
+  as_many (r ∷ rs) [] zip = absurd zip
+  as_many (r ∷ rs) (t ∷ ts) zip = ap suc (as_many rs ts zip.1)

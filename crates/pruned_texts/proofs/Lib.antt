@@ -1,0 +1,6 @@
+mod TextLengths
+mod FewAssertions
+mod PrunedOver
+mod Asserted
+mod ReadAgain
+mod Ends
