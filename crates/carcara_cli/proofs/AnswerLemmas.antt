@@ -15,7 +15,7 @@ use Rattle.judged_texts.specs.Reading.{most_bytes}
 use Rattle.carcara_cli.specs.declared.answer.Answer.{Answer}
 use Rattle.carcara_cli.specs.declared.answer.Answer.TheVariants.{Usage, ReadFault, TooLong, Judged}
 use Rattle.carcara_cli.specs.Printed.{status_of}
-use Rattle.carcara_cli.specs.TopCall.{IsTooLong, IsJudgedOfFiles, IsAnswerTo, IsShownUnsatisfiable, ShowsUnsatisfiable}
+use Rattle.carcara_cli.specs.TopCall.{IsJudgedOfFiles, IsAnswerTo, IsShownUnsatisfiable}
 use Rattle.carcara_cli.specs.Answering.{IsUnread}
 
 pub judged_of_files : (bits : ℕ) (options : Options) (x y : Option (List ℕ)) (problem proof : List ℕ) (j : Judgement)
@@ -30,18 +30,6 @@ judged_of_files bits options x y problem proof j told told' within within' h = r
   proof_within = within';
   judged = h;
 }
-
-pub answer_is : (bits : ℕ) (content : List ℕ → Option (List ℕ)) (before after : ℕ) (p : Asked) (asked : Option Asked) (j : Judgement)
-    → Some p ≡ asked → IsJudgedOfFiles bits p.options (content p.problem) (content p.proof) j → IsAnswerTo bits content before after asked (Judged j)
-answer_is bits content before after p asked j e h = rw (← e) h
-
--- the answer where a file was not read
-pub unread_is : (bits : ℕ) (content : List ℕ → Option (List ℕ)) (before after : ℕ) (p : Asked) (asked : Option Asked) (stop : ReadStop) (a : Answer)
-    → Some p ≡ asked → (stop ≡ stops.TooLong → IsTooLong (content p.problem) (content p.proof)) → (stop ≡ stops.Fault → HasRisen before after)
-    → IsUnread stop a → IsAnswerTo bits content before after asked a
-unread_is bits content before after p asked stops.Fault a e too_long fault h = rw (← e, h) (fault refl)
-unread_is bits content before after p asked stops.TooLong a e too_long fault h = rw (← e, h) (too_long refl)
-unread_is bits content before after p asked stops.Memory a e too_long fault h = absurd h
 
 abbrev pub AreSound : Type 0
 AreSound =
@@ -71,10 +59,9 @@ module _ (sound : AreSound) where
   valid_shows_told bits options x y (RefusedProof r) h e = absurd (omega (arith, e))
   valid_shows_told bits options x y PoolFull h e = absurd (omega (arith, e))
 
-  pub valid_shows : (bits : ℕ) (content : List ℕ → Option (List ℕ)) (before after : ℕ) (asked : Option Asked) (a : Answer)
-      → IsAnswerTo bits content before after asked a → status_of a ≡ 0 → ShowsUnsatisfiable content asked
-  valid_shows bits content before after None a h e = absurd (omega (arith, rw h at e))
-  valid_shows bits content before after (Some p) (Judged j) h e = valid_shows_told bits p.options (content p.problem) (content p.proof) j h e
-  valid_shows bits content before after (Some p) Usage h e = absurd (omega (arith, e))
-  valid_shows bits content before after (Some p) ReadFault h e = absurd (omega (arith, e))
-  valid_shows bits content before after (Some p) TooLong h e = absurd (omega (arith, e))
+  pub valid_shows : (bits : ℕ) (content : List ℕ → Option (List ℕ)) (before after : ℕ) (p : Asked) (a : Answer)
+      → IsAnswerTo bits content before after (Some p) a → status_of a ≡ 0 → IsShownUnsatisfiable p.options (content p.problem) (content p.proof)
+  valid_shows bits content before after p (Judged j) h e = valid_shows_told bits p.options (content p.problem) (content p.proof) j h e
+  valid_shows bits content before after p Usage h e = absurd (omega (arith, e))
+  valid_shows bits content before after p ReadFault h e = absurd (omega (arith, e))
+  valid_shows bits content before after p TooLong h e = absurd (omega (arith, e))

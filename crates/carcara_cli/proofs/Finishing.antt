@@ -1,4 +1,4 @@
--- What was printed where an elaboration ended.
+-- What was printed where the printing of a text of its own ended.
 use Rattle.std.proofs.Common.{◌≡◌, ◌≢◌, ◌⊎◌, inl, inr, ℕ, List, refl, sym, ◌∙◌, ap, subst, arith}
 use Rattle.std.specs.Io.KnownBytes.{Appends}
 use Rattle.file_ports.specs.Faults.{HasRisen}
@@ -8,18 +8,24 @@ use Rattle.carcara_cli.specs.declared.answer.Answer.{Answer}
 use Rattle.elaborated_texts.specs.declared.elaborating.End.{End}
 use Rattle.elaborated_texts.specs.declared.elaborating.End.TheVariants as end
 use Rattle.elaborated_texts.specs.Ending.{EndsSo, SinkView}
-use Rattle.carcara_cli.specs.Finishing.{IsFinished, TextsComeTo}
-use Rattle.carcara_cli.specs.Outcomes.{Outcome, elaborated, status_of_outcome, text_of_outcome}
+use Rattle.named_proofs.specs.Written.{SinkView as NeededView}
+use Rattle.pruned_texts.specs.declared.needing.Part.{Part}
+use Rattle.pruned_texts.specs.declared.needing.End.{End as NeededEnd}
+use Rattle.pruned_texts.specs.declared.needing.End.TheVariants as needed_end
+use Rattle.pruned_texts.specs.Ending.{EndsSo as NeededEndsSo}
+use Rattle.carcara_cli.specs.Finishing.{EndsBy, IsFinished, TextsComeTo, WritesOwn, BeginsOwn, ends_as}
+use Rattle.carcara_cli.specs.Outcomes.{Outcome, printed, status_of_outcome, text_of_outcome}
+use Rattle.carcara_cli.specs.OwnTexts.{Own, elaboration, needed, IsOwnText}
 use Rattle.carcara_cli.specs.Printed.{status_of, text_of}
 use Rattle.carcara_cli.proofs.OneAnswer.{printed_or}
 
-module _ (problem : List ℕ) (options : Options) (proof : List ℕ) (bits : ℕ) (first middle last : SinkView) where
+module _ (own : Own) (problem : List ℕ) (options : Options) (proof : List ℕ) (bits : ℕ) (first middle last : SinkView) where
   -- an answer was printed where nothing was written before
-  pub said : (o : Outcome) (a : Answer) (status : ℕ) → middle ≡ first → TextsComeTo problem options proof bits o → status_of_outcome o ≡ status_of a
+  pub said : (o : Outcome) (a : Answer) (status : ℕ) → middle ≡ first → TextsComeTo own problem options proof bits o → status_of_outcome o ≡ status_of a
       → text_of_outcome o ≡ text_of a
       → (status ≢ 6 → status ≢ 7 → (status ≡ status_of a) × Appends middle.written last.written (text_of a))
       → ((status ≡ 6) ⊎ (status ≡ 7) → AppendsPrefix middle.written last.written (text_of a))
-      → (status ≡ 6 → HasRisen middle.faults last.faults) → IsFinished problem options proof bits first last status
+      → (status ≡ 6 → HasRisen middle.faults last.faults) → IsFinished own problem options proof bits first last status
   said o a status same is names texts whole prefix failed =
       let old : middle.written ≡ first.written = ap (λ (x : SinkView). x.written) same in
       let faults : middle.faults ≡ first.faults = ap (λ (x : SinkView). x.faults) same in
@@ -46,7 +52,7 @@ module _ (problem : List ℕ) (options : Options) (proof : List ℕ) (bits : ℕ
         failed = λ six. subst (λ z. HasRisen z last.faults) faults (failed six);
       }
 
-module _ (problem : List ℕ) (options : Options) (proof : List ℕ) (bits : ℕ) (first last : SinkView) where
+module _ (own : Own) (problem : List ℕ) (options : Options) (proof : List ℕ) (bits : ℕ) (first last : SinkView) where
   not_six : (status : ℕ) → (status ≡ 0) ⊎ (status ≡ 2) → status ≢ 6
   not_six status (inl e) six = omega (arith, e, six)
   not_six status (inr e) six = omega (arith, e, six)
@@ -55,32 +61,36 @@ module _ (problem : List ℕ) (options : Options) (proof : List ℕ) (bits : ℕ
   not_seven status (inl e) seven = omega (arith, e, seven)
   not_seven status (inr e) seven = omega (arith, e, seven)
 
-  -- nothing more is printed behind an elaboration
-  pub finished : (e : End) (status : ℕ) → EndsSo problem options proof bits first last e
+  own_or : (which : Own) (status : ℕ) (text : List ℕ) → IsOwnText which problem options proof status text → (status ≡ 0) ⊎ (status ≡ 2)
+  own_or elaboration status text h = printed_or h.verdict status h.is_status
+  own_or (needed part) status text h = inl h.0
+
+  -- nothing more is printed behind a text of its own
+  pub finished : (e : End) (status : ℕ) → EndsBy own problem options proof bits first last e
       → (e ≡ end.Written status) ⊎ ((e ≡ end.Failed) × (status ≡ 6)) ⊎ ((e ≡ end.Memory) × (status ≡ 7))
-      → IsFinished problem options proof bits first last status
+      → IsFinished own problem options proof bits first last status
   finished e status h (inl is) =
-      let w = subst (EndsSo problem options proof bits first last) is h in
-      let or = printed_or w.is.verdict status w.is.is_status in record {
+      let w : WritesOwn own problem options proof status first.written last.written = subst (EndsBy own problem options proof bits first last) is h in
+      let or = own_or own status w.text w.is in record {
         printed = record {
-          whole = λ x y. record { outcome = elaborated status w.text; may_come = w.is; is_status = refl; printed = w.printed };
+          whole = λ x y. record { outcome = printed status w.text; may_come = w.is; is_status = refl; printed = w.printed };
           write_fault = λ six. absurd (not_six status or six);
           memory = λ seven. absurd (not_seven status or seven);
         };
         failed = λ six. absurd (not_six status or six);
       }
   finished e status h (inr (inl is)) =
-      let w = subst (EndsSo problem options proof bits first last) is.0 h in record {
+      let w = subst (EndsBy own problem options proof bits first last) is.0 h in record {
         printed = record {
           whole = λ x y. absurd (x is.1);
-          write_fault = λ six. record { outcome = elaborated w.1.status w.1.text; may_come = w.1.is; printed = w.1.printed };
+          write_fault = λ six. record { outcome = printed w.1.status w.1.text; may_come = w.1.is; printed = w.1.printed };
           memory = λ seven. absurd (omega (arith, is.1, seven));
         };
         failed = λ six. w.0;
       }
-  finished e status h (inr (inr is)) = go (subst (EndsSo problem options proof bits first last) is.0 h)
+  finished e status h (inr (inr is)) = go (subst (EndsBy own problem options proof bits first last) is.0 h)
     where
-      go : EndsSo problem options proof bits first last end.Memory → IsFinished problem options proof bits first last status
+      go : EndsBy own problem options proof bits first last end.Memory → IsFinished own problem options proof bits first last status
       go (inl same) = record {
         printed = record { whole = λ x y. absurd (y is.1); write_fault = λ six. absurd (omega (arith, is.1, six)); memory = λ seven. inr same };
         failed = λ six. absurd (omega (arith, is.1, six));
@@ -89,7 +99,32 @@ module _ (problem : List ℕ) (options : Options) (proof : List ℕ) (bits : ℕ
         printed = record {
           whole = λ x y. absurd (y is.1);
           write_fault = λ six. absurd (omega (arith, is.1, six));
-          memory = λ seven. inl (record { outcome = elaborated w.status w.text; may_come = w.is; printed = w.printed });
+          memory = λ seven. inl (record { outcome = printed w.status w.text; may_come = w.is; printed = w.printed });
         };
         failed = λ six. absurd (omega (arith, is.1, six));
       }
+
+-- the ends of an elaboration, and of what is needed, in these words
+module _ (problem : List ℕ) (options : Options) (proof : List ℕ) (bits : ℕ) (first last : SinkView) where
+  pub ends_by : (e : End) → EndsSo problem options proof bits first last e → EndsBy elaboration problem options proof bits first last e
+  ends_by (end.Instead j) h = h
+  ends_by end.LeftOut h = h
+  ends_by (end.Written status) h = record { text = h.text; is = h.is; printed = h.printed }
+  ends_by end.Failed h = (h.0, record { status = h.1.status; text = h.1.text; is = h.1.is; printed = h.1.printed })
+  ends_by end.Memory (inl same) = inl same
+  ends_by end.Memory (inr w) = inr (record { status = w.status; text = w.text; is = w.is; printed = w.printed })
+
+module _ (part : Part) (problem : List ℕ) (options : Options) (proof : List ℕ) (bits : ℕ) (first last : SinkView) where
+  abbrev view : SinkView → NeededView
+  view x = record { written = x.written; faults = x.faults }
+
+  abbrev sink : NeededView → SinkView
+  sink x = record { written = x.written; faults = x.faults }
+
+  pub needed_ends_by : (e : NeededEnd) → NeededEndsSo part problem options proof bits (view first) (view last) e
+      → EndsBy (needed part) problem options proof bits first last (ends_as e)
+  needed_ends_by (needed_end.Instead j) h = (ap sink h.0, h.1)
+  needed_ends_by needed_end.Written h = record { text = h.text; is = (refl, h.is); printed = h.printed }
+  needed_ends_by needed_end.Failed h = (h.0, record { status = 0; text = h.1.text; is = (refl, h.1.is); printed = h.1.printed })
+  needed_ends_by needed_end.Memory (inl same) = inl same
+  needed_ends_by needed_end.Memory (inr w) = inr (record { status = 0; text = w.text; is = (refl, w.is); printed = w.printed })

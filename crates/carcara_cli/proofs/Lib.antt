@@ -1,5 +1,6 @@
 mod AnswerLemmas
 mod OneAnswer
 mod Outcomes
+mod Exact
 mod Finishing
 mod FilesInstead

@@ -1,6 +1,6 @@
 -- The words and the files define one answer.
 use Rattle.std.proofs.Common.{◌≡◌, ◌≢◌, ◌⊎◌, inl, inr, ◌≤◌, ℕ, suc, List, [], ◌∷◌, ◌++◌, Bool, map, length, slice_get, Option, Some, None, refl, sym, ◌∙◌, ap, subst, arith}
-use Rattle.std.specs.Prelude.{codes}
+use Rattle.std.specs.Prelude.{codes, decimal}
 use Rattle.std.specs.Io.KnownBytes.{Appends}
 use Rattle.std.specs.List.{flat_map}
 use Rattle.sexpr.specs.declared.causes.Refusal.{Refusal}
@@ -10,6 +10,7 @@ use Rattle.rule_model.specs.declared.statuses.Status.{Status}
 use Rattle.rule_model.specs.declared.statuses.Verdict.{Verdict}
 use Rattle.rule_model.specs.Proofs.{ProofItems}
 use Rattle.rule_model.specs.Reading.{id_at}
+use Rattle.rule_model.specs.Scopes.{commands_in}
 use Rattle.rule_model.specs.Statuses.{Checking, IsStatusAt, AreStatuses, IsVerdict}
 use Rattle.problem_text.specs.Problems.{StandsForProblem, IsFirstFault}
 use Rattle.problem_text.specs.Scripts.{Script}
@@ -17,24 +18,30 @@ use Rattle.alethe_text.specs.ProofTexts.{StandsForProof, IsFirstProofFault}
 use Rattle.alethe_text.specs.States.{ProofSettings}
 use Rattle.command_words.specs.declared.request.Options.{Options}
 use Rattle.command_words.specs.CommandLine.{Asked}
-use Rattle.command_words.specs.declared.request.Command.{Command}
-use Rattle.command_words.specs.declared.request.Command.TheVariants.{Check, Elaborate}
 use Rattle.carcara_cli.specs.declared.answer.Answer.{Answer}
 use Rattle.carcara_cli.specs.declared.answer.Answer.TheVariants.{Usage, ReadFault, TooLong, Judged}
 use Rattle.judged_texts.specs.declared.judgement.Hole as code
 use Rattle.judged_texts.specs.declared.judgement.Judgement.{Judgement}
 use Rattle.judged_texts.specs.declared.judgement.Judgement.TheVariants.{Valid, Holey, NoEmptyClause, Faulty, TooWide, RefusedProblem, RefusedProof, PoolFull}
-use Rattle.elaborated_texts.specs.Elaborated.{IsElaboratedText, IsJudgementInstead, IsLeftOutText, IsStatusOfPrinted}
-use Rattle.carcara_cli.specs.Exactness.{IsDefinedAnswer, IsElaboratedAs, IsExact, IsSaidBy, IsSaidInstead, IsSaidTo, SaySame}
+use Rattle.elaborated_texts.specs.Elaborated.{IsElaboratedText, IsLeftOutText, IsStatusOfPrinted}
+use Rattle.pruned_texts.specs.declared.needing.Part.{Part}
+use Rattle.pruned_texts.specs.declared.needing.Part.TheVariants as part
+use Rattle.pruned_texts.specs.Needed.{IsNeededText}
+use Rattle.generated_texts.specs.declared.summarizing.Summary.{Summary}
+use Rattle.generated_texts.specs.Cells.{HasCells}
+use Rattle.generated_texts.specs.Standing.{standing_in}
+use Rattle.generated_texts.specs.Summaries.{IsOfProof, IsSummary, text_of_summary}
+use Rattle.carcara_cli.specs.OwnTexts.{Own, elaboration, needed, IsLeftOutBy, IsOwnText, IsSaidInsteadBy}
+use Rattle.carcara_cli.specs.Exactness.{IsDefinedAnswer, IsElaboratedAs, IsSaidByOwn, IsSaidOfElaborated, IsSaidOfNeeded, SaySame}
 use Rattle.judged_texts.specs.Holes.{Hole, holes_from, told_hole}
 use Rattle.judged_texts.specs.Judgement.{IsCheckedAs, IsJudgement}
+use Rattle.judged_texts.specs.Texts.{IsNotRead}
 use Rattle.judged_texts.specs.Printed.{line_end, text_of_step_cause, step_text, hole_line, refusal_text, text_of_judgement, status_of_judgement}
 use Rattle.carcara_cli.specs.Printed.{status_of, text_of}
-use Rattle.carcara_cli.specs.Outcomes.{Outcome, answered, left_out, elaborated, status_of_outcome, text_of_outcome}
+use Rattle.carcara_cli.specs.Outcomes.{Outcome, answered, left_out, printed, status_of_outcome, text_of_outcome}
 use Rattle.judged_texts.specs.Reading.{checking_of, settings_of}
 use Rattle.judged_texts.specs.Reading.{most_bytes}
-use Rattle.carcara_cli.specs.TopCall.{IsTooLong, IsJudgedOfFiles, IsAnswerInstead, IsAnswerTo, IsOfFiles, IsOutcomeTo, IsPrinted}
-use Rattle.carcara_cli.specs.TopCall.{ElaboratesTo, ComesTo}
+use Rattle.carcara_cli.specs.TopCall.{IsTooLong, IsJudgedOfFiles, IsAnswerInstead, IsAnswerTo, IsOfFiles, OwnTo}
 
 same_lists : (ss zs : List Status) → length ss ≡ length zs → ((i : ℕ) (s z : Status) → slice_get ss i ≡ Some s → slice_get zs i ≡ Some z → s ≡ z) → ss ≡ zs
 same_lists [] [] e h = refl
@@ -103,24 +110,38 @@ printed_or Verdict.NoEmpty status e = absurd e
 printed_or (Verdict.InvalidAt i cause) status e = absurd e
 printed_or (Verdict.Unknown i) status e = absurd e
 
-never_judged : (problem : List ℕ) (options : Options) (proof : List ℕ) (bits : ℕ) (j : Judgement) → IsJudgementInstead problem options proof bits j
-    → (status_of_judgement j ≡ 0) ⊎ (status_of_judgement j ≡ 2) → ⊥
-never_judged problem options proof bits Valid h is = absurd h
-never_judged problem options proof bits (Holey holes) h is = absurd h
-never_judged problem options proof bits NoEmptyClause h is = neither_status 1 (λ x. omega (arith, x)) (λ x. omega (arith, x)) is
-never_judged problem options proof bits (Faulty id cause) h is = neither_status 1 (λ x. omega (arith, x)) (λ x. omega (arith, x)) is
-never_judged problem options proof bits (TooWide id) h is = neither_status 4 (λ x. omega (arith, x)) (λ x. omega (arith, x)) is
-never_judged problem options proof bits (RefusedProblem r) h is = neither_status 3 (λ x. omega (arith, x)) (λ x. omega (arith, x)) is
-never_judged problem options proof bits (RefusedProof r) h is = neither_status 3 (λ x. omega (arith, x)) (λ x. omega (arith, x)) is
-never_judged problem options proof bits PoolFull h is = neither_status 8 (λ x. omega (arith, x)) (λ x. omega (arith, x)) is
+-- the statuses with which a text of its own is printed
+abbrev pub IsOwnStatus : Own → ℕ → Type 0
+IsOwnStatus elaboration n = (n ≡ 0) ⊎ (n ≡ 2)
+IsOwnStatus (needed part) n = n ≡ 0
 
--- what is said instead has not the status of a proof that is printed
-pub never_printed : (bits : ℕ) (content : List ℕ → Option (List ℕ)) (before after : ℕ) (p : Asked) (b : Answer) → IsAnswerInstead bits content before after p b
-    → (status_of b ≡ 0) ⊎ (status_of b ≡ 2) → ⊥
-never_printed bits content before after p (Judged j) h is = never_judged h.problem_text p.options h.proof_text bits j h.is is
-never_printed bits content before after p Usage h is = absurd h
-never_printed bits content before after p ReadFault h is = neither_status 5 (λ x. omega (arith, x)) (λ x. omega (arith, x)) is
-never_printed bits content before after p TooLong h is = neither_status 9 (λ x. omega (arith, x)) (λ x. omega (arith, x)) is
+not_own : (own : Own) (n : ℕ) → n ≢ 0 → n ≢ 2 → IsOwnStatus own n → ⊥
+not_own elaboration n zero two is = neither_status n zero two is
+not_own (needed part) n zero two is = zero is
+
+never_valid : (own : Own) (problem : List ℕ) (options : Options) (proof : List ℕ) (bits : ℕ) → IsSaidInsteadBy own problem options proof bits Valid → ⊥
+never_valid elaboration problem options proof bits h = h
+never_valid (needed part) problem options proof bits h = h
+
+never_judged : (own : Own) (problem : List ℕ) (options : Options) (proof : List ℕ) (bits : ℕ) (j : Judgement) → IsSaidInsteadBy own problem options proof bits j
+    → IsOwnStatus own (status_of_judgement j) → ⊥
+never_judged own problem options proof bits Valid h is = never_valid own problem options proof bits h
+never_judged elaboration problem options proof bits (Holey holes) h is = absurd h
+never_judged (needed part) problem options proof bits (Holey holes) h is = omega (arith, is)
+never_judged own problem options proof bits NoEmptyClause h is = not_own own 1 (λ x. omega (arith, x)) (λ x. omega (arith, x)) is
+never_judged own problem options proof bits (Faulty id cause) h is = not_own own 1 (λ x. omega (arith, x)) (λ x. omega (arith, x)) is
+never_judged own problem options proof bits (TooWide id) h is = not_own own 4 (λ x. omega (arith, x)) (λ x. omega (arith, x)) is
+never_judged own problem options proof bits (RefusedProblem r) h is = not_own own 3 (λ x. omega (arith, x)) (λ x. omega (arith, x)) is
+never_judged own problem options proof bits (RefusedProof r) h is = not_own own 3 (λ x. omega (arith, x)) (λ x. omega (arith, x)) is
+never_judged own problem options proof bits PoolFull h is = not_own own 8 (λ x. omega (arith, x)) (λ x. omega (arith, x)) is
+
+-- what is said instead has not the status of a text that is printed
+pub never_printed : (own : Own) (bits : ℕ) (content : List ℕ → Option (List ℕ)) (before after : ℕ) (p : Asked) (b : Answer)
+    → IsAnswerInstead own bits content before after p b → IsOwnStatus own (status_of b) → ⊥
+never_printed own bits content before after p (Judged j) h is = never_judged own h.problem_text p.options h.proof_text bits j h.is is
+never_printed own bits content before after p Usage h is = absurd h
+never_printed own bits content before after p ReadFault h is = not_own own 5 (λ x. omega (arith, x)) (λ x. omega (arith, x)) is
+never_printed own bits content before after p TooLong h is = not_own own 9 (λ x. omega (arith, x)) (λ x. omega (arith, x)) is
 
 -- of files that are told
 told_files : (x y : Option (List ℕ)) (problem proof : List ℕ) (Is : List ℕ → List ℕ → Type 0) → x ≡ Some problem → y ≡ Some proof → IsOfFiles x y Is
@@ -231,15 +252,21 @@ module _
         → j ≢ PoolFull → status_of_judgement j ≡ verdict_status v
     verdict_agrees bits j v checked h room = (one_coming _ _ _ _ (comes bits j h room) (by_verdict v checked refl refl)).0
 
-    instead_is : (bits : ℕ) (j : Judgement) → IsJudgementInstead problem options proof bits j → j ≢ PoolFull → IsJudgement problem options proof bits j
-    instead_is bits Valid h room = absurd h
-    instead_is bits (Holey holes) h room = absurd h
-    instead_is bits NoEmptyClause h room = h
-    instead_is bits (Faulty id cause) h room = h
-    instead_is bits (TooWide id) h room = h
-    instead_is bits (RefusedProblem r) h room = h
-    instead_is bits (RefusedProof r) h room = h
-    instead_is bits PoolFull h room = absurd (room refl)
+    instead_is : (own : Own) (bits : ℕ) (j : Judgement) → IsSaidInsteadBy own problem options proof bits j → j ≢ PoolFull → IsJudgement problem options proof bits j
+    instead_is own bits Valid h room = absurd (never_valid own problem options proof bits h)
+    instead_is elaboration bits (Holey holes) h room = absurd h
+    instead_is (needed part) bits (Holey holes) h room = h
+    instead_is elaboration bits NoEmptyClause h room = h
+    instead_is (needed part) bits NoEmptyClause h room = h
+    instead_is elaboration bits (Faulty id cause) h room = h
+    instead_is (needed part) bits (Faulty id cause) h room = h
+    instead_is elaboration bits (TooWide id) h room = h
+    instead_is (needed part) bits (TooWide id) h room = h
+    instead_is elaboration bits (RefusedProblem r) h room = h
+    instead_is (needed part) bits (RefusedProblem r) h room = h
+    instead_is elaboration bits (RefusedProof r) h room = h
+    instead_is (needed part) bits (RefusedProof r) h room = h
+    instead_is own bits PoolFull h room = absurd (room refl)
 
   -- the judgement of two files whose bytes are told
   module _ (bits : ℕ) (options : Options) (problem proof : List ℕ) where
@@ -271,19 +298,18 @@ module _
   one_of_files bits options (Some problem) None a b told told' h k room room' = absurd (told' refl)
   one_of_files bits options (Some problem) (Some proof) a b told told' h k room room' = one_of_told bits options problem proof a b h k room room'
 
-  -- the words and the files define one answer, as far as it is printed
-  pub one_answer : (bits : ℕ) (content : List ℕ → Option (List ℕ)) (asked : Option Asked) (a b : Answer)
-      → IsDefinedAnswer bits content asked a → IsDefinedAnswer bits content asked b → SaySame a b
-  one_answer bits content None a b h k = rw (h.answers, k.answers) (record { status = refl; text = refl })
-  one_answer bits content (Some p) a b h k =
+  -- the files define one answer, as far as it is printed
+  pub one_answer : (bits : ℕ) (content : List ℕ → Option (List ℕ)) (p : Asked) (a b : Answer)
+      → IsDefinedAnswer bits content p a → IsDefinedAnswer bits content p b → SaySame a b
+  one_answer bits content p a b h k =
       one_of_files bits p.options (content p.problem) (content p.proof) a b h.told.0 h.told.1
       (read_both bits content p a h.answers) (read_both bits content p b k.answers) h.has_room k.has_room
 
-  -- what a check of told files says, and what an elaboration of them says
+  -- what a check of told files says, and what is said where a text of its own is printed of some
   module _ (bits : ℕ) (content : List ℕ → Option (List ℕ)) (p : Asked) (old new : Option (List ℕ)) where
     -- where an elaboration is printed, or the proof is left out
     of_status : (j : Judgement) (expected status : ℕ) → status_of_judgement j ≡ expected → (expected ≡ 0) ⊎ (expected ≡ 2)
-        → IsElaboratedAs expected content p old new status → IsSaidInstead content p (Judged j) old new status
+        → IsElaboratedAs expected content p old new status → IsSaidOfElaborated content p (Judged j) old new status
     of_status Valid expected status e is h = rw (sym e) at h
     of_status (Holey holes) expected status e is h = rw (sym e) at h
     of_status NoEmptyClause expected status e is h = absurd (neither_status 1 (λ x. omega (arith, x)) (λ x. omega (arith, x)) (rw (← e) at is))
@@ -296,7 +322,7 @@ module _
     module _ (problem proof : List ℕ) (first : content p.problem ≡ Some problem) (second : content p.proof ≡ Some proof) where
       by_check : (v : Verdict) (expected status : ℕ) → IsStatusOfPrinted v expected → IsCheckedAs problem p.options proof v → length problem ≤ most_bytes
           → length proof ≤ most_bytes → (a : Answer) → IsAnswerOf bits p.options (Some problem) (Some proof) a → a ≢ Judged PoolFull
-          → IsElaboratedAs expected content p old new status → IsSaidInstead content p a old new status
+          → IsElaboratedAs expected content p old new status → IsSaidOfElaborated content p a old new status
       by_check v expected status is checked small low (Judged j) h room printed =
           of_status j expected status
           (verdict_agrees problem p.options proof bits j v checked (of_told bits p.options problem proof j h) (λ e. room (ap Judged e))
@@ -307,9 +333,34 @@ module _
       by_check v expected status is checked small low Usage h room printed = absurd h
       by_check v expected status is checked small low ReadFault h room printed = absurd h
 
+      -- where what a valid proof needs is printed
+      of_valid : (j : Judgement) (status : ℕ) → status_of_judgement j ≡ 0 → status ≡ 0 → IsSaidOfNeeded (Judged j) old new status
+      of_valid Valid status e zero = zero
+      of_valid (Holey holes) status e zero = absurd (omega (arith, e))
+      of_valid NoEmptyClause status e zero = absurd (omega (arith, e))
+      of_valid (Faulty id cause) status e zero = absurd (omega (arith, e))
+      of_valid (TooWide id) status e zero = absurd (omega (arith, e))
+      of_valid (RefusedProblem r) status e zero = absurd (omega (arith, e))
+      of_valid (RefusedProof r) status e zero = absurd (omega (arith, e))
+      of_valid PoolFull status e zero = absurd (omega (arith, e))
+
+      by_valid : (status : ℕ) → status ≡ 0 → IsCheckedAs problem p.options proof Verdict.Valid → length problem ≤ most_bytes → length proof ≤ most_bytes
+          → (a : Answer) → IsAnswerOf bits p.options (Some problem) (Some proof) a → a ≢ Judged PoolFull → IsSaidOfNeeded a old new status
+      unfolding verdict_status
+      by_valid status zero checked small low (Judged j) h room =
+          of_valid j status (verdict_agrees problem p.options proof bits j Verdict.Valid checked (of_told bits p.options problem proof j h) (λ e. room (ap Judged e))) zero
+      by_valid status zero checked small low TooLong (inl longer) room = absurd (omega (arith, small, longer))
+      by_valid status zero checked small low TooLong (inr both) room = absurd (omega (arith, low, both.1))
+      by_valid status zero checked small low Usage h room = absurd h
+      by_valid status zero checked small low ReadFault h room = absurd h
+
+      valid_of : (part : Part) (text : List ℕ) → IsNeededText part problem p.options proof text → IsCheckedAs problem p.options proof Verdict.Valid
+      valid_of part.Core text h = h.refutation.checked
+      valid_of part.Commands text h = h.refutation.checked
+
       -- what is said instead is said by a check
-      answer_of : (b : Answer) → IsAnswerInstead bits content 0 0 p b → b ≢ Judged PoolFull → IsAnswerOf bits p.options (Some problem) (Some proof) b
-      answer_of (Judged j) h room =
+      answer_of : (own : Own) (b : Answer) → IsAnswerInstead own bits content 0 0 p b → b ≢ Judged PoolFull → IsAnswerOf bits p.options (Some problem) (Some proof) b
+      answer_of own (Judged j) h room =
           record {
             problem_text = h.problem_text;
             proof_text = h.proof_text;
@@ -317,109 +368,117 @@ module _
             proof_told = rw second at h.proof_told;
             problem_within = h.problem_within;
             proof_within = h.proof_within;
-            judged = instead_is h.problem_text p.options h.proof_text bits j h.is (λ e. room (ap Judged e));
+            judged = instead_is h.problem_text p.options h.proof_text own bits j h.is (λ e. room (ap Judged e));
           }
-      answer_of TooLong h room = let told : IsTooLong (Some problem) (Some proof) = rw (first, second) at h in told
-      answer_of ReadFault h room = absurd (omega (arith, h))
-      answer_of Usage h room = absurd h
+      answer_of own TooLong h room = let told : IsTooLong (Some problem) (Some proof) = rw (first, second) at h in told
+      answer_of own ReadFault h room = absurd (omega (arith, h))
+      answer_of own Usage h room = absurd h
 
-      same_said : (a b : Answer) → IsAnswerInstead bits content 0 0 p b → SaySame b a → Appends old new (text_of b)
-          → IsSaidInstead content p a old new (status_of b)
-      same_said (Judged Valid) b h same text = absurd (never_printed bits content 0 0 p b h (inl same.status))
-      same_said (Judged (Holey holes)) b h same text = absurd (never_printed bits content 0 0 p b h (inr same.status))
-      same_said (Judged NoEmptyClause) b h same text = (same.status, subst (Appends old new) same.text text)
-      same_said (Judged (Faulty id cause)) b h same text = (same.status, subst (Appends old new) same.text text)
-      same_said (Judged (TooWide id)) b h same text = (same.status, subst (Appends old new) same.text text)
-      same_said (Judged (RefusedProblem r)) b h same text = (same.status, subst (Appends old new) same.text text)
-      same_said (Judged (RefusedProof r)) b h same text = (same.status, subst (Appends old new) same.text text)
-      same_said (Judged PoolFull) b h same text = (same.status, subst (Appends old new) same.text text)
-      same_said Usage b h same text = (same.status, subst (Appends old new) same.text text)
-      same_said ReadFault b h same text = (same.status, subst (Appends old new) same.text text)
-      same_said TooLong b h same text = (same.status, subst (Appends old new) same.text text)
+      same_valid : (own : Own) (b : Answer) → IsAnswerInstead own bits content 0 0 p b → status_of b ≡ 0 → ⊥
+      same_valid elaboration b h e = never_printed elaboration bits content 0 0 p b h (inl e)
+      same_valid (needed part) b h e = never_printed (needed part) bits content 0 0 p b h e
 
-      said_of : (a : Answer) → IsAnswerOf bits p.options (Some problem) (Some proof) a → a ≢ Judged PoolFull → (o : Outcome) → ElaboratesTo bits content 0 0 p o
-          → o ≢ answered (Judged PoolFull) → Appends old new (text_of_outcome o) → IsSaidInstead content p a old new (status_of_outcome o)
-      said_of a h room (answered b) k other text =
-          same_said a b k (one_of_told bits p.options problem proof b a (answer_of b k (λ e. other (ap answered e))) h (λ e. other (ap answered e)) room) text
-      said_of a h room left_out k other text =
+      same_said : (own : Own) (a b : Answer) → IsAnswerInstead own bits content 0 0 p b → SaySame b a → Appends old new (text_of b)
+          → IsSaidByOwn own content p a old new (status_of b)
+      same_said own (Judged Valid) b h same text = absurd (same_valid own b h same.status)
+      same_said elaboration (Judged (Holey holes)) b h same text = absurd (never_printed elaboration bits content 0 0 p b h (inr same.status))
+      same_said (needed part) (Judged (Holey holes)) b h same text = (same.status, subst (Appends old new) same.text text)
+      same_said elaboration (Judged NoEmptyClause) b h same text = (same.status, subst (Appends old new) same.text text)
+      same_said (needed part) (Judged NoEmptyClause) b h same text = (same.status, subst (Appends old new) same.text text)
+      same_said elaboration (Judged (Faulty id cause)) b h same text = (same.status, subst (Appends old new) same.text text)
+      same_said (needed part) (Judged (Faulty id cause)) b h same text = (same.status, subst (Appends old new) same.text text)
+      same_said elaboration (Judged (TooWide id)) b h same text = (same.status, subst (Appends old new) same.text text)
+      same_said (needed part) (Judged (TooWide id)) b h same text = (same.status, subst (Appends old new) same.text text)
+      same_said elaboration (Judged (RefusedProblem r)) b h same text = (same.status, subst (Appends old new) same.text text)
+      same_said (needed part) (Judged (RefusedProblem r)) b h same text = (same.status, subst (Appends old new) same.text text)
+      same_said elaboration (Judged (RefusedProof r)) b h same text = (same.status, subst (Appends old new) same.text text)
+      same_said (needed part) (Judged (RefusedProof r)) b h same text = (same.status, subst (Appends old new) same.text text)
+      same_said elaboration (Judged PoolFull) b h same text = (same.status, subst (Appends old new) same.text text)
+      same_said (needed part) (Judged PoolFull) b h same text = (same.status, subst (Appends old new) same.text text)
+      same_said elaboration Usage b h same text = (same.status, subst (Appends old new) same.text text)
+      same_said (needed part) Usage b h same text = (same.status, subst (Appends old new) same.text text)
+      same_said elaboration ReadFault b h same text = (same.status, subst (Appends old new) same.text text)
+      same_said (needed part) ReadFault b h same text = (same.status, subst (Appends old new) same.text text)
+      same_said elaboration TooLong b h same text = (same.status, subst (Appends old new) same.text text)
+      same_said (needed part) TooLong b h same text = (same.status, subst (Appends old new) same.text text)
+
+      said_of : (own : Own) (a : Answer) → IsAnswerOf bits p.options (Some problem) (Some proof) a → a ≢ Judged PoolFull → (o : Outcome)
+          → OwnTo own bits content 0 0 p o → o ≢ answered (Judged PoolFull) → Appends old new (text_of_outcome o)
+          → IsSaidByOwn own content p a old new (status_of_outcome o)
+      said_of own a h room (answered b) k other text =
+          same_said own a b k (one_of_told bits p.options problem proof b a (answer_of own b k (λ e. other (ap answered e))) h (λ e. other (ap answered e)) room) text
+      said_of elaboration a h room left_out k other text =
           let all : IsLeftOutText problem p.options proof × (length problem ≤ most_bytes) × (length proof ≤ most_bytes) =
           told_files (content p.problem) (content p.proof) problem proof (λ x y. IsLeftOutText x p.options y) first second k in
           by_check all.0.verdict all.0.status 3 all.0.passes all.0.checked all.1 all.2 a h room (inr (k, (refl, text)))
-      said_of a h room (elaborated status bytes) k other text =
+      said_of (needed part) a h room left_out k other text = absurd k.is
+      said_of elaboration a h room (printed status bytes) k other text =
           let all : IsElaboratedText problem p.options proof status bytes × (length problem ≤ most_bytes) × (length proof ≤ most_bytes) =
           told_files (content p.problem) (content p.proof) problem proof (λ x y. IsElaboratedText x p.options y status bytes) first second k in
           by_check all.0.verdict status status all.0.is_status all.0.checked all.1 all.2 a h room (inl refl)
+      said_of (needed part) a h room (printed status bytes) k other text =
+          let all : IsOwnText (needed part) problem p.options proof status bytes × (length problem ≤ most_bytes) × (length proof ≤ most_bytes) =
+          told_files (content p.problem) (content p.proof) problem proof (λ x y. IsOwnText (needed part) x p.options y status bytes) first second k in
+          by_valid status all.0.0 (valid_of part bytes all.0.1) all.1 all.2 a h room
 
-    from_told : (x y : Option (List ℕ)) → content p.problem ≡ x → content p.proof ≡ y → x ≢ None → y ≢ None → (a : Answer) → IsAnswerOf bits p.options x y a
-        → a ≢ Judged PoolFull → (o : Outcome) → ElaboratesTo bits content 0 0 p o → o ≢ answered (Judged PoolFull) → Appends old new (text_of_outcome o)
-        → IsSaidInstead content p a old new (status_of_outcome o)
-    from_told None y first second told told' a h = absurd (told refl)
-    from_told (Some problem) None first second told told' a h = absurd (told' refl)
-    from_told (Some problem) (Some proof) first second told told' a h = said_of problem proof first second a h
+    from_told : (own : Own) (x y : Option (List ℕ)) → content p.problem ≡ x → content p.proof ≡ y → x ≢ None → y ≢ None → (a : Answer)
+        → IsAnswerOf bits p.options x y a → a ≢ Judged PoolFull → (o : Outcome) → OwnTo own bits content 0 0 p o → o ≢ answered (Judged PoolFull)
+        → Appends old new (text_of_outcome o) → IsSaidByOwn own content p a old new (status_of_outcome o)
+    from_told own None y first second told told' a h = absurd (told refl)
+    from_told own (Some problem) None first second told told' a h = absurd (told' refl)
+    from_told own (Some problem) (Some proof) first second told told' a h = said_of problem proof first second own a h
 
-  pub elaboration_says : (bits : ℕ) (content : List ℕ → Option (List ℕ)) (p : Asked) (a : Answer) (o : Outcome) (old new : Option (List ℕ))
-      → IsDefinedAnswer bits content (Some p) a → ElaboratesTo bits content 0 0 p o → o ≢ answered (Judged PoolFull) → Appends old new (text_of_outcome o)
-      → IsSaidInstead content p a old new (status_of_outcome o)
-  elaboration_says bits content p a o old new h =
-      from_told bits content p old new (content p.problem) (content p.proof) refl refl h.told.0 h.told.1 a (read_both bits content p a h.answers) h.has_room o
+  pub own_text_says : (own : Own) (bits : ℕ) (content : List ℕ → Option (List ℕ)) (p : Asked) (a : Answer) (o : Outcome) (old new : Option (List ℕ))
+      → IsDefinedAnswer bits content p a → OwnTo own bits content 0 0 p o → o ≢ answered (Judged PoolFull) → Appends old new (text_of_outcome o)
+      → IsSaidByOwn own content p a old new (status_of_outcome o)
+  own_text_says own bits content p a o old new h =
+      from_told bits content p old new own (content p.problem) (content p.proof) refl refl h.told.0 h.told.1 a (read_both bits content p a h.answers) h.has_room o
 
-abbrev pub DefineOneAnswer : Type 0
-DefineOneAnswer =
-    (bits : ℕ) (content : List ℕ → Option (List ℕ)) (asked : Option Asked) (a b : Answer)
-    → IsDefinedAnswer bits content asked a → IsDefinedAnswer bits content asked b → SaySame a b
+  -- where there is a summary, neither text is refused
+  pub only_full : (problem : List ℕ) (options : Options) (proof : List ℕ) (bits : ℕ) (s : Summary) (j : Judgement) → IsSummary problem options proof s
+      → IsNotRead problem options proof bits j → j ≡ PoolFull
+  only_full problem options proof bits s (RefusedProblem r) h k = absurd (not_both problem options.replaces_lets h.script r h.problem_stands k)
+  only_full problem options proof bits s (RefusedProof r) h k =
+      absurd (not_both_proof proof (settings_of options) k.0 h.commands h.after r
+      (subst (λ b. StandsForProof proof (settings_of options) b h.commands h.after) (one_script problem options.replaces_lets h.script k.0 h.problem_stands k.1) h.proof_stands) k.2)
+  only_full problem options proof bits s PoolFull h k = refl
+  only_full problem options proof bits s Valid h k = absurd k
+  only_full problem options proof bits s (Holey holes) h k = absurd k
+  only_full problem options proof bits s NoEmptyClause h k = absurd k
+  only_full problem options proof bits s (Faulty id cause) h k = absurd k
+  only_full problem options proof bits s (TooWide id) h k = absurd k
 
-abbrev pub SayWhatChecksSay : Type 0
-SayWhatChecksSay =
-    (bits : ℕ) (content : List ℕ → Option (List ℕ)) (p : Asked) (a : Answer) (o : Outcome) (old new : Option (List ℕ))
-    → IsDefinedAnswer bits content (Some p) a → ElaboratesTo bits content 0 0 p o → o ≢ answered (Judged PoolFull) → Appends old new (text_of_outcome o)
-    → IsSaidInstead content p a old new (status_of_outcome o)
+  -- two summaries of the same texts are printed alike
+  module _ (problem : List ℕ) (options : Options) (proof : List ℕ) (one_count : (terms : List Term) (m n : ℕ) → HasCells terms m → HasCells terms n → m ≡ n)
+      (a b : Summary) (h : IsSummary problem options proof a) (k : IsSummary problem options proof b) where
+    of_script : h.script ≡ k.script
+    of_script = one_script problem options.replaces_lets h.script k.script h.problem_stands k.problem_stands
 
--- an answer but a read fault says nothing of the counts of faults
-no_fault_risen : (bits : ℕ) (content : List ℕ → Option (List ℕ)) (before after : ℕ) (p : Asked) (a : Answer)
-    → IsAnswerTo bits content before after (Some p) a → status_of a ≢ 5 → IsAnswerTo bits content 0 0 (Some p) a
-no_fault_risen bits content before after p Usage h not_fault = h
-no_fault_risen bits content before after p ReadFault h not_fault = absurd (not_fault refl)
-no_fault_risen bits content before after p TooLong h not_fault = h
-no_fault_risen bits content before after p (Judged j) h not_fault = h
+    of_commands : h.commands ≡ k.commands
+    of_commands =
+        (one_proof proof (settings_of options) k.script h.commands k.commands h.after k.after
+        (subst (λ s. StandsForProof proof (settings_of options) s h.commands h.after) of_script h.proof_stands) k.proof_stands).0
 
-none_risen : (bits : ℕ) (content : List ℕ → Option (List ℕ)) (before after : ℕ) (p : Asked) (o : Outcome)
-    → ElaboratesTo bits content before after p o → status_of_outcome o ≢ 5 → ElaboratesTo bits content 0 0 p o
-none_risen bits content before after p (answered Usage) h not_fault = h
-none_risen bits content before after p (answered ReadFault) h not_fault = absurd (not_fault refl)
-none_risen bits content before after p (answered TooLong) h not_fault = h
-none_risen bits content before after p (answered (Judged j)) h not_fault = h
-none_risen bits content before after p left_out h not_fault = h
-none_risen bits content before after p (elaborated status text) h not_fault = h
+    same_steps : a.steps ≡ b.steps
+    same_steps = h.steps ∙ (ap commands_in of_commands ∙ sym k.steps)
 
-module _ (one : DefineOneAnswer) (say : SayWhatChecksSay) (bits : ℕ) (content : List ℕ → Option (List ℕ)) (before after : ℕ)
-    (old new : Option (List ℕ)) (status : ℕ) (not_fault : status ≢ 5) (not_full : status ≢ 8) where
-  exact_by : (c : Command) (p : Asked) (a : Answer) → IsDefinedAnswer bits content (Some p) a → (o : Outcome) → ComesTo c bits content before after p o
-      → status ≡ status_of_outcome o → Appends old new (text_of_outcome o) → IsSaidBy content c p a old new status
-  exact_by Check p a defined (answered b) h is text =
-      let given : IsDefinedAnswer bits content (Some p) b = record {
-        told = defined.told;
-        answers = no_fault_risen bits content before after p b h (λ e. not_fault (is ∙ e));
-        has_room = λ e. not_full (is ∙ ap status_of e);
-      } in
-      let same = one bits content (Some p) b a given defined in
-      (is ∙ same.status, subst (Appends old new) same.text text)
-  exact_by Check p a defined left_out h is text = absurd h
-  exact_by Check p a defined (elaborated s t) h is text = absurd h
-  exact_by Elaborate p a defined o h is text =
-      subst (IsSaidInstead content p a old new) (sym is)
-      (say bits content p a o old new defined (none_risen bits content before after p o h (λ e. not_fault (is ∙ e)))
-      (λ e. not_full (is ∙ ap status_of_outcome e)) text)
+    same_cells : a.cells ≡ b.cells
+    same_cells =
+        one_count (standing_in k.script.assertions k.commands) a.cells b.cells
+        (subst (λ c. HasCells (standing_in k.script.assertions c) a.cells) of_commands
+        (subst (λ (s : Script). HasCells (standing_in s.assertions h.commands) a.cells) of_script h.cells)) k.cells
 
-  exact_at : (asked : Option Asked) (a : Answer) → IsDefinedAnswer bits content asked a → (o : Outcome) → IsOutcomeTo bits content before after asked o
-      → status ≡ status_of_outcome o → Appends old new (text_of_outcome o) → IsSaidTo content asked a old new status
-  exact_at None a defined o h is text =
-      let same : text_of_outcome o ≡ text_of a = ap text_of_outcome h ∙ ap text_of (sym defined.answers) in
-      (is ∙ ap status_of_outcome h ∙ ap status_of (sym defined.answers), subst (Appends old new) same text)
-  exact_at (Some p) a defined o h is text = exact_by p.command p a defined o h is text
+    not_full : (j : Judgement) → IsOfProof j → j ≢ PoolFull
+    not_full j is e = subst IsOfProof e is
 
-pub exact : DefineOneAnswer → SayWhatChecksSay → (bits : ℕ) (content : List ℕ → Option (List ℕ)) (before after : ℕ) (asked : Option Asked)
-    (old new : Option (List ℕ)) (status : ℕ) → IsPrinted (IsOutcomeTo bits content before after asked) old new status
-    → IsExact bits content asked old new status
-exact one say bits content before after asked old new status printed a defined not_fault not_failed not_memory not_full =
-    let whole = printed.whole not_failed not_memory in
-    exact_at one say bits content before after old new status not_fault not_full asked a defined whole.outcome whole.may_come whole.is_status whole.printed
+    same_judgement : (status_of_judgement a.judgement ≡ status_of_judgement b.judgement) × (text_of_judgement a.judgement ≡ text_of_judgement b.judgement)
+    same_judgement =
+        one_judgement problem options proof 0 a.judgement b.judgement h.judged k.judged (not_full a.judgement h.of_proof) (not_full b.judgement k.of_proof)
+
+    pub one_summary : (status_of_judgement a.judgement ≡ status_of_judgement b.judgement) × (text_of_summary a ≡ text_of_summary b)
+    one_summary = (
+      same_judgement.0,
+      ap (λ n. codes "steps " ++ (decimal n ++ (line_end ++ (codes "cells " ++ (decimal a.cells ++ (line_end ++ text_of_judgement a.judgement)))))) same_steps
+          ∙ (ap (λ n. codes "steps " ++ (decimal b.steps ++ (line_end ++ (codes "cells " ++ (decimal n ++ (line_end ++ text_of_judgement a.judgement)))))) same_cells
+          ∙ ap (λ t. codes "steps " ++ (decimal b.steps ++ (line_end ++ (codes "cells " ++ (decimal b.cells ++ (line_end ++ t)))))) same_judgement.1),
+    )

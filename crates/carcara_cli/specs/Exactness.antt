@@ -13,12 +13,14 @@ use Rattle.judged_texts.specs.Cells.{HasMoreCells}
 use Rattle.judged_texts.specs.Printed.{status_of_judgement}
 use Rattle.judged_texts.specs.Reading.{NeedsRoom}
 use Rattle.elaborated_texts.specs.Elaborated.{HasManyCommands, IsLeftOutText, NeedsRoomToElaborate}
+use Rattle.pruned_texts.specs.declared.needing.Part.TheVariants as Part
 use Rattle.generated_texts.specs.declared.summarizing.Summary.{Summary}
 use Rattle.generated_texts.specs.Summaries.{no_options, IsSummaryOfLinks, text_of_summary}
 use Rattle.carcara_cli.specs.declared.answer.Answer.{Answer}
 use Rattle.carcara_cli.specs.declared.answer.Answer.TheVariants.{Usage, Judged}
 use Rattle.carcara_cli.specs.Printed.{status_of, text_of}
 use Rattle.carcara_cli.specs.Outcomes.{left_out_answer}
+use Rattle.carcara_cli.specs.OwnTexts.{Own, elaboration, needed}
 use Rattle.carcara_cli.specs.TopCall.{IsAnswerTo, IsOfFiles}
 
 -- the folder tells the bytes of both files that are asked for
@@ -58,11 +60,15 @@ abbrev pub IsSaidOfNeeded : Answer → Option (List ℕ) → Option (List ℕ) �
 IsSaidOfNeeded (Judged Valid) old new status = status ≡ 0
 IsSaidOfNeeded a old new status = IsSaid a old new status
 
+abbrev pub IsSaidByOwn : Own → (List ℕ → Option (List ℕ)) → Asked → Answer → Option (List ℕ) → Option (List ℕ) → ℕ → Type 0
+IsSaidByOwn elaboration content p = IsSaidOfElaborated content p
+IsSaidByOwn (needed part) content p = IsSaidOfNeeded
+
 abbrev pub IsSaidBy : Command → (List ℕ → Option (List ℕ)) → Asked → Answer → Option (List ℕ) → Option (List ℕ) → ℕ → Type 0
 IsSaidBy Check content p = IsSaid
-IsSaidBy Elaborate content p = IsSaidOfElaborated content p
-IsSaidBy Core content p = IsSaidOfNeeded
-IsSaidBy Prune content p = IsSaidOfNeeded
+IsSaidBy Elaborate content p = IsSaidByOwn elaboration content p
+IsSaidBy Core content p = IsSaidByOwn (needed Part.Core) content p
+IsSaidBy Prune content p = IsSaidByOwn (needed Part.Commands) content p
 
 -- the status is that of the summary, and its whole text was printed
 abbrev pub IsSummed : Summary → Option (List ℕ) → Option (List ℕ) → ℕ → Type 0
@@ -79,13 +85,17 @@ IsSaidTo bits content (Some (generate n workers)) old new status = (summary : Su
 abbrev pub IsExact : ℕ → (List ℕ → Option (List ℕ)) → Option Task → Option (List ℕ) → Option (List ℕ) → ℕ → Type 0
 IsExact bits content task old new status = status ≢ 5 → status ≢ 6 → status ≢ 7 → status ≢ 8 → IsSaidTo bits content task old new status
 
--- more cells need room than 2^bits, for what a command does with two texts; or an elaboration may have too many commands
+-- More cells need room than 2^bits, for what is done with two texts; or an elaboration may have too many commands.
+abbrev pub IsTooMuchOf : Own → ℕ → List ℕ → Options → List ℕ → Type 0
+IsTooMuchOf elaboration bits problem options proof =
+    HasMoreCells (NeedsRoomToElaborate problem options proof) (2 ^ bits) ⊎ HasManyCommands problem options proof
+IsTooMuchOf (needed part) bits problem options proof = HasMoreCells (NeedsRoom problem options proof) (2 ^ bits)
+
 abbrev pub IsTooMuch : Command → ℕ → List ℕ → Options → List ℕ → Type 0
 IsTooMuch Check bits problem options proof = HasMoreCells (NeedsRoom problem options proof) (2 ^ bits)
-IsTooMuch Elaborate bits problem options proof =
-    HasMoreCells (NeedsRoomToElaborate problem options proof) (2 ^ bits) ⊎ HasManyCommands problem options proof
-IsTooMuch Core bits problem options proof = HasMoreCells (NeedsRoom problem options proof) (2 ^ bits)
-IsTooMuch Prune bits problem options proof = HasMoreCells (NeedsRoom problem options proof) (2 ^ bits)
+IsTooMuch Elaborate bits problem options proof = IsTooMuchOf elaboration bits problem options proof
+IsTooMuch Core bits problem options proof = IsTooMuchOf (needed Part.Core) bits problem options proof
+IsTooMuch Prune bits problem options proof = IsTooMuchOf (needed Part.Commands) bits problem options proof
 
 -- the largest pool has room for what is asked for, whatever a file has that is not told
 abbrev pub HasRoom : ℕ → (List ℕ → Option (List ℕ)) → Option Task → Type 0

@@ -4,9 +4,11 @@ use Rattle.std.specs.Io.KnownBytes.{Appends}
 use Rattle.file_ports.specs.Faults.{HasRisen}
 use Rattle.file_ports.specs.Texts.{AppendsPrefix}
 use Rattle.command_words.specs.declared.request.Options.{Options}
-use Rattle.named_proofs.specs.Written.{SinkView}
+use Rattle.elaborated_texts.specs.Ending.{SinkView}
 use Rattle.elaborated_texts.specs.declared.elaborating.End.{End}
 use Rattle.elaborated_texts.specs.declared.elaborating.End.TheVariants as end
+use Rattle.pruned_texts.specs.declared.needing.End.{End as NeededEnd}
+use Rattle.pruned_texts.specs.declared.needing.End.TheVariants as needed_end
 use Rattle.carcara_cli.specs.declared.answer.Answer.TheVariants.{Judged}
 use Rattle.carcara_cli.specs.Outcomes.{Outcome, answered, left_out, printed}
 use Rattle.carcara_cli.specs.OwnTexts.{Own, IsLeftOutBy, IsOwnText, IsSaidInsteadBy}
@@ -43,3 +45,10 @@ EndsBy own problem options proof bits old new end.LeftOut = (new ≡ old) × IsL
 EndsBy own problem options proof bits old new (end.Written status) = WritesOwn own problem options proof status old.written new.written
 EndsBy own problem options proof bits old new end.Failed = HasRisen old.faults new.faults × BeginsOwn own problem options proof old.written new.written
 EndsBy own problem options proof bits old new end.Memory = (new.written ≡ old.written) ⊎ BeginsOwn own problem options proof old.written new.written
+
+-- how the printing of what is needed ended, as that of an elaboration does
+abbrev pub ends_as : NeededEnd → End
+ends_as (needed_end.Instead j) = end.Instead j
+ends_as needed_end.Written = end.Written 0
+ends_as needed_end.Failed = end.Failed
+ends_as needed_end.Memory = end.Memory

@@ -5,3 +5,4 @@ pub mod TopCall
 pub mod Exactness
 pub mod Answering
 pub mod Finishing
+pub mod Settings

@@ -1,6 +1,6 @@
 use Rattle.std.proofs.Common.{inl, inr}
 use Rattle.carcara_cli.specs.Outcomes.{answered}
-use Rattle.carcara_cli.proofs.top.check_files.Goals as goal
+use Rattle.carcara_cli.proofs.commands.check_files.Goals as goal
 
 pub returns-in-Ok-clause-printed : goal.returns-in-Ok-clause-printed
 returns-in-Ok-clause-printed g c = record {
