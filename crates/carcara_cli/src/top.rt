@@ -16,20 +16,27 @@ use judged_texts::laws::valid_proofs_are_sound;
 use judged_texts::{LEAST_BITS, MOST_BITS};
 use std::thread::Threads;
 
-/// Checks the proof that stands at one path against the problem that stands at another, or elaborates it, prints the answer or the
-/// elaborated proof, and returns the status with which the program ends.
+/// Does what the words of the command line ask for, prints the answer or the text that is asked for, and returns the status with which the
+/// program ends.
 ///
-/// `words` are those of the command line without the program's name: `check` or `elaborate`, and behind it the paths of the proof and
-/// of the problem, with `--expand-let-bindings`, `--ignore-unknown-rules`, `--strict` (of `check` alone) and `--num-threads N` in any
-/// place; a `--` ends the options. N workers, 1 to 64, check the proof and elaborate it, and one where it is not said; for each number
-/// the answer to a check is the same, but for statuses 5 to 8.
-/// Each chunk of 64 commands is checked, and elaborated, behind the gate.
-/// With `--strict` each step has to meet the strict condition of its rule, and an outermost assume has to be an assertion as it
-/// stands.
+/// `words` are those of the command line without the program's name. `check`, `elaborate`, `core` and `prune` stand before the paths of the
+/// proof and of the problem, with `--expand-let-bindings`, `--ignore-unknown-rules`, `--strict` (of `check` alone) and `--num-threads N` in
+/// any place; `generate` stands before a number of links, 1 to 50,000, with `--num-threads N`. A `--` ends the options.
+///
+/// - `check` says what the proof comes to. With `--strict` each step has to meet the strict condition of its rule, and an outermost assume
+///   has to be an assertion as it stands.
+/// - `elaborate` prints the elaboration of a proof that is valid or has holes.
+/// - `core` prints the numbers of the assertions that a valid proof uses, from 0 on in the order of the problem, and `prune` the proof of
+///   the commands that it needs.
+/// - `generate` checks the generator's texts of so many links (`proof_gen`), and prints before what they come to how many commands with an
+///   index the proof has and how many distinct cells the terms of the two texts.
+///
+/// N workers, 1 to 64, check the proof and elaborate it, chunk by chunk of 64 commands behind the gate, and one where it is not said; for
+/// each number the answer is the same, but for statuses 5 to 8.
 ///
 /// Status 0 is `valid`, 1 `invalid`, 2 `holey`, 3 `refused`, 4 `unknown`, 5 a read fault, 6 a write fault, 7 out of memory, 8 texts
 /// whose terms have more than 2^26 distinct cells, 9 a file of more than 268,435,456 bytes, and 64 words that spell no command. Of
-/// `elaborate`, 0 and 2 print the elaborated proof alone.
+/// `elaborate`, 0 and 2 print the elaborated proof alone, and of `prune` 0 the pruned one.
 ///
 /// The first that answers decides, in this order: the words, the problem's file, the proof's file, the problem's text,
 /// the proof's text, the verdict. Nothing is written before the answer is known. Where it can't be written whole, the
@@ -43,12 +50,13 @@ pub fn carcara<R: AllocGlobal + Threads + Sync, F: Folder, S: Sink, G: Gate>(
 ) -> u8
     requires { MayAskBoth (F.may_ask folder.old) (task_of (map string_bytes words.now)) }
 
-    // What was printed is the whole text of an answer of the status, and after a failed write or out of memory a prefix.
+    // What was printed is the whole text of what the words come to, with its status, and after a failed write or out of memory a prefix.
     ensures printed { IsPrinted
         (IsOutcomeTo most_bits (F.content folder.old) (F.faults folder.old) (F.faults folder.new) (task_of (map string_bytes words.now)))
         (S.written out.old) (S.written out.new) result }
 
-    // Unless the status is 5, 6, 7 or 8, it is that of the one answer that the words and the bytes of the files define.
+    // Unless the status is 5, 6, 7 or 8, it is the one that the words and the bytes of the files define, and so is what was printed: of `elaborate`,
+    // `core` and `prune` where they print no text of their own.
     ensures exact { IsExact most_bits (F.content folder.old) (task_of (map string_bytes words.now)) (S.written out.old) (S.written out.new) result }
 
     // Where no call of the outside failed and the pool has room, that is the status, or memory ran out.
