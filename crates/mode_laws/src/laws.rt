@@ -1,5 +1,5 @@
 //! Laws over a proof read in both modes. Each is the contract of a function that does nothing.
-ghost use Rattle.std.specs.Prelude.{ℕ, List, Option, Some};
+ghost use Rattle.std.specs.Prelude.{ℕ, List, Option};
 ghost use Rattle.term_model.specs.Terms.{Var, Term};
 ghost use Rattle.rule_model.specs.LeftOut.{IsSameUpToPivots};
 ghost use Rattle.rule_model.specs.Proofs.{ProofItems as Proof};
@@ -37,11 +37,11 @@ pub fn valid_strictly_is_valid()
 /// define is printed like it and ends with its status.
 pub fn runs_agree()
     ensures defined { (bits : ℕ) (content : List ℕ → Option (List ℕ)) (asked : Asked) →
-        IsDefinedAnswer bits content (Some (asked_strictly asked)) (Judged Valid) → FilesReadSameInCheckMode content asked →
-        IsDefinedAnswer bits content (Some (asked_in_check_mode asked)) (Judged Valid) }
+        IsDefinedAnswer bits content (asked_strictly asked) (Judged Valid) → FilesReadSameInCheckMode content asked →
+        IsDefinedAnswer bits content (asked_in_check_mode asked) (Judged Valid) }
     ensures same { (bits : ℕ) (content : List ℕ → Option (List ℕ)) (asked : Asked) (a : Answer) →
-        IsDefinedAnswer bits content (Some (asked_strictly asked)) (Judged Valid) → FilesReadSameInCheckMode content asked →
-        IsDefinedAnswer bits content (Some (asked_in_check_mode asked)) a → SaySame a (Judged Valid) }
+        IsDefinedAnswer bits content (asked_strictly asked) (Judged Valid) → FilesReadSameInCheckMode content asked →
+        IsDefinedAnswer bits content (asked_in_check_mode asked) a → SaySame a (Judged Valid) }
 {
     valid_strictly_is_valid();
     words_and_files_define_one_answer();

@@ -33,5 +33,5 @@ returns-clause-defined c = λ bits content asked defined reads.
 
 pub returns-clause-same : goal.returns-clause-same
 returns-clause-same c = λ bits content asked a strict reads loose.
-    c.words_and_files_define_one_answer.ensures bits content (Some (asked_in_check_mode asked)) a (Judged Valid) loose
+    c.words_and_files_define_one_answer.ensures bits content (asked_in_check_mode asked) a (Judged Valid) loose
     (returns-clause-defined c bits content asked strict reads)
