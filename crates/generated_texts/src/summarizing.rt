@@ -37,18 +37,6 @@ pub struct Summary {
     pub judgement: Judgement,
 }
 
-/// How many distinct cells the terms have that stand in the texts.
-    pub cells: u64,
-    /// What the proof comes to.
-    pub judgement: Judgement,
-}
-
-/// The summaries of two texts, by some workers.
-#[derive(Drop)]
-pub(crate) struct Summarizing<'a, R, G> {
-    pub(crate) workers: &'a Workers<'a, R, G>,
-}
-
 /// How many distinct cells the terms have that stand in two texts that were read.
 fn count_cells(
     alloc: Global,
