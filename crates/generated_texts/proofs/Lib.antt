@@ -1,2 +1,3 @@
 pub mod LikeTrees
 pub mod CellLemmas
+pub mod ListLemmas
