@@ -9,4 +9,3 @@ pub mod ScopedTerms
 pub mod ScopedProofs
 pub mod TruthClauses
 mod SomeJudgement
-mod OverLemmas

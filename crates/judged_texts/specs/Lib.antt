@@ -8,4 +8,3 @@ pub mod Pools
 pub mod Texts
 pub mod Naming
 pub mod Judging
-pub mod Over

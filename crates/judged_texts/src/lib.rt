@@ -2,7 +2,6 @@
 //!
 //! - `judging`: what the two texts come to, by the statuses of the commands and the verdict; `texts`: how they are read; `pools`:
 //!   pools that are large enough; `naming`: the commands that a verdict names.
-//! - `over`: what else may be done over the two texts, once both are read into a pool that is large enough.
 //! - `judgement`: what is judged, and how it is printed.
 //! - `laws`: why `valid` can be trusted, and when a pool is full.
 #![tactic(auto)]
@@ -11,7 +10,6 @@ mod judgement;
 mod judging;
 pub mod laws;
 mod naming;
-mod over;
 mod pools;
 mod texts;
 
@@ -21,6 +19,5 @@ pub use judging::{
     read_proofs_can_be_checked,
 };
 pub use laws::full_pools_have_many_cells;
-pub use over::{Ended, OverTexts, over_texts};
 pub use pools::{LEAST_BITS, MOST_BITS, pool_bits, pool_full};
 pub use texts::{Both, Read, Texts, flags_of, read_for, read_texts_stay};
