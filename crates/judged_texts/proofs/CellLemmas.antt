@@ -1,4 +1,4 @@
--- Where a pool has no room for a cell of a term that is read, each of its places has another cell of such terms.
+-- Cited by crates above. Where a pool has no room for a cell of a term that is read, each of its places has another cell of such terms.
 use Rattle.std.proofs.Common.{◌≡◌, ◌⊎◌, ℕ, ◌+◌, ◌^◌, ◌<◌, ◌≤◌, [], sym, inl, inr, arith}
 use Rattle.std.proofs.lemmas.Bool.{cases_lt}
 use Rattle.pair_pool.specs.Trees.{Tree, cell}

@@ -1,4 +1,4 @@
--- The judgement of a verdict on the two texts.
+-- Cited by crates above. The judgement of a verdict on the two texts.
 use Rattle.std.proofs.Common.{◌≡◌, ℕ, suc, List, [], ◌∷◌, refl, ◌∙◌}
 use Rattle.sym_table.specs.Table.{Table}
 use Rattle.term_model.specs.Terms.{Var, Term}

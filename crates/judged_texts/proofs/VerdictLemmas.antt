@@ -1,4 +1,4 @@
--- A verdict on a proof over references is one on the proof over terms for which it stands.
+-- Cited by crates above. A verdict on a proof over references is one on the proof over terms for which it stands.
 use Rattle.std.proofs.Common.{◌≡◌, ℕ, zero, suc, ◌<◌, List, [], ◌∷◌, length, slice_get, Some, Result, Ok, Err, IfOk, refl, sym, ◌∙◌, arith}
 use Rattle.std.specs.List.{AllZip}
 use Rattle.sym_table.specs.Table.{Table}
