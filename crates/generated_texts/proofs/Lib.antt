@@ -1,3 +1,4 @@
 pub mod LikeTrees
 pub mod CellLemmas
 pub mod ListLemmas
+pub mod Judged

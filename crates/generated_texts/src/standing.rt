@@ -29,14 +29,21 @@ fn add_command(list: &mut Vec<Ref>, proof: &Proof, i: u32) -> Result<(), AllocEr
     add_values(list, proof.bindings(proof.scope_of(i)))
 }
 
+/// The references, with those of the literals of all commands, and of what anchors bind.
+fn gather(alloc: Global, assertions: &[Ref], proof: &Proof) -> Result<Vec<Ref>, AllocError>
+    ensures { IfOk result (λ list. list.items ≡ standing_in assertions.now proof.now) }
+{
+    let mut list = Vec::from_slice(alloc, assertions)?;
+    'commands: for i in 0..proof.count() {
+        add_command(&mut list, proof, i)?;
+    }
+    Ok(list)
+}
+
 /// The references of the assertions, of the literals of all commands, and of what anchors bind. One stands there as often as in the
 /// texts, and what an anchor binds once for each command in its scope.
 pub(crate) fn standing(alloc: Global, both: &Both) -> Result<Vec<Ref>, AllocError>
     ensures { IfOk result (λ list. list.items ≡ standing_in both.now.problem.assertions both.now.proof) }
 {
-    let mut list = Vec::from_slice(alloc, &both.problem.assertions)?;
-    'commands: for i in 0..both.proof.count() {
-        add_command(&mut list, &both.proof, i)?;
-    }
-    Ok(list)
+    gather(alloc, &both.problem.assertions, &both.proof)
 }
