@@ -2,3 +2,4 @@ pub mod LikeTrees
 pub mod CellLemmas
 pub mod ListLemmas
 pub mod Judged
+pub mod AnyPool

@@ -1,16 +1,17 @@
 //! The check of the generator's two texts.
-ghost use Rattle.std.specs.Prelude.{◌≡◌, ◌≤◌, ◌^◌, ℕ, [], length, IfErr, IfOk};
-ghost use Rattle.pair_pool.specs.Views.{IsPassOf};
-ghost use Rattle.term_parts.specs.declared.answers.RuleStop.TheVariants as RuleStop;
+ghost use Rattle.std.specs.Prelude.{◌≡◌, ◌<◌, ◌≤◌, ◌^◌, ℕ, [], length, IfOk};
+ghost use Rattle.pair_pool.specs.Views.{IsForMany, IsPassOf};
 ghost use Rattle.term_reader.specs.ProblemViews.{IsNewTable};
 ghost use Rattle.command_words.specs.Requests.{IsNumberOfWorkers};
-ghost use Rattle.judged_texts.specs.Reading.{most_bytes};
+ghost use Rattle.judged_texts.specs.Pools.{HoldsOnly};
+ghost use Rattle.judged_texts.specs.Reading.{most_bytes, IsReadOf};
+ghost use Rattle.judged_texts.specs.Texts.{AreReadBoth};
 ghost use Rattle.generated_texts.specs.Generating.{is_full, ComesOfLinks, ComesOfTexts};
 
 use crate::summarizing::{Summary, summarize};
 use command_words::Options;
 use file_ports::Gate;
-use judged_texts::{Judgement, LEAST_BITS, MOST_BITS, Read, Texts, Workers, pool_bits, read_for};
+use judged_texts::{Both, Judgement, LEAST_BITS, MOST_BITS, Read, Texts, Workers, pool_bits, read_for};
 use pair_pool::{Memory, Pass, Pool};
 use proof_gen::{make, texts_are_short};
 use proof_store::RuleStop;
@@ -27,6 +28,31 @@ pub enum Generated {
     /// What is said of them instead: the largest pool is full, or, what can't come of these texts but is not proved of them, one of
     /// them is refused.
     Not(Judgement),
+}
+
+/// What comes of two texts that were read.
+fn come_read<R: Threads + Sync, G: Gate>(
+    workers: &Workers<'_, R, G>,
+    alloc: Global,
+    texts: &Texts<'_>,
+    both: &Both,
+    symbols: &Symbols,
+    terms: &mut Terms<'_>,
+) -> Result<Generated, Memory>
+    requires workers { IsNumberOfWorkers workers.now.count }
+    requires for_many { 1 < workers.now.count → IsForMany terms.old.pool }
+    requires size { length texts.now.proof.now ≤ most_bytes }
+    requires read { AreReadBoth texts.now.problem.now texts.now.options texts.now.proof.now symbols.now terms.old both.now }
+    requires shares { terms.old.pass.shares ≡ 65 }
+    requires holds { HoldsOnly symbols.now terms.old.pass (IsReadOf texts.now.problem.now texts.now.options texts.now.proof.now) }
+    ensures { (bits : ℕ) → terms.old.pass.places ≡ 2 ^ bits →
+        IfOk result (ComesOfTexts texts.now.problem.now texts.now.options texts.now.proof.now bits) }
+{
+    match summarize(workers, alloc, texts, both, symbols, terms) {
+        Ok(summary) => Ok(Generated::Summed(summary)),
+        Err(RuleStop::PoolFull) => Ok(Generated::Not(Judgement::PoolFull)),
+        Err(RuleStop::Memory) => Err(Memory),
+    }
 }
 
 /// What comes of two texts, with a new table of symbols and a new pool, and its first pass.
@@ -52,13 +78,9 @@ fn come_with<R: Threads + Sync, G: Gate>(
     match read {
         Read::Whole(both) => {
             let mut terms = Terms::new(pool, pass);
-            let summed = summarize(workers, alloc, texts, &both, symbols, &mut terms);
+            let come = come_read(workers, alloc, texts, &both, symbols, &mut terms);
             drop(both);
-            match summed {
-                Ok(summary) => Ok(Generated::Summed(summary)),
-                Err(RuleStop::PoolFull) => Ok(Generated::Not(Judgement::PoolFull)),
-                Err(RuleStop::Memory) => Err(Memory),
-            }
+            come
         }
         Read::Not(judgement) => Ok(Generated::Not(judgement)),
     }
