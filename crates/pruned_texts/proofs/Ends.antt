@@ -1,5 +1,5 @@
 -- How the printing ends, by pools of different sizes, and what was written.
-use Rattle.std.proofs.Common.{◌≡◌, ◌<◌, ◌≤◌, ◌^◌, ℕ, List, [], ◌∷◌, Option, All, length, refl, sym, subst, arith, true, false, true≢false, ap, suc}
+use Rattle.std.proofs.Common.{◌≡◌, ◌<◌, ◌≤◌, ◌^◌, ◌⊎◌, inl, inr, ℕ, Bool, List, [], ◌∷◌, Option, All, length, refl, sym, subst, arith, true, false, true≢false, ap, suc}
 use Rattle.std.specs.Io.KnownBytes.{Appends}
 use Rattle.std.specs.List.{AllZip}
 use Rattle.std.proofs.lemmas.List.Elements.{All-nil, All-cons}
@@ -7,6 +7,15 @@ use Rattle.file_ports.specs.Texts.{AppendsPrefix}
 use Rattle.sym_table.specs.Table.{Table}
 use Rattle.term_model.specs.Terms.{Term}
 use Rattle.term_pool.specs.Views.{TermsView, IsTerm, ReferToAll}
+use Rattle.term_reader.specs.ProblemViews.{IsProblemOf}
+use Rattle.proof_store.specs.Meaning.{StandForItems}
+use Rattle.rule_model.specs.Proofs.{ProofItems}
+use Rattle.rule_model.specs.Scopes.{commands_in}
+use Rattle.pruned_proofs.specs.Pruned.{pruned}
+use Rattle.printed_proofs.specs.Shared.{Plan}
+use Rattle.alethe_printer.specs.Printed.{proof_text}
+use Rattle.named_proofs.specs.Named.{IsFreePlan, IsNamedText, WritesText}
+use Rattle.judged_texts.specs.declared.texts.Both.{Both}
 use Rattle.named_proofs.specs.Written.{SinkView, WritesPrefix, WritesWhole}
 use Rattle.command_words.specs.declared.request.Options.{Options}
 use Rattle.judged_texts.specs.declared.judgement.Judgement.{Judgement}
@@ -17,8 +26,8 @@ use Rattle.pruned_texts.specs.declared.needing.End.{End}
 use Rattle.pruned_texts.specs.declared.needing.End.TheVariants as end
 use Rattle.pruned_texts.specs.declared.needing.Part.{Part}
 use Rattle.pruned_texts.specs.Ending.{EndsSo}
-use Rattle.pruned_texts.specs.Needed.{IsJudgementInstead}
-use Rattle.pruned_texts.specs.Needing.{is_full}
+use Rattle.pruned_texts.specs.Needed.{IsJudgementInstead, IsPrunedText}
+use Rattle.pruned_texts.specs.Needing.{is_full, IsValidRead}
 
 -- An end for which no larger pool is to be tried does not depend on the pool.
 module _ (part : Part) (problem : List ℕ) (options : Options) (proof : List ℕ) (bits most : ℕ) (first last : SinkView) where
@@ -75,3 +84,39 @@ module _ (s : Table) (v : TermsView) where
   as_many [] (t ∷ ts) zip = absurd zip
   as_many (r ∷ rs) [] zip = absurd zip
   as_many (r ∷ rs) (t ∷ ts) zip = ap suc (as_many rs ts zip.1)
+
+pub or_weaker : {A B C : Type 0} → (B → C) → A ⊎ B → A ⊎ C
+or_weaker f (inl a) = inl a
+or_weaker f (inr b) = inr (f b)
+
+-- what was written of a pruned proof is the text that is promised, or a prefix of it
+module _ (problem : List ℕ) (options : Options) (text : List ℕ) (s : Table) (v : TermsView) (both : Both) (marks : List Bool) (new : ProofItems ℕ ℕ)
+    (h : IsValidRead problem options text s v both) (left : new ≡ pruned marks both.proof) (is : IsProblemOf s v both.problem h.checked.script)
+    (stand : StandForItems s v (pruned marks both.proof) (pruned marks h.checked.commands)) (few : commands_in new ≤ 2 ^ 32)
+    (texts : (plan : Plan) → commands_in (pruned marks both.proof) ≤ 2 ^ 32 → IsFreePlan s h.checked.script plan →
+    IsPrunedText problem options text (proof_text plan h.checked.script (pruned marks h.checked.commands))) where
+  named : (Writes : List ℕ → Type 0) → WritesText Writes s v both.problem new → IsNamedText Writes s h.checked.script (pruned marks h.checked.commands)
+  named Writes writes =
+      writes h.checked.script (pruned marks h.checked.commands) is
+      (subst (λ refs. StandForItems s v refs (pruned marks h.checked.commands)) (sym left) stand)
+
+  fewer : commands_in (pruned marks both.proof) ≤ 2 ^ 32
+  fewer = subst (λ refs. commands_in refs ≤ 2 ^ 32) left few
+
+  pub whole_of : (before after : Option (List ℕ)) → WritesText (Appends before after) s v both.problem new
+      → WritesWhole (IsPrunedText problem options text) before after
+  whole_of before after writes =
+      let n = named (Appends before after) writes in record {
+        text = proof_text n.plan h.checked.script (pruned marks h.checked.commands);
+        is = texts n.plan fewer n.free;
+        printed = n.written;
+      }
+
+  pub prefix_of : (before after : Option (List ℕ)) → WritesText (AppendsPrefix before after) s v both.problem new
+      → WritesPrefix (IsPrunedText problem options text) before after
+  prefix_of before after writes =
+      let n = named (AppendsPrefix before after) writes in record {
+        text = proof_text n.plan h.checked.script (pruned marks h.checked.commands);
+        is = texts n.plan fewer n.free;
+        printed = n.written;
+      }

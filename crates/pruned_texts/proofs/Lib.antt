@@ -4,3 +4,4 @@ mod PrunedOver
 mod Asserted
 mod ReadAgain
 mod Ends
+mod Lines

@@ -15,6 +15,7 @@ fn add_line(alloc: Global, number: u32, text: &mut Vec<u8>) -> Result<(), AllocE
 }
 
 /// The lines of a core.
+#[tactic(auto, using(crate::proofs::Lines::lines_step, crate::proofs::Lines::lines_end))]
 pub(crate) fn core_text(alloc: Global, numbers: &[u32]) -> Result<Vec<u8>, AllocError>
     ensures { IfOk result (λ v. v.items ≡ core_text numbers.now) }
 {

@@ -10,6 +10,7 @@ ghost use Rattle.printed_proofs.specs.Shared.{Plan};
 ghost use Rattle.pruned_proofs.specs.Pruned.{pruned};
 ghost use Rattle.pruned_proofs.specs.Reached.{AreReachedMarks, IsFirstEmpty};
 ghost use Rattle.proof_store.specs.Meaning.{StandForItems};
+ghost use Rattle.term_reader.specs.ProblemViews.{IsProblemOf};
 ghost use Rattle.alethe_printer.specs.Printed.{HaveSorts, proof_text};
 ghost use Rattle.term_sharing.specs.SortedProofs.{AreTermsSorted};
 ghost use Rattle.named_proofs.specs.Named.{IsFreePlan};
@@ -90,6 +91,8 @@ pub(crate) fn pruned_proofs_have_texts()
 
 /// It may be printed with names.
 pub(crate) fn pruned_proofs_are_sorted()
+    ensures problem { (problem : List ℕ) (options : Chosen) (text : List ℕ) (s : Table) (v : TermsView) (both : BothRead) →
+        (valid : IsValidRead problem options text s v both) → IsProblemOf s v both.problem valid.checked.script }
     ensures stand { (problem : List ℕ) (options : Chosen) (text : List ℕ) (s : Table) (v : TermsView) (both : BothRead) (marks : List Bool) →
         (valid : IsValidRead problem options text s v both) →
         StandForItems s v (pruned marks both.proof) (pruned marks valid.checked.commands) }

@@ -22,12 +22,13 @@ use judged_texts::{
     read_texts_stay,
 };
 use named_proofs::write_proof;
-use pair_pool::{Memory, Pass, Pool};
+use pair_pool::{Memory, Pass, Pool, Ref};
 use proof_prune::{core, prune, reached};
 use std::alloc::Global;
 use std::thread::Threads;
 use sym_table::Symbols;
 use term_pool::Terms;
+use term_reader::Problem;
 
 /// What is printed of a valid proof.
 #[derive(Debug, Clone, Copy)]
@@ -58,6 +59,13 @@ pub enum End {
     Memory,
 }
 
+/// The assertions of a problem.
+fn assertions_of(problem: &Problem) -> &[Ref]
+    ensures { result.now ≡ problem.now.assertions }
+{
+    &problem.assertions
+}
+
 /// Writes the numbers of the assertions that a valid proof uses.
 fn write_core<S: Sink>(
     alloc: Global,
@@ -84,7 +92,7 @@ fn write_core<S: Sink>(
         alloc,
         &both.proof,
         &kept,
-        &both.problem.assertions,
+        assertions_of(&both.problem),
         symbols,
         terms,
     ) else {

@@ -8,6 +8,10 @@ use Rattle.pruned_texts.proofs.PrunedOver.{over_kept}
 use Rattle.pruned_texts.proofs.ReadAgain.{is_problem, stand_for}
 use Rattle.pruned_texts.proofs.laws.pruned_proofs_are_sorted.Goals as goal
 
+pub returns-clause-problem : goal.returns-clause-problem
+returns-clause-problem c = λ problem options text s v both h.
+    is_problem c.texts_have_one_reading.ensures.script c.proof_texts_have_one_reading.ensures.proof problem options text s v both h
+
 pub returns-clause-stand : goal.returns-clause-stand
 returns-clause-stand c = λ problem options text s v both marks h.
     c.pruning_corresponds.ensures.left s v both.proof h.checked.commands marks

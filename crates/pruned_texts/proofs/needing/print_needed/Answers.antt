@@ -9,18 +9,22 @@ pools-init g c = record { written = refl; faults = refl }
 
 pub returns-then-not-is_full : goal.returns-then-not-is_full
 returns-then-not-is_full g c =
-    let t = c.args.needed.now.texts in let part = c.args.needed.now.part in
+    let t = c.args.needed.now.texts in
+    let part = c.args.needed.now.part in
     let first : SinkView = record { written = g.S.Sink.written c.args.out.now; faults = g.S.Sink.faults c.args.out.now } in
     let before : SinkView = record { written = g.S.Sink.written c.pools.out; faults = g.S.Sink.faults c.pools.out } in
     let same : before ≡ first = λ i. record { written = c.pools.invariant.written i; faults = c.pools.invariant.faults i } in
     let after : SinkView = record { written = g.S.Sink.written c.print_into-end.new.out; faults = g.S.Sink.faults c.print_into-end.new.out } in
-    subst (λ x. EndsSo part t.problem.now t.options t.proof.now c.args.most_bits x after c.print_into-end.result) same
-    (any_pool part t.problem.now t.options t.proof.now _ c.args.most_bits before after c.print_into-end.result (sym c.is_full.ensures ∙ c.if-not-is_full.true)
-    c.print_into-end.ensures)
+    record {
+      ends = subst (λ x. EndsSo part t.problem.now t.options t.proof.now c.args.most_bits x after c.print_into-end.result) same
+          (any_pool part t.problem.now t.options t.proof.now _ c.args.most_bits before after c.print_into-end.result
+          (sym c.is_full.ensures ∙ c.if-not-is_full.true) c.print_into-end.ensures);
+    }
 
 pub pools-preserved : goal.pools-preserved
 pools-preserved g c =
-    let t = c.args.needed.now.texts in let part = c.args.needed.now.part in
+    let t = c.args.needed.now.texts in
+    let part = c.args.needed.now.part in
     let before : SinkView = record { written = g.S.Sink.written c.pools.out; faults = g.S.Sink.faults c.pools.out } in
     let after : SinkView = record { written = g.S.Sink.written c.print_into-end.new.out; faults = g.S.Sink.faults c.print_into-end.new.out } in
     let same : after ≡ before =
@@ -33,9 +37,10 @@ pools-preserved g c =
 
 pub returns : goal.returns
 returns g c =
-    let t = c.args.needed.now.texts in let part = c.args.needed.now.part in
+    let t = c.args.needed.now.texts in
+    let part = c.args.needed.now.part in
     let first : SinkView = record { written = g.S.Sink.written c.args.out.now; faults = g.S.Sink.faults c.args.out.now } in
     let before : SinkView = record { written = g.S.Sink.written c.pools.out; faults = g.S.Sink.faults c.pools.out } in
     let same : before ≡ first = λ i. record { written = c.pools.invariant.written i; faults = c.pools.invariant.faults i } in
     let after : SinkView = record { written = g.S.Sink.written c.print_into.new.out; faults = g.S.Sink.faults c.print_into.new.out } in
-    subst (λ x. EndsSo part t.problem.now t.options t.proof.now c.args.most_bits x after c.print_into.result) same c.print_into.ensures
+    record { ends = subst (λ x. EndsSo part t.problem.now t.options t.proof.now c.args.most_bits x after c.print_into.result) same c.print_into.ensures }
