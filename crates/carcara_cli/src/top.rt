@@ -8,7 +8,9 @@ ghost use Rattle.carcara_cli.specs.TopCall.{most_bits, IsOutcomeTo, IsPrinted, M
 
 use crate::answer::Answer;
 use crate::commands::{Setting, run_task};
-use crate::laws::{own_texts_say_what_checks_say, summaries_are_one, words_and_files_define_one_answer};
+use crate::laws::{
+    own_texts_say_what_checks_say, summaries_are_one, words_and_files_define_one_answer,
+};
 use crate::reporting::report;
 use command_words::task_of;
 use file_ports::{Folder, Gate, Sink};
@@ -61,10 +63,10 @@ pub fn carcara<R: AllocGlobal + Threads + Sync, F: Folder, S: Sink, G: Gate>(
 
     // Where no call of the outside failed and the pool has room, that is the status, or memory ran out.
     ensures complete { IsComplete most_bits (F.content folder.old) (record {
-        read_before = F.faults folder.old;
-        read_after = F.faults folder.new;
-        write_before = S.faults out.old;
-        write_after = S.faults out.new;
+      read_before = F.faults folder.old;
+      read_after = F.faults folder.new;
+      write_before = S.faults out.old;
+      write_after = S.faults out.new;
     }) (task_of (map string_bytes words.now)) (S.written out.old) (S.written out.new) result }
 
     // `valid` shows that no interpretation makes every assertion of the problem true.
@@ -94,10 +96,10 @@ pub fn carcara_within<R: AllocGlobal + Threads + Sync, F: Folder, S: Sink, G: Ga
         (S.written out.old) (S.written out.new) result }
     ensures exact { IsExact most_bits (F.content folder.old) (task_of (map string_bytes words.now)) (S.written out.old) (S.written out.new) result }
     ensures complete { IsComplete most_bits (F.content folder.old) (record {
-        read_before = F.faults folder.old;
-        read_after = F.faults folder.new;
-        write_before = S.faults out.old;
-        write_after = S.faults out.new;
+      read_before = F.faults folder.old;
+      read_after = F.faults folder.new;
+      write_before = S.faults out.old;
+      write_after = S.faults out.new;
     }) (task_of (map string_bytes words.now)) (S.written out.old) (S.written out.new) result }
     ensures unsatisfiable { result ≡ 0 → ShowsUnsatisfiable (F.content folder.old) (task_of (map string_bytes words.now)) }
     ensures read_fault { result ≡ 5 → HasRisen (F.faults folder.old) (F.faults folder.new) }

@@ -18,7 +18,7 @@ returns-clause-printed g c =
     let first : SinkView = record { written = g.S.Sink.written c.args.out.now; faults = g.S.Sink.faults c.args.out.now } in
     let middle : SinkView = record { written = g.S.Sink.written c.print_needed.new.out; faults = g.S.Sink.faults c.print_needed.new.out } in
     let so : EndsSo c.args.part problem a.options proof bits (record { written = first.written; faults = first.faults })
-        (record { written = middle.written; faults = middle.faults }) c.print_needed.result =
+    (record { written = middle.written; faults = middle.faults }) c.print_needed.result =
     rw (← c.deref.ensures.value, ← c.deref-2.ensures.value) c.print_needed.ensures in
     let ends : EndsBy (needed c.args.part) problem a.options proof bits first middle c.end_of-end.result =
     rw c.end_of-end.ensures (needed_ends_by c.args.part problem a.options proof bits first middle c.print_needed.result so) in
@@ -35,7 +35,7 @@ returns-clause-write_fault g c =
     let first : SinkView = record { written = g.S.Sink.written c.args.out.now; faults = g.S.Sink.faults c.args.out.now } in
     let middle : SinkView = record { written = g.S.Sink.written c.print_needed.new.out; faults = g.S.Sink.faults c.print_needed.new.out } in
     let so : EndsSo c.args.part problem a.options proof bits (record { written = first.written; faults = first.faults })
-        (record { written = middle.written; faults = middle.faults }) c.print_needed.result =
+    (record { written = middle.written; faults = middle.faults }) c.print_needed.result =
     rw (← c.deref.ensures.value, ← c.deref-2.ensures.value) c.print_needed.ensures in
     let ends : EndsBy (needed c.args.part) problem a.options proof bits first middle c.end_of-end.result =
     rw c.end_of-end.ensures (needed_ends_by c.args.part problem a.options proof bits first middle c.print_needed.result so) in
