@@ -1,5 +1,5 @@
 -- Each assume of the outermost scope of a valid proof is equal to an assertion.
-use Rattle.std.proofs.Common.{◌≡◌, ℕ, zero, suc, ◌<◌, Bool, true, false, List, [], ◌∷◌, length, refl, sym, subst, arith, true≢false}
+use Rattle.std.proofs.Common.{◌≡◌, ℕ, zero, suc, ◌<◌, Bool, true, List, [], ◌∷◌, length, refl, sym, subst, arith, true≢false}
 use Rattle.std.proofs.lemmas.List.Elements.{All-contains}
 use Rattle.term_model.specs.Terms.{Var, Term}
 use Rattle.rule_model.specs.declared.kinds.Kind.{Kind}
@@ -9,9 +9,7 @@ use Rattle.rule_model.specs.declared.statuses.Status.{Status}
 use Rattle.rule_model.specs.declared.statuses.Verdict.{Verdict}
 use Rattle.rule_model.specs.Proofs.{ProofItems}
 use Rattle.rule_model.specs.Reading.{clause_at, rule_at, is_assume}
-use Rattle.rule_model.specs.Scopes.{commands_in}
 use Rattle.rule_model.specs.Statuses.{Checking, AreStatuses, IsAsserted, IsStatusBy, IsVerdict, kind_of_rule}
-use Rattle.pruned_proofs.specs.Core.{IsKeptAssume}
 use Rattle.pruned_proofs.specs.Reached.{AreReachedMarks, is_kept}
 use Rattle.pruned_proofs.proofs.Passing.{all_ok}
 use Rattle.proof_prune.specs.Numbering.{AreAsserted}

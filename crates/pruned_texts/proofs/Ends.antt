@@ -1,7 +1,6 @@
 -- How the printing ends, by pools of different sizes, and what was written.
-use Rattle.std.proofs.Common.{◌≡◌, ◌<◌, ◌≤◌, ◌^◌, ◌⊎◌, inl, inr, ℕ, Bool, List, [], ◌∷◌, Option, All, length, refl, sym, subst, arith, true, false, true≢false, ap, suc}
+use Rattle.std.proofs.Common.{◌≡◌, ◌≤◌, ◌^◌, ◌⊎◌, inl, inr, ℕ, Bool, List, [], ◌∷◌, Option, All, length, refl, sym, subst, true, false, true≢false, ap, suc}
 use Rattle.std.specs.Io.KnownBytes.{Appends}
-use Rattle.std.specs.List.{AllZip}
 use Rattle.std.proofs.lemmas.List.Elements.{All-nil, All-cons}
 use Rattle.file_ports.specs.Texts.{AppendsPrefix}
 use Rattle.sym_table.specs.Table.{Table}

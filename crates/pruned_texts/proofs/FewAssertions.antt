@@ -1,13 +1,12 @@
 -- A problem has no more assertions than its text has items.
-use Rattle.std.proofs.Common.{◌≡◌, ◌≤◌, ◌+◌, ℕ, ◌==◌, List, [], ◌∷◌, map, length, Bool, true, false, ◌||◌, Result, Ok, Err, IfOk, if◌then◌else◌, refl, subst, arith}
+use Rattle.std.proofs.Common.{◌≤◌, ◌+◌, ℕ, ◌==◌, List, [], ◌∷◌, map, length, Bool, true, false, ◌||◌, Result, Ok, Err, IfOk, if◌then◌else◌, subst, arith}
 use Rattle.std.specs.Prelude.{⊤}
 use Rattle.std.proofs.lemmas.List.{length-append}
-use Rattle.sexpr.specs.declared.causes.Cause.{Cause}
-use Rattle.sexpr.specs.declared.causes.Cause.TheVariants.{Repeated, LeftOut, SortMismatch}
+use Rattle.sexpr.specs.declared.causes.Cause.TheVariants.{SortMismatch}
 use Rattle.sexpr.specs.declared.causes.Refusal.{Refusal}
 use Rattle.sexpr.specs.Items.{Item, Items, no_items, item, place_of}
 use Rattle.term_model.specs.declared.symbols.Sort.{Sort}
-use Rattle.term_model.specs.Terms.{Var, sort_eq}
+use Rattle.term_model.specs.Terms.{sort_eq}
 use Rattle.text_items.specs.ItemShapes.{Name}
 use Rattle.problem_text.specs.Commands.{ScriptCommand, set_logic, without_effect, declare_sort, declare_fun, define_fun, assert_term, check_sat, exit, script_command_of}
 use Rattle.problem_text.specs.Forms.{form_of}

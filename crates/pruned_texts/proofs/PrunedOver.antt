@@ -1,5 +1,5 @@
 -- What is left of a proof is over the vocabulary that the proof is over, and has the coefficients that it has.
-use Rattle.std.proofs.Common.{◌≡◌, ◌+◌, ◌||◌, ℕ, Bool, true, false, List, [], ◌∷◌, map, refl, sym, ap, ◌∙◌, subst}
+use Rattle.std.proofs.Common.{◌≡◌, ◌+◌, ◌||◌, ℕ, Bool, true, false, List, [], ◌∷◌, map, refl, sym, ap, subst}
 use Rattle.std.specs.List.{AllByRecursion}
 use Rattle.term_model.specs.declared.symbols.Sort.{Sort}
 use Rattle.term_model.specs.Terms.{Var, Term}
@@ -7,7 +7,6 @@ use Rattle.rule_model.specs.Contexts.{IsClosedUnder}
 use Rattle.rule_model.specs.Proofs.{Step, ProofItems, no_items, with_assume, with_step, with_subproof}
 use Rattle.rule_model.specs.Scopes.{Nesting, inner, commands_in, first_index}
 use Rattle.problem_text.specs.Words.{is_among}
-use Rattle.alethe_text.specs.Anchors.{bound_names}
 use Rattle.pruned_proofs.specs.Reached.{is_kept}
 use Rattle.pruned_proofs.specs.Pruned.{kept_items}
 use Rattle.pruned_proofs.specs.KeptScopes.{kept_nesting}

@@ -1,4 +1,4 @@
-use Rattle.std.proofs.Common.{◌≡◌, sym, subst}
+use Rattle.std.proofs.Common.{sym, subst}
 use Rattle.judged_texts.specs.Judgement.{IsJudgement}
 use Rattle.named_proofs.specs.Written.{SinkView}
 use Rattle.pruned_texts.specs.Ending.{EndsSo}

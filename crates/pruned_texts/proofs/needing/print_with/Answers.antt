@@ -1,4 +1,4 @@
-use Rattle.std.proofs.Common.{◌≡◌, ◌^◌, ◌∙◌, refl, subst, sym, ap}
+use Rattle.std.proofs.Common.{◌≡◌, ◌∙◌, refl, subst, sym, ap}
 use Rattle.pair_pool.specs.Views.{PassView}
 use Rattle.term_pool.specs.Views.{TermsView}
 use Rattle.judged_texts.specs.declared.texts.Read.TheVariants as read

@@ -1,7 +1,6 @@
-use Rattle.std.proofs.Common.{◌≡◌, ◌<◌, ◌≤◌, ◌^◌, List, ℕ, length, inl, inr, subst, sym, ap, ◌∙◌, arith, All, Err}
+use Rattle.std.proofs.Common.{◌≡◌, ◌<◌, ◌^◌, length, inr, subst, ap, ◌∙◌, arith, Err}
 use Rattle.std.specs.Io.KnownBytes.{Appends}
 use Rattle.file_ports.specs.Texts.{AppendsPrefix}
-use Rattle.term_pool.specs.Views.{IsTerm}
 use Rattle.pruned_texts.specs.Needed.{core_text, IsCoreText}
 use Rattle.pruned_texts.specs.Needing.{IsCoreOfRead}
 use Rattle.pruned_texts.proofs.Ends.{all_terms, as_many}

@@ -1,11 +1,6 @@
-use Rattle.std.proofs.Common.{◌≡◌, ◌≤◌, ◌^◌, ◌⊎◌, inl, inr, ℕ, List, Option, subst, sym, arith}
+use Rattle.std.proofs.Common.{◌≡◌, ◌≤◌, ◌^◌, subst, sym, arith}
 use Rattle.std.specs.Prelude.{IsErrOf}
-use Rattle.std.specs.Io.KnownBytes.{Appends}
-use Rattle.file_ports.specs.Texts.{AppendsPrefix}
-use Rattle.sym_table.specs.Table.{Table}
-use Rattle.term_pool.specs.Views.{TermsView}
 use Rattle.proof_store.specs.Meaning.{StandForItems}
-use Rattle.rule_model.specs.Proofs.{ProofItems}
 use Rattle.rule_model.specs.Scopes.{commands_in}
 use Rattle.pruned_proofs.specs.Pruned.{pruned}
 use Rattle.alethe_printer.specs.declared.pieces.PrintFault.TheVariants as fault
