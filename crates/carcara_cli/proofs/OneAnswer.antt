@@ -323,15 +323,15 @@ module _
       by_check : (v : Verdict) (expected status : ℕ) → IsStatusOfPrinted v expected → IsCheckedAs problem p.options proof v → length problem ≤ most_bytes
           → length proof ≤ most_bytes → (a : Answer) → IsAnswerOf bits p.options (Some problem) (Some proof) a → a ≢ Judged PoolFull
           → IsElaboratedAs expected content p old new status → IsSaidOfElaborated content p a old new status
-      by_check v expected status is checked small low (Judged j) h room printed =
+      by_check v expected status is checked small low (Judged j) h room said =
           of_status j expected status
           (verdict_agrees problem p.options proof bits j v checked (of_told bits p.options problem proof j h) (λ e. room (ap Judged e))
           ∙ printed_status v expected is)
-          (printed_or v expected is) printed
-      by_check v expected status is checked small low TooLong (inl longer) room printed = absurd (omega (arith, small, longer))
-      by_check v expected status is checked small low TooLong (inr both) room printed = absurd (omega (arith, low, both.1))
-      by_check v expected status is checked small low Usage h room printed = absurd h
-      by_check v expected status is checked small low ReadFault h room printed = absurd h
+          (printed_or v expected is) said
+      by_check v expected status is checked small low TooLong (inl longer) room said = absurd (omega (arith, small, longer))
+      by_check v expected status is checked small low TooLong (inr both) room said = absurd (omega (arith, low, both.1))
+      by_check v expected status is checked small low Usage h room said = absurd h
+      by_check v expected status is checked small low ReadFault h room said = absurd h
 
       -- where what a valid proof needs is printed
       of_valid : (j : Judgement) (status : ℕ) → status_of_judgement j ≡ 0 → status ≡ 0 → IsSaidOfNeeded (Judged j) old new status
