@@ -11,7 +11,9 @@ ghost use Rattle.generated_texts.specs.Generating.{is_full, ComesOfLinks, ComesO
 use crate::summarizing::{Summary, summarize};
 use command_words::Options;
 use file_ports::Gate;
-use judged_texts::{Both, Judgement, LEAST_BITS, MOST_BITS, Read, Texts, Workers, pool_bits, read_for};
+use judged_texts::{
+    Both, Judgement, LEAST_BITS, MOST_BITS, Read, Texts, Workers, pool_bits, read_for,
+};
 use pair_pool::{Memory, Pass, Pool};
 use proof_gen::{make, texts_are_short};
 use proof_store::RuleStop;

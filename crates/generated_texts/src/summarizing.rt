@@ -15,8 +15,8 @@ ghost use Rattle.generated_texts.specs.Summaries.{IsSummary};
 use crate::standing::standing;
 use file_ports::Gate;
 use judged_texts::{
-    Both, Judgement, Texts, Workers, flags_of, judge_commands, pool_full, proofs_correspond, read_proofs_can_be_checked,
-    read_texts_stay,
+    Both, Judgement, Texts, Workers, flags_of, judge_commands, pool_full, proofs_correspond,
+    read_proofs_can_be_checked, read_texts_stay,
 };
 use pair_pool::Memory;
 use proof_store::{RuleStop, commands_correspond, terms_correspond};
