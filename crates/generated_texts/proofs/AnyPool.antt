@@ -1,5 +1,5 @@
 -- Private. What comes of two texts, by pools of different sizes.
-use Rattle.std.proofs.Common.{◌≡◌, ℕ, List, true, false, true≢false}
+use Rattle.std.proofs.Common.{◌≡◌, ℕ, List, false, true≢false}
 use Rattle.command_words.specs.declared.request.Options.{Options}
 use Rattle.judged_texts.specs.declared.judgement.Judgement.TheVariants.{Valid, Holey, NoEmptyClause, Faulty, TooWide, RefusedProblem, RefusedProof, PoolFull}
 use Rattle.generated_texts.specs.declared.generating.Generated.{Generated}

@@ -1,10 +1,8 @@
 -- Private. As many distinct cells by one table as by another.
 use Rattle.std.proofs.Common.{◌≡◌, ◌⊎◌, ◌≤◌, ℕ, suc, inl, inr, refl, sym, ◌∙◌, arith, List, [], ◌∷◌, length}
 use Rattle.pair_pool.specs.Trees.{Tree}
-use Rattle.sym_table.specs.Table.{Table, IsTable}
 use Rattle.term_model.specs.Terms.{Term}
-use Rattle.term_pool.specs.CellCounts.{Has, AreApart, CountsCells}
-use Rattle.term_pool.specs.StandsFor.{StandForAll}
+use Rattle.term_pool.specs.CellCounts.{Has, AreApart}
 use Rattle.generated_texts.specs.Cells.{HasCells}
 use Rattle.generated_texts.proofs.LikeTrees.{IsLike, one_like, like_part_of_any, like_cell}
 

@@ -1,10 +1,9 @@
 -- Private. Trees of two tables that are alike: at each place both have a cell, or leaves of one symbol.
-use Rattle.std.proofs.Common.{◌≡◌, ◌⊎◌, inl, inr, refl, sym, ap, List, [], ◌∷◌}
-use Rattle.std.specs.List.{AllZip}
+use Rattle.std.proofs.Common.{◌≡◌, inl, inr, refl, ap, List, [], ◌∷◌}
 use Rattle.pair_pool.specs.Trees.{Tree, leaf, cell}
 use Rattle.sym_table.specs.Leaf.{Leaf, operator, nil, let_head, kind_of, name_of}
 use Rattle.sym_table.specs.Table.{Table, IsLeaf, IsTable}
-use Rattle.std.specs.Prelude.{ℕ, pos, suc, zero}
+use Rattle.std.specs.Prelude.{ℕ, pos}
 use Rattle.term_model.specs.Terms.{Term, Terms, Bindings, numeral, variable, operation, call, let_in, no_terms, term, no_bindings, binding}
 use Rattle.term_pool.specs.StandsFor.{nil_tree, let_tree, variable_leaf, function_leaf, IsLeafOf, IsCellOf, StandForAll}
 use Rattle.term_pool.specs.StandsFor.{StandsFor, StandsForApplication, StandsForList, StandsForBindings}

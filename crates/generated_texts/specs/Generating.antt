@@ -1,9 +1,8 @@
 -- Public. What comes of the generator's two texts.
-use Rattle.std.specs.Prelude.{◌^◌, ℕ, Bool, true, false, List}
+use Rattle.std.specs.Prelude.{ℕ, Bool, true, false, List}
 use Rattle.proof_gen.specs.Texts.{problem_text, proof_text}
 use Rattle.command_words.specs.declared.request.Options.{Options}
-use Rattle.judged_texts.specs.declared.judgement.Judgement.{Judgement}
-use Rattle.judged_texts.specs.declared.judgement.Judgement.TheVariants.{RefusedProblem, RefusedProof, PoolFull}
+use Rattle.judged_texts.specs.declared.judgement.Judgement.TheVariants.{PoolFull}
 use Rattle.judged_texts.specs.Texts.{IsNotRead}
 use Rattle.generated_texts.specs.Summaries.{no_options, IsSummary}
 use Rattle.generated_texts.specs.declared.generating.Generated.{Generated}

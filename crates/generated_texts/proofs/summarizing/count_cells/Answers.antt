@@ -1,10 +1,8 @@
-use Rattle.std.proofs.Common.{◌≡◌, ◌∙◌, List, IfOk}
+use Rattle.std.proofs.Common.{◌∙◌}
 use Rattle.std.specs.List.{All}
 use Rattle.std.proofs.lemmas.Result.{IfOk-weaker}
 use Rattle.pair_pool.specs.Views.{IsKnown}
-use Rattle.term_model.specs.Terms.{Term}
 use Rattle.term_pool.specs.Views.{KnowsAll, ReferToAll}
-use Rattle.judged_texts.specs.Texts.{AreReadBoth}
 use Rattle.generated_texts.specs.Standing.{standing_in}
 use Rattle.generated_texts.proofs.ListLemmas.{all_known, in_refer, knows_trees, stand_trees, trees_of}
 use Rattle.generated_texts.proofs.summarizing.count_cells.Goals as goal

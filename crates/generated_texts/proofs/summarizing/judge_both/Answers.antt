@@ -6,7 +6,6 @@ use Rattle.term_pool.proofs.PlacedCells.{lacks_more}
 use Rattle.step_check.specs.Statuses.{IsPlacedOf, LacksRoomForPlaced, PlacesOnly}
 use Rattle.judged_texts.specs.Judging.{IsJudgedProof}
 use Rattle.judged_texts.specs.Texts.{flags_of}
-use Rattle.judged_texts.specs.Cells.{HasMoreCells}
 use Rattle.judged_texts.specs.Pools.{HoldsOnly}
 use Rattle.judged_texts.specs.Reading.{IsReadOf, NeedsRoom}
 use Rattle.judged_texts.proofs.CellLemmas.{has_more_cells, holds_kind, holds_more}
