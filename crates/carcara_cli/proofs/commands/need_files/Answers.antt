@@ -1,12 +1,11 @@
 use Rattle.std.proofs.Common.{ap, Err}
 use Rattle.command_words.specs.Requests.{told}
 use Rattle.elaborated_texts.specs.Ending.{SinkView}
-use Rattle.elaborated_texts.proofs.TextsInstead.{or_weaker}
 use Rattle.pruned_texts.specs.Ending.{EndsSo}
 use Rattle.carcara_cli.proofs.Finishing.{needed_ends_by}
 use Rattle.carcara_cli.specs.Finishing.{EndsBy}
 use Rattle.carcara_cli.specs.OwnTexts.{elaboration, needed}
-use Rattle.carcara_cli.proofs.FilesInstead.{printed_of, unread_printed}
+use Rattle.carcara_cli.proofs.FilesInstead.{or_weaker, printed_of, unread_printed}
 use Rattle.carcara_cli.proofs.commands.need_files.Goals as goal
 
 pub returns-clause-printed : goal.returns-clause-printed
