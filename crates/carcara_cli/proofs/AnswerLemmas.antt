@@ -1,10 +1,7 @@
 -- The answer that a judgement of the two files is, and what a valid one shows.
-use Rattle.std.proofs.Common.{◌≡◌, ℕ, ◌≤◌, List, length, refl, arith, Option, None, Some}
+use Rattle.std.proofs.Common.{◌≡◌, ℕ, ◌≤◌, List, length, arith, Option, Some}
 use Rattle.term_model.specs.Unsatisfiable.{Unsatisfiable}
 use Rattle.rule_model.specs.declared.statuses.Verdict.{Verdict}
-use Rattle.file_ports.specs.declared.whole.ReadStop.{ReadStop}
-use Rattle.file_ports.specs.declared.whole.ReadStop.TheVariants as stops
-use Rattle.file_ports.specs.Faults.{HasRisen}
 use Rattle.file_ports.specs.Texts.{AreTold}
 use Rattle.command_words.specs.declared.request.Options.{Options}
 use Rattle.command_words.specs.CommandLine.{Asked}
@@ -16,7 +13,6 @@ use Rattle.carcara_cli.specs.declared.answer.Answer.{Answer}
 use Rattle.carcara_cli.specs.declared.answer.Answer.TheVariants.{Usage, ReadFault, TooLong, Judged}
 use Rattle.carcara_cli.specs.Printed.{status_of}
 use Rattle.carcara_cli.specs.TopCall.{IsJudgedOfFiles, IsAnswerTo, IsShownUnsatisfiable}
-use Rattle.carcara_cli.specs.Answering.{IsUnread}
 
 pub judged_of_files : (bits : ℕ) (options : Options) (x y : Option (List ℕ)) (problem proof : List ℕ) (j : Judgement)
     → AreTold x problem → AreTold y proof → length problem ≤ most_bytes → length proof ≤ most_bytes

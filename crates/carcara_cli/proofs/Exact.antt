@@ -6,7 +6,6 @@ use Rattle.file_ports.specs.Faults.{HasRisen}
 use Rattle.file_ports.specs.Texts.{AreTold}
 use Rattle.proof_gen.specs.Texts.{problem_text, proof_text}
 use Rattle.command_words.specs.CommandLine.{Asked, Task, over, generate}
-use Rattle.command_words.specs.declared.request.Options.{Options}
 use Rattle.command_words.specs.declared.request.Command.{Command}
 use Rattle.command_words.specs.declared.request.Command.TheVariants.{Check, Elaborate, Core, Prune}
 use Rattle.judged_texts.specs.declared.judgement.Judgement.{Judgement}
@@ -23,9 +22,9 @@ use Rattle.carcara_cli.specs.declared.answer.Answer.{Answer}
 use Rattle.carcara_cli.specs.declared.answer.Answer.TheVariants.{Usage, ReadFault, TooLong, Judged}
 use Rattle.carcara_cli.specs.Exactness.{IsDefinedAnswer, IsExact, IsSaidBy, IsSaidByOwn, IsSaidTo, IsSummed, SaySame}
 use Rattle.carcara_cli.specs.Exactness.{Faults, HasRoom, IsComplete, IsTooMuch, IsTooMuchOf}
-use Rattle.carcara_cli.specs.OwnTexts.{Own, elaboration, needed, IsOwnText}
+use Rattle.carcara_cli.specs.OwnTexts.{Own, elaboration, needed}
 use Rattle.carcara_cli.specs.Outcomes.{Outcome, answered, left_out, printed, status_of_outcome, text_of_outcome}
-use Rattle.carcara_cli.specs.Printed.{status_of, text_of}
+use Rattle.carcara_cli.specs.Printed.{status_of}
 use Rattle.carcara_cli.specs.TopCall.{ComesTo, GeneratesTo, IsAnswerInstead, IsAnswerTo, IsOutcomeTo, IsPrinted, OwnTo}
 use Rattle.carcara_cli.proofs.Outcomes.{own_status}
 

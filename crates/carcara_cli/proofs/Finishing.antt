@@ -13,7 +13,7 @@ use Rattle.pruned_texts.specs.declared.needing.Part.{Part}
 use Rattle.pruned_texts.specs.declared.needing.End.{End as NeededEnd}
 use Rattle.pruned_texts.specs.declared.needing.End.TheVariants as needed_end
 use Rattle.pruned_texts.specs.Ending.{EndsSo as NeededEndsSo}
-use Rattle.carcara_cli.specs.Finishing.{EndsBy, IsFinished, TextsComeTo, WritesOwn, BeginsOwn, ends_as}
+use Rattle.carcara_cli.specs.Finishing.{EndsBy, IsFinished, TextsComeTo, WritesOwn, ends_as}
 use Rattle.carcara_cli.specs.Outcomes.{Outcome, printed, status_of_outcome, text_of_outcome}
 use Rattle.carcara_cli.specs.OwnTexts.{Own, elaboration, needed, IsOwnText}
 use Rattle.carcara_cli.specs.Printed.{status_of, text_of}

@@ -31,7 +31,7 @@ use Rattle.generated_texts.specs.declared.summarizing.Summary.{Summary}
 use Rattle.generated_texts.specs.Cells.{HasCells}
 use Rattle.generated_texts.specs.Standing.{standing_in}
 use Rattle.generated_texts.specs.Summaries.{IsOfProof, IsSummary, text_of_summary}
-use Rattle.carcara_cli.specs.OwnTexts.{Own, elaboration, needed, IsLeftOutBy, IsOwnText, IsSaidInsteadBy}
+use Rattle.carcara_cli.specs.OwnTexts.{Own, elaboration, needed, IsOwnText, IsSaidInsteadBy}
 use Rattle.carcara_cli.specs.Exactness.{IsDefinedAnswer, IsElaboratedAs, IsSaidByOwn, IsSaidOfElaborated, IsSaidOfNeeded, SaySame}
 use Rattle.judged_texts.specs.Holes.{Hole, holes_from, told_hole}
 use Rattle.judged_texts.specs.Judgement.{IsCheckedAs, IsJudgement}

@@ -1,6 +1,5 @@
 -- What was printed shows what its status promises.
 use Rattle.std.proofs.Common.{◌≡◌, ◌⊎◌, inl, inr, ℕ, List, Option, None, Some, refl, sym, ◌∙◌, ap, subst, arith}
-use Rattle.term_model.specs.Unsatisfiable.{Unsatisfiable}
 use Rattle.rule_model.specs.declared.statuses.Verdict.{Verdict}
 use Rattle.file_ports.specs.Faults.{HasRisen}
 use Rattle.proof_gen.specs.Texts.{problem_text, proof_text}
@@ -19,11 +18,11 @@ use Rattle.pruned_texts.specs.declared.needing.Part.{Part}
 use Rattle.pruned_texts.specs.declared.needing.Part.TheVariants as part
 use Rattle.pruned_texts.specs.Needed.{IsNeededText}
 use Rattle.generated_texts.specs.declared.summarizing.Summary.{Summary}
-use Rattle.generated_texts.specs.Summaries.{no_options, IsOfProof, IsSummaryOfLinks}
+use Rattle.generated_texts.specs.Summaries.{no_options, IsSummaryOfLinks}
 use Rattle.carcara_cli.specs.OwnTexts.{Own, elaboration, needed, IsOwnText}
 use Rattle.carcara_cli.specs.Outcomes.{Outcome, answered, left_out, printed, status_of_outcome}
 use Rattle.carcara_cli.specs.Printed.{status_of}
-use Rattle.carcara_cli.specs.TopCall.{ComesTo, GeneratesTo, IsAnswerInstead, IsAnswerTo, IsOfFiles, IsOutcomeTo, IsPrinted, IsSummaryText, OwnTo}
+use Rattle.carcara_cli.specs.TopCall.{ComesTo, GeneratesTo, IsAnswerInstead, IsAnswerTo, IsOfFiles, IsOutcomeTo, IsPrinted, OwnTo}
 use Rattle.carcara_cli.specs.TopCall.{IsShownUnsatisfiable, IsUnsatisfiableOfLinks, ShowsUnsatisfiable}
 use Rattle.carcara_cli.proofs.AnswerLemmas.{AreSound, valid_shows}
 use Rattle.carcara_cli.proofs.OneAnswer.{never_printed, printed_or}

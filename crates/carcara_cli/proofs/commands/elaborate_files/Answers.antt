@@ -4,7 +4,7 @@ use Rattle.elaborated_texts.specs.Ending.{SinkView}
 use Rattle.elaborated_texts.specs.Ending.{EndsSo}
 use Rattle.carcara_cli.proofs.Finishing.{ends_by}
 use Rattle.carcara_cli.specs.Finishing.{EndsBy}
-use Rattle.carcara_cli.specs.OwnTexts.{elaboration, needed}
+use Rattle.carcara_cli.specs.OwnTexts.{elaboration}
 use Rattle.carcara_cli.proofs.FilesInstead.{or_weaker, printed_of, unread_printed}
 use Rattle.carcara_cli.proofs.commands.elaborate_files.Goals as goal
 

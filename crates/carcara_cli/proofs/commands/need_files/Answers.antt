@@ -4,7 +4,7 @@ use Rattle.elaborated_texts.specs.Ending.{SinkView}
 use Rattle.pruned_texts.specs.Ending.{EndsSo}
 use Rattle.carcara_cli.proofs.Finishing.{needed_ends_by}
 use Rattle.carcara_cli.specs.Finishing.{EndsBy}
-use Rattle.carcara_cli.specs.OwnTexts.{elaboration, needed}
+use Rattle.carcara_cli.specs.OwnTexts.{needed}
 use Rattle.carcara_cli.proofs.FilesInstead.{or_weaker, printed_of, unread_printed}
 use Rattle.carcara_cli.proofs.commands.need_files.Goals as goal
 
@@ -18,7 +18,7 @@ returns-clause-printed g c =
     let middle : SinkView = record { written = g.S.Sink.written c.print_needed.new.out; faults = g.S.Sink.faults c.print_needed.new.out } in
     let so : EndsSo c.args.part problem a.options proof bits (record { written = first.written; faults = first.faults })
     (record { written = middle.written; faults = middle.faults }) c.print_needed.result =
-    rw (← c.deref.ensures.value, ← c.deref-2.ensures.value) c.print_needed.ensures in
+    rw (← c.deref.ensures.value, ← c.deref-2.ensures.value) c.print_needed.ensures.ends in
     let ends : EndsBy (needed c.args.part) problem a.options proof bits first middle c.end_of-end.result =
     rw c.end_of-end.ensures (needed_ends_by c.args.part problem a.options proof bits first middle c.print_needed.result so) in
     printed_of (needed c.args.part) bits (g.F.Folder.content c.args.folder.now) (g.F.Folder.faults c.args.folder.now) (g.F.Folder.faults c.read_both.new.folder) (told a)
@@ -35,7 +35,7 @@ returns-clause-write_fault g c =
     let middle : SinkView = record { written = g.S.Sink.written c.print_needed.new.out; faults = g.S.Sink.faults c.print_needed.new.out } in
     let so : EndsSo c.args.part problem a.options proof bits (record { written = first.written; faults = first.faults })
     (record { written = middle.written; faults = middle.faults }) c.print_needed.result =
-    rw (← c.deref.ensures.value, ← c.deref-2.ensures.value) c.print_needed.ensures in
+    rw (← c.deref.ensures.value, ← c.deref-2.ensures.value) c.print_needed.ensures.ends in
     let ends : EndsBy (needed c.args.part) problem a.options proof bits first middle c.end_of-end.result =
     rw c.end_of-end.ensures (needed_ends_by c.args.part problem a.options proof bits first middle c.print_needed.result so) in
     (c.finish.ensures (needed c.args.part) problem a.options proof bits first ends).failed
