@@ -1,4 +1,4 @@
--- What is closed at a site, and what follows of the steps of a block for the assembled proof.
+-- Cited by crates above. What is closed at a site, and what follows of the steps of a block for the assembled proof.
 use Rattle.std.proofs.Common.{◌≡◌, ◌↔◌, inl, inr, ◌<◌, ℕ, zero, suc, false, List, [], ◌∷◌, map, slice_get}
 use Rattle.std.proofs.Common.{Option, Some, None, Contains, All, refl, sym, ◌∙◌, ap, subst, arith}
 use Rattle.std.proofs.lemmas.List.Elements.{All-nil, All-cons, All-contains, All-weaker, recursion_from_All}

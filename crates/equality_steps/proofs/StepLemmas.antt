@@ -1,4 +1,4 @@
--- Steps of a block: they stay as more terms are known and more steps come, and one comes behind the others.
+-- Cited by crates above. Steps of a block: they stay as more terms are known and more steps come, and one comes behind the others.
 use Rattle.std.proofs.Common.{◌≡◌, ◌⊎◌, inl, inr, ◌<◌, ◌≤◌, ℕ, zero, suc, Bool, List, [], ◌∷◌, ◌++◌, map, length, get_or, slice_get}
 use Rattle.std.proofs.Common.{Some, None, All, refl, sym, ◌∙◌, ap, subst, arith, length-append}
 use Rattle.std.proofs.lemmas.Option.{slice_get-get_or}

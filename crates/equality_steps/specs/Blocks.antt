@@ -62,6 +62,13 @@ pub record AddsStep (p : Site) (v : TermsView) (old new : List AddedStep) (link 
   pub pivots_are : step.pivots ≡ pivots
   pub says : LinkSays p v new link clause
 
+-- the last step is by this rule
+pub record EndsBy (steps : List AddedStep) (rule : Rule) : Type 0 where
+  pub before : List AddedStep
+  pub last : AddedStep
+  pub is : steps ≡ before ++ last ∷ []
+  pub by : last.rule ≡ rule
+
 -- without pivots
 abbrev pub Adds : Site → TermsView → List AddedStep → List AddedStep → Link → List Term → Type 0
 Adds p v old new link clause = AddsStep p v old new link clause []

@@ -1,12 +1,13 @@
 //! Steps without premises: by the images of what anchors bind, and assertions.
 
 ghost use Rattle.std.specs.Prelude.{◌≡◌, [], ◌∷◌, Contains, IfOk, IfErr, OnOk, OnErr};
-ghost use Rattle.equality_steps.specs.Blocks.{Adds, IsBlockAt};
+ghost use Rattle.equality_steps.specs.Blocks.{Adds, EndsBy, IsBlockAt};
 ghost use Rattle.equality_steps.specs.Given.{AreSameInContext};
 ghost use Rattle.equality_steps.specs.Sites.{AreLiteralsAt, AreSidesAt};
 ghost use Rattle.rule_model.specs.Reading.{scope_at};
 ghost use Rattle.term_model.specs.Flips.{equality};
 ghost use Rattle.term_model.specs.Terms.{Term};
+ghost use Rattle.rule_model.specs.declared.rules.Rule.TheVariants as Rule;
 ghost use Rattle.term_parts.specs.declared.answers.RuleStop.TheVariants as RuleStop;
 ghost use Rattle.term_pool.specs.Placing.{LacksRoomFor, PlacesTerm};
 ghost use Rattle.term_pool.specs.Views.{KeepsTerms, RefersTo};
@@ -35,6 +36,7 @@ pub fn refl(
     ensures block { OnOk result (IsBlockAt at.now terms.new block.new) }
     ensures added { (t u : Term) → RefersTo at.now.symbols.now terms.old a t → RefersTo at.now.symbols.now terms.old b u →
         IfOk result (λ new. Adds at.now terms.new block.old block.new new (equality t u ∷ [])) }
+    ensures by { OnOk result (EndsBy block.new Rule.Refl) }
     ensures unchanged { OnErr result (block.new ≡ block.old) }
     ensures placed { (t u : Term) → RefersTo at.now.symbols.now terms.old a t → RefersTo at.now.symbols.now terms.old b u →
         PlacesTerm at.now.symbols.now terms.old.pass terms.new.pass (equality t u) }
@@ -64,6 +66,7 @@ pub fn assume(
     ensures block { OnOk result (IsBlockAt at.now terms.now block.new) }
     ensures added { (t : Term) → RefersTo at.now.symbols.now terms.now assertion t →
         IfOk result (λ new. Adds at.now terms.now block.old block.new new (t ∷ [])) }
+    ensures by { OnOk result (EndsBy block.new Rule.Assume) }
     ensures unchanged { OnErr result (block.new ≡ block.old) }
 {
     let new = block.push_unit(at, terms, Rule::Assume, assertion, &[])?;

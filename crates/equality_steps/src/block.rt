@@ -1,7 +1,7 @@
 //! Steps that are added for a command, up to now.
 
 ghost use Rattle.std.specs.Prelude.{◌≡◌, [], ◌∷◌, List, length, IfOk, OnOk, OnErr};
-ghost use Rattle.equality_steps.specs.Blocks.{Adds, AddsStep, IsBlockAt, IsStepAt};
+ghost use Rattle.equality_steps.specs.Blocks.{Adds, AddsStep, EndsBy, IsBlockAt, IsStepAt};
 ghost use Rattle.equality_steps.specs.Links.{IsLinkAt};
 ghost use Rattle.equality_steps.specs.Sites.{IsSite};
 ghost use Rattle.elaborator.specs.Sources.{linked_clause};
@@ -81,6 +81,7 @@ impl Block {
         ensures block { OnOk result (IsBlockAt at.now terms.now self.new) }
         ensures added { (clause : List Term) → ReferToAll at.now.symbols.now terms.now step.clause clause →
             IfOk result (λ link. AddsStep at.now terms.now self.old self.new link clause step.pivots) }
+        ensures by { OnOk result (EndsBy self.new step.rule) }
         ensures unchanged { OnErr result (self.new ≡ self.old) }
     {
         let number = self.steps.len() as u64;
@@ -103,6 +104,7 @@ impl Block {
         ensures block { OnOk result (IsBlockAt at.now terms.now self.new) }
         ensures added { (ts : List Term) → ReferToAll at.now.symbols.now terms.now clause.items ts →
             IfOk result (λ link. Adds at.now terms.now self.old self.new link ts) }
+        ensures by { OnOk result (EndsBy self.new rule) }
         ensures unchanged { OnErr result (self.new ≡ self.old) }
     {
         let mut premises = Vec::new(at.alloc);
@@ -131,6 +133,7 @@ impl Block {
         ensures block { OnOk result (IsBlockAt at.now terms.now self.new) }
         ensures added { (t : Term) → RefersTo at.now.symbols.now terms.now literal t →
             IfOk result (λ link. Adds at.now terms.now self.old self.new link (t ∷ [])) }
+        ensures by { OnOk result (EndsBy self.new rule) }
         ensures unchanged { OnErr result (self.new ≡ self.old) }
     {
         let clause = unit(at.alloc, literal)?;

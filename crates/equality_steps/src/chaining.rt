@@ -1,11 +1,12 @@
 //! Chains of equalities, and equal arguments.
 
 ghost use Rattle.std.specs.Prelude.{◌≡◌, [], ◌∷◌, IfOk, IfErr, OnOk, OnErr};
-ghost use Rattle.equality_steps.specs.Blocks.{Adds, IsBlockAt};
+ghost use Rattle.equality_steps.specs.Blocks.{Adds, EndsBy, IsBlockAt};
 ghost use Rattle.equality_steps.specs.Given.{AreChained, AreLinkedArguments};
 ghost use Rattle.equality_steps.specs.Sites.{AreSidesAt};
 ghost use Rattle.term_model.specs.Flips.{equality};
 ghost use Rattle.term_model.specs.Terms.{Term};
+ghost use Rattle.rule_model.specs.declared.rules.Rule.TheVariants as Rule;
 ghost use Rattle.term_parts.specs.declared.answers.RuleStop.TheVariants as RuleStop;
 ghost use Rattle.term_pool.specs.Placing.{LacksRoomFor, PlacesTerm};
 ghost use Rattle.term_pool.specs.Views.{KeepsTerms, RefersTo};
@@ -34,6 +35,7 @@ pub fn trans(
     ensures block { OnOk result (IsBlockAt at.now terms.new block.new) }
     ensures added { (t u : Term) → RefersTo at.now.symbols.now terms.old a t → RefersTo at.now.symbols.now terms.old b u →
         IfOk result (λ new. Adds at.now terms.new block.old block.new new (equality t u ∷ [])) }
+    ensures by { OnOk result (EndsBy block.new Rule.Trans) }
     ensures unchanged { OnErr result (block.new ≡ block.old) }
     ensures placed { (t u : Term) → RefersTo at.now.symbols.now terms.old a t → RefersTo at.now.symbols.now terms.old b u →
         PlacesTerm at.now.symbols.now terms.old.pass terms.new.pass (equality t u) }
@@ -66,6 +68,7 @@ pub fn cong(
     ensures block { OnOk result (IsBlockAt at.now terms.new block.new) }
     ensures added { (t u : Term) → RefersTo at.now.symbols.now terms.old a t → RefersTo at.now.symbols.now terms.old b u →
         IfOk result (λ new. Adds at.now terms.new block.old block.new new (equality t u ∷ [])) }
+    ensures by { OnOk result (EndsBy block.new Rule.Cong) }
     ensures unchanged { OnErr result (block.new ≡ block.old) }
     ensures placed { (t u : Term) → RefersTo at.now.symbols.now terms.old a t → RefersTo at.now.symbols.now terms.old b u →
         PlacesTerm at.now.symbols.now terms.old.pass terms.new.pass (equality t u) }

@@ -1,13 +1,14 @@
 //! From an equality to a clause, resolution on one atom, and weakening.
 
 ghost use Rattle.std.specs.Prelude.{◌≡◌, [], ◌∷◌, false, List, length, IfOk, IfErr, OnOk, OnErr};
-ghost use Rattle.equality_steps.specs.Blocks.{Adds, AddsResolvent, IsBlockAt};
+ghost use Rattle.equality_steps.specs.Blocks.{Adds, AddsResolvent, EndsBy, IsBlockAt};
 ghost use Rattle.equality_steps.specs.Given.{AreOpposed, HasEachLiteral};
 ghost use Rattle.equality_steps.specs.Joined.{IsLeftOver};
 ghost use Rattle.equality_steps.specs.Links.{IsLinkAt, LinkEquates, LinkSays};
 ghost use Rattle.equality_steps.specs.Sites.{AreLiteralsAt, IsSite};
 ghost use Rattle.elaborator.specs.Sources.{linked_clause};
 ghost use Rattle.term_model.specs.Terms.{Term, not_of};
+ghost use Rattle.rule_model.specs.declared.rules.Rule.TheVariants as Rule;
 ghost use Rattle.term_parts.specs.declared.answers.RuleStop.TheVariants as RuleStop;
 ghost use Rattle.term_pool.specs.Placing.{LacksRoomFor, PlacesTerm};
 ghost use Rattle.term_pool.specs.Views.{KeepsTerms, RefersTo, ReferToAll};
@@ -40,6 +41,7 @@ pub fn equiv1(
     ensures block { OnOk result (IsBlockAt at.now terms.new block.new) }
     ensures added { (t u : Term) → RefersTo at.now.symbols.now terms.old a t → RefersTo at.now.symbols.now terms.old b u →
         IfOk result (λ new. Adds at.now terms.new block.old block.new new (not_of t ∷ u ∷ [])) }
+    ensures by { OnOk result (EndsBy block.new Rule.Equiv1) }
     ensures unchanged { OnErr result (block.new ≡ block.old) }
     ensures placed { (t : Term) → RefersTo at.now.symbols.now terms.old a t → PlacesTerm at.now.symbols.now terms.old.pass terms.new.pass (not_of t) }
     ensures full { IfErr result (λ e. e ≡ RuleStop.PoolFull → (t : Term) → RefersTo at.now.symbols.now terms.old a t →
@@ -112,6 +114,7 @@ pub fn resolution(
     ensures added { (ts us : List Term) (t : Term) → LinkSays at.now terms.now block.old left ts → LinkSays at.now terms.now block.old right us →
         RefersTo at.now.symbols.now terms.now pivot.atom t →
         IfOk result (λ new. AddsResolvent at.now terms.now block.old block.new new ts us pivot.atom t) }
+    ensures by { OnOk result (EndsBy block.new Rule.Resolution) }
     ensures unchanged { OnErr result (block.new ≡ block.old) }
 {
     at.symbols.leaves_differ();
@@ -143,6 +146,7 @@ pub fn weakening(
     ensures block { OnOk result (IsBlockAt at.now terms.now block.new) }
     ensures added { (ts : List Term) → ReferToAll at.now.symbols.now terms.now clause.now ts →
         IfOk result (λ new. Adds at.now terms.now block.old block.new new ts) }
+    ensures by { OnOk result (EndsBy block.new Rule.Weakening) }
     ensures unchanged { OnErr result (block.new ≡ block.old) }
 {
     at.symbols.leaves_differ();

@@ -1,10 +1,11 @@
 //! Clauses that deny equalities and have what they give, and rest on nothing.
 
 ghost use Rattle.std.specs.Prelude.{◌≡◌, ◌∷◌, List, Contains, IfOk, IfErr, OnOk, OnErr};
-ghost use Rattle.equality_steps.specs.Blocks.{Adds, IsBlockAt};
+ghost use Rattle.equality_steps.specs.Blocks.{Adds, EndsBy, IsBlockAt};
 ghost use Rattle.equality_steps.specs.Denied.{AreApplied, ArePredicates, AreWay, congruent_clause, implied_clause, way_clause};
 ghost use Rattle.rule_model.specs.Congruence.{Head, applied};
 ghost use Rattle.term_model.specs.Terms.{Term};
+ghost use Rattle.rule_model.specs.declared.rules.Rule.TheVariants as Rule;
 ghost use Rattle.term_parts.specs.declared.answers.RuleStop.TheVariants as RuleStop;
 ghost use Rattle.term_pool.specs.Placing.{LacksCellOf, PlacesCellsOf};
 ghost use Rattle.term_pool.specs.Views.{KeepsTerms, RefersTo, ReferToAll};
@@ -31,6 +32,7 @@ pub fn eq_transitive(
     ensures block { OnOk result (IsBlockAt at.now terms.new block.new) }
     ensures added { (t : Term) (us : List Term) → ReferToAll at.now.symbols.now terms.old way.now (t ∷ us) →
         IfOk result (λ new. Adds at.now terms.new block.old block.new new (way_clause t us)) }
+    ensures by { OnOk result (EndsBy block.new Rule.EqTransitive) }
     ensures unchanged { OnErr result (block.new ≡ block.old) }
     ensures placed { (t : Term) (us : List Term) → ReferToAll at.now.symbols.now terms.old way.now (t ∷ us) →
         PlacesCellsOf at.now.symbols.now terms.old.pass terms.new.pass (Contains (way_clause t us)) }
@@ -62,6 +64,7 @@ pub fn eq_congruent(
     ensures added { (head : Head) (ts us : List Term) → RefersTo at.now.symbols.now terms.old a (applied head ts) →
         RefersTo at.now.symbols.now terms.old b (applied head us) →
         IfOk result (λ new. Adds at.now terms.new block.old block.new new (congruent_clause head ts us)) }
+    ensures by { OnOk result (EndsBy block.new Rule.EqCongruent) }
     ensures unchanged { OnErr result (block.new ≡ block.old) }
     ensures placed { (head : Head) (ts us : List Term) → RefersTo at.now.symbols.now terms.old a (applied head ts) →
         RefersTo at.now.symbols.now terms.old b (applied head us) →
@@ -94,6 +97,7 @@ pub fn eq_congruent_pred_equates(
     ensures added { (head : Head) (ts us : List Term) → RefersTo at.now.symbols.now terms.old a (applied head ts) →
         RefersTo at.now.symbols.now terms.old b (applied head us) →
         IfOk result (λ new. Adds at.now terms.new block.old block.new new (congruent_clause head ts us)) }
+    ensures by { OnOk result (EndsBy block.new Rule.EqCongruentPred) }
     ensures unchanged { OnErr result (block.new ≡ block.old) }
     ensures placed { (head : Head) (ts us : List Term) → RefersTo at.now.symbols.now terms.old a (applied head ts) →
         RefersTo at.now.symbols.now terms.old b (applied head us) →
@@ -127,6 +131,7 @@ pub fn eq_congruent_pred_implies(
     ensures added { (head : Head) (ts us : List Term) → RefersTo at.now.symbols.now terms.old a (applied head ts) →
         RefersTo at.now.symbols.now terms.old b (applied head us) →
         IfOk result (λ new. Adds at.now terms.new block.old block.new new (implied_clause head ts us)) }
+    ensures by { OnOk result (EndsBy block.new Rule.EqCongruentPred) }
     ensures unchanged { OnErr result (block.new ≡ block.old) }
     ensures placed { (head : Head) (ts us : List Term) → RefersTo at.now.symbols.now terms.old a (applied head ts) →
         RefersTo at.now.symbols.now terms.old b (applied head us) →

@@ -1,12 +1,13 @@
 //! Equalities turned round, and those of a term with itself.
 
 ghost use Rattle.std.specs.Prelude.{◌≡◌, [], ◌∷◌, IfOk, IfErr, OnOk, OnErr};
-ghost use Rattle.equality_steps.specs.Blocks.{Adds, IsBlockAt};
+ghost use Rattle.equality_steps.specs.Blocks.{Adds, EndsBy, IsBlockAt};
 ghost use Rattle.equality_steps.specs.Given.{AreTurned};
 ghost use Rattle.equality_steps.specs.Links.{LinkEquates};
 ghost use Rattle.equality_steps.specs.Sites.{IsTermAt};
 ghost use Rattle.term_model.specs.Flips.{equality};
 ghost use Rattle.term_model.specs.Terms.{Term};
+ghost use Rattle.rule_model.specs.declared.rules.Rule.TheVariants as Rule;
 ghost use Rattle.term_parts.specs.declared.answers.RuleStop.TheVariants as RuleStop;
 ghost use Rattle.term_pool.specs.Placing.{LacksRoomFor, PlacesTerm};
 ghost use Rattle.term_pool.specs.Views.{KeepsTerms, RefersTo};
@@ -34,6 +35,7 @@ pub fn symm(
     ensures block { OnOk result (IsBlockAt at.now terms.new block.new) }
     ensures added { (t u : Term) → RefersTo at.now.symbols.now terms.old a t → RefersTo at.now.symbols.now terms.old b u →
         IfOk result (λ new. Adds at.now terms.new block.old block.new new (equality u t ∷ [])) }
+    ensures by { OnOk result (EndsBy block.new Rule.Symm) }
     ensures unchanged { OnErr result (block.new ≡ block.old) }
     ensures placed { (t u : Term) → RefersTo at.now.symbols.now terms.old a t → RefersTo at.now.symbols.now terms.old b u →
         PlacesTerm at.now.symbols.now terms.old.pass terms.new.pass (equality u t) }
@@ -62,6 +64,7 @@ pub fn eq_symmetric(
     ensures block { OnOk result (IsBlockAt at.now terms.new block.new) }
     ensures added { (t u : Term) → RefersTo at.now.symbols.now terms.old whole t → RefersTo at.now.symbols.now terms.old turned u →
         IfOk result (λ new. Adds at.now terms.new block.old block.new new (equality t u ∷ [])) }
+    ensures by { OnOk result (EndsBy block.new Rule.EqSymmetric) }
     ensures unchanged { OnErr result (block.new ≡ block.old) }
     ensures placed { (t u : Term) → RefersTo at.now.symbols.now terms.old whole t → RefersTo at.now.symbols.now terms.old turned u →
         PlacesTerm at.now.symbols.now terms.old.pass terms.new.pass (equality t u) }
@@ -89,6 +92,7 @@ pub fn eq_reflexive(
     ensures block { OnOk result (IsBlockAt at.now terms.new block.new) }
     ensures added { (t : Term) → RefersTo at.now.symbols.now terms.old a t →
         IfOk result (λ new. Adds at.now terms.new block.old block.new new (equality t t ∷ [])) }
+    ensures by { OnOk result (EndsBy block.new Rule.EqReflexive) }
     ensures unchanged { OnErr result (block.new ≡ block.old) }
     ensures placed { (t : Term) → RefersTo at.now.symbols.now terms.old a t → PlacesTerm at.now.symbols.now terms.old.pass terms.new.pass (equality t t) }
     ensures full { IfErr result (λ e. e ≡ RuleStop.PoolFull → (t : Term) → RefersTo at.now.symbols.now terms.old a t →

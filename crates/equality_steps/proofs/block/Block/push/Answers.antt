@@ -1,4 +1,4 @@
-use Rattle.std.proofs.Common.{◌≡◌, [], ◌∷◌, ◌++◌, List, length, sym, subst}
+use Rattle.std.proofs.Common.{◌≡◌, [], ◌∷◌, ◌++◌, List, length, refl, sym, subst}
 use Rattle.proof_store.specs.AddedSteps.{AddedStep}
 use Rattle.proof_store.specs.declared.added.Link.{Link}
 use Rattle.equality_steps.specs.Blocks.{AddsStep, IsBlockAt}
@@ -23,3 +23,10 @@ returns-clause-added c clause h =
     subst (λ (xs : List AddedStep). AddsStep c.args.at.now c.args.terms.now c.args.self.now xs (Link.New c.len-number.result) clause c.args.step.pivots) (sym e)
     (subst (λ k. AddsStep c.args.at.now c.args.terms.now c.args.self.now (c.args.self.now ++ c.args.step ∷ []) (Link.New k) clause c.args.step.pivots) (sym n)
     (adds_pushed c.args.at.now c.args.terms.now c.args.self.now c.args.step clause h))
+
+pub returns-clause-by : goal.returns-clause-by
+returns-clause-by c =
+    let a = c.in_ok-push.ensures.items in
+    let b = c.self.view_is in
+    let e : c.push.new.self.items ≡ c.args.self.now ++ c.args.step ∷ [] = cc in
+    record { before = c.args.self.now; last = c.args.step; is = e; by = refl }

@@ -1,0 +1,11 @@
+pub mod ClosedLiterals
+pub mod LiteralLemmas
+pub mod Growing
+pub mod GrowingBlocks
+pub mod StayLemmas
+pub mod LowLemmas
+pub mod ConditionLemmas
+pub mod BlockLemmas
+pub mod ClosingLemmas
+pub mod EndLemmas
+pub mod FewLemmas

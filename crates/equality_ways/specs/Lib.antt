@@ -1,0 +1,4 @@
+pub mod Ways
+pub mod Sides
+pub mod Tables
+pub mod Reaching

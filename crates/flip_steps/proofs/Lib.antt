@@ -1,0 +1,16 @@
+pub mod FormLemmas
+pub mod SubtermLemmas
+pub mod OrderLemmas
+pub mod RefillLemmas
+pub mod Results
+pub mod VisitLemmas
+pub mod MemoryLemmas
+pub mod UnitLemmas
+pub mod EquateLemmas
+pub mod NoteLemmas
+pub mod ArgumentLemmas
+pub mod WalkLemmas
+pub mod JoinLemmas
+pub mod HeightLemmas
+pub mod CellLemmas
+pub mod LikeLemmas

@@ -1,0 +1,82 @@
+use Rattle.term_model.specs.Flips.{equality}
+use Rattle.term_pool.proofs.PlacedCells.{places_of_term, lacks_for_term}
+use Rattle.flip_steps.specs.Stages.{IsMadeAt}
+use Rattle.flip_steps.proofs.EquateLemmas.{chained_two, equates_of, grows_one, made_whole}
+use Rattle.flip_steps.proofs.Results.{handed_on}
+use Rattle.flip_steps.proofs.equating.equate_both.Goals as goal
+
+pub trans-requires-clause-given : goal.trans-requires-clause-given
+trans-requires-clause-given c =
+    chained_two c.args.at.now c.args.terms.now c.args.block.now c.leaves_differ.ensures.table c.one_to_one.ensures c.requires.links.0 c.requires.links.1
+    c.args.links.now c.args.stages.now.whole c.args.stages.now.refilled c.args.stages.now.form c.requires.links.2 c.requires.links.3 c.requires.links.4
+
+pub returns-in_err-linked-clause-placed : goal.returns-in_err-linked-clause-placed
+returns-in_err-linked-clause-placed c =
+    let p = c.args.at.now in
+    let s = p.symbols.now in
+    let v = c.args.terms.now in
+    let w = c.trans.new.terms in
+    let h = c.requires.ready.ready in
+    let left = h.stages.given.term in
+    let right = h.stages.last in
+    places_of_term s v.pass w.pass (IsMadeAt s w c.args.stages.now.whole) (equality left right)
+    (made_whole p v c.args.block.now c.leaves_differ.ensures.table c.one_to_one.ensures c.requires.ready.links c.args.stages.now h w
+    c.in_err-linked.ensures.keeps)
+    (c.in_err-linked.ensures.placed left right h.stages.given.refers h.stages.form_refers)
+
+pub returns-in_err-linked-clause-full : goal.returns-in_err-linked-clause-full
+returns-in_err-linked-clause-full c =
+    let p = c.args.at.now in
+    let s = p.symbols.now in
+    let v = c.args.terms.now in
+    let w = c.trans.new.terms in
+    let h = c.requires.ready.ready in
+    let left = h.stages.given.term in
+    let right = h.stages.last in
+    handed_on c.from_residual.result _ _ c.from_residual.ensures.1
+    (λ full. lacks_for_term s w.pass (IsMadeAt s w c.args.stages.now.whole) (equality left right)
+    (made_whole p v c.args.block.now c.leaves_differ.ensures.table c.one_to_one.ensures c.requires.ready.links c.args.stages.now h w
+    c.in_err-linked.ensures.keeps)
+    (c.in_err-linked.ensures.full full left right h.stages.given.refers h.stages.form_refers))
+
+pub returns-clause-linked : goal.returns-clause-linked
+returns-clause-linked c =
+    let p = c.args.at.now in
+    let s = p.symbols.now in
+    let v = c.args.terms.now in
+    let w = c.trans.new.terms in
+    let h = c.requires.ready.ready in
+    let left = h.stages.given.term in
+    let right = h.stages.last in
+    equates_of p v w c.args.block.now c.trans.new.block c.in_ok-linked.linked c.args.stages.now.whole c.args.stages.now.form left right
+    c.in_ok-linked.ensures.keeps h.stages.given.refers h.stages.form_refers
+    (c.in_ok-linked.ensures.added left right h.stages.given.refers h.stages.form_refers)
+
+pub returns-clause-grown : goal.returns-clause-grown
+returns-clause-grown c =
+    let p = c.args.at.now in
+    let s = p.symbols.now in
+    let v = c.args.terms.now in
+    let w = c.trans.new.terms in
+    let h = c.requires.ready.ready in
+    let left = h.stages.given.term in
+    let right = h.stages.last in
+    grows_one p w c.args.block.now c.trans.new.block c.in_ok-linked.linked (equality left right)
+    (IsMadeAt s w c.args.stages.now.whole) c.in_ok-linked.ensures.block
+    (c.in_ok-linked.ensures.added left right h.stages.given.refers h.stages.form_refers)
+    (made_whole p v c.args.block.now c.leaves_differ.ensures.table c.one_to_one.ensures c.requires.ready.links c.args.stages.now h w
+    c.in_ok-linked.ensures.keeps)
+
+pub returns-clause-placed : goal.returns-clause-placed
+returns-clause-placed c =
+    let p = c.args.at.now in
+    let s = p.symbols.now in
+    let v = c.args.terms.now in
+    let w = c.trans.new.terms in
+    let h = c.requires.ready.ready in
+    let left = h.stages.given.term in
+    let right = h.stages.last in
+    places_of_term s v.pass w.pass (IsMadeAt s w c.args.stages.now.whole) (equality left right)
+    (made_whole p v c.args.block.now c.leaves_differ.ensures.table c.one_to_one.ensures c.requires.ready.links c.args.stages.now h w
+    c.in_ok-linked.ensures.keeps)
+    (c.in_ok-linked.ensures.placed left right h.stages.given.refers h.stages.form_refers)
