@@ -1,0 +1,10 @@
+pub mod Results
+pub mod ConditionLemmas
+pub mod WorkLemmas
+pub mod OwingLemmas
+pub mod SettleLemmas
+pub mod NeedLemmas
+pub mod EndLemmas
+pub mod WalkLemmas
+pub mod ConnectLemmas
+pub mod OwnLemmas

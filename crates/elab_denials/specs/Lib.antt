@@ -1,0 +1,4 @@
+pub mod Rules
+pub mod Working
+pub mod Owing
+pub mod Walking
