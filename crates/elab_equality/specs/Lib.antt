@@ -1,0 +1,6 @@
+pub mod Rules
+pub mod Work
+pub mod Linked
+pub mod Walking
+pub mod Reflecting
+pub mod Closing
