@@ -1,0 +1,17 @@
+pub mod Results
+pub mod ConditionLemmas
+pub mod WorkLemmas
+pub mod OwingLemmas
+pub mod SettleLemmas
+pub mod NeedLemmas
+pub mod EndLemmas
+pub mod WalkLemmas
+pub mod ConnectLemmas
+pub mod OwnLemmas
+pub mod PlacedLemmas
+pub mod HeadLemmas
+pub mod MatchLemmas
+pub mod ReadyLemmas
+pub mod StateLemmas
+pub mod CongruentLemmas
+pub mod PredicateLemmas
