@@ -1,0 +1,1 @@
+use Rattle.elab_equality.proofs.closing.last_step.Goals as goal

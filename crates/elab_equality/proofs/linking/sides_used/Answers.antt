@@ -1,0 +1,1 @@
+use Rattle.elab_equality.proofs.linking.sides_used.Goals as goal
