@@ -23,7 +23,7 @@ use Rattle.carcara_cli.specs.declared.answer.Answer.TheVariants.{Usage, ReadFaul
 use Rattle.carcara_cli.specs.Exactness.{IsDefinedAnswer, IsExact, IsSaidBy, IsSaidByOwn, IsSaidTo, IsSummed, SaySame}
 use Rattle.carcara_cli.specs.Exactness.{Faults, HasRoom, IsComplete, IsTooMuch, IsTooMuchOf}
 use Rattle.carcara_cli.specs.OwnTexts.{Own, elaboration, needed}
-use Rattle.carcara_cli.specs.Outcomes.{Outcome, answered, left_out, printed, status_of_outcome, text_of_outcome}
+use Rattle.carcara_cli.specs.Outcomes.{Outcome, answered, printed, status_of_outcome, text_of_outcome}
 use Rattle.carcara_cli.specs.Printed.{status_of}
 use Rattle.carcara_cli.specs.TopCall.{ComesTo, GeneratesTo, IsAnswerInstead, IsAnswerTo, IsOutcomeTo, IsPrinted, OwnTo}
 use Rattle.carcara_cli.proofs.Outcomes.{own_status}
@@ -37,7 +37,7 @@ abbrev pub SayWhatChecksSay : Type 0
 SayWhatChecksSay =
     (own : Own) (bits : ℕ) (content : List ℕ → Option (List ℕ)) (p : Asked) (a : Answer) (o : Outcome) (old new : Option (List ℕ))
     → IsDefinedAnswer bits content p a → OwnTo own bits content 0 0 p o → o ≢ answered (Judged PoolFull) → Appends old new (text_of_outcome o)
-    → IsSaidByOwn own content p a old new (status_of_outcome o)
+    → IsSaidByOwn own a old new (status_of_outcome o)
 
 -- what is known of two summaries of the same texts
 pub record AreOneSummary : Type 0 where
@@ -59,20 +59,19 @@ none_risen own bits content before after p (answered Usage) h not_fault = h
 none_risen own bits content before after p (answered ReadFault) h not_fault = absurd (not_fault refl)
 none_risen own bits content before after p (answered TooLong) h not_fault = h
 none_risen own bits content before after p (answered (Judged j)) h not_fault = h
-none_risen own bits content before after p left_out h not_fault = h
 none_risen own bits content before after p (printed status text) h not_fault = h
 
 module _ (one : DefineOneAnswer) (say : SayWhatChecksSay) (sum : AreOneSummary) (bits : ℕ) (content : List ℕ → Option (List ℕ)) (before after : ℕ)
     (old new : Option (List ℕ)) (status : ℕ) (not_fault : status ≢ 5) (not_full : status ≢ 8) where
   exact_own : (own : Own) (p : Asked) (a : Answer) → IsDefinedAnswer bits content p a → (o : Outcome) → OwnTo own bits content before after p o
-      → status ≡ status_of_outcome o → Appends old new (text_of_outcome o) → IsSaidByOwn own content p a old new status
+      → status ≡ status_of_outcome o → Appends old new (text_of_outcome o) → IsSaidByOwn own a old new status
   exact_own own p a defined o h is text =
-      subst (IsSaidByOwn own content p a old new) (sym is)
+      subst (IsSaidByOwn own a old new) (sym is)
       (say own bits content p a o old new defined (none_risen own bits content before after p o h (λ e. not_fault (is ∙ e)))
       (λ e. not_full (is ∙ ap status_of_outcome e)) text)
 
   exact_by : (c : Command) (p : Asked) (a : Answer) → IsDefinedAnswer bits content p a → (o : Outcome) → ComesTo c bits content before after p o
-      → status ≡ status_of_outcome o → Appends old new (text_of_outcome o) → IsSaidBy c content p a old new status
+      → status ≡ status_of_outcome o → Appends old new (text_of_outcome o) → IsSaidBy c a old new status
   exact_by Check p a defined (answered b) h is text =
       let given : IsDefinedAnswer bits content p b = record {
         told = defined.told;
@@ -81,7 +80,6 @@ module _ (one : DefineOneAnswer) (say : SayWhatChecksSay) (sum : AreOneSummary) 
       } in
       let same = one bits content p b a given defined in
       (is ∙ same.status, subst (Appends old new) same.text text)
-  exact_by Check p a defined left_out h is text = absurd h
   exact_by Check p a defined (printed s t) h is text = absurd h
   exact_by Elaborate p a defined o h is text = exact_own elaboration p a defined o h is text
   exact_by Core p a defined o h is text = exact_own (needed part.Core) p a defined o h is text
@@ -95,7 +93,6 @@ module _ (one : DefineOneAnswer) (say : SayWhatChecksSay) (sum : AreOneSummary) 
   exact_of_links n (answered Usage) h is text s k = absurd h
   exact_of_links n (answered ReadFault) h is text s k = absurd h
   exact_of_links n (answered TooLong) h is text s k = absurd h
-  exact_of_links n left_out h is text s k = absurd h
 
   exact_at : (task : Option Task) (o : Outcome) → IsOutcomeTo bits content before after task o → status ≡ status_of_outcome o
       → Appends old new (text_of_outcome o) → IsSaidTo bits content task old new status
@@ -143,7 +140,6 @@ module _ (bits : ℕ) (content : List ℕ → Option (List ℕ)) (before after :
   own_has_room : (own : Own) (p : Asked) (o : Outcome) → OwnTo own bits content before after p o → status_of_outcome o ≡ 8
       → ((problem proof : List ℕ) → AreTold (content p.problem) problem → AreTold (content p.proof) proof → ¬ IsTooMuchOf own bits problem p.options proof) → ⊥
   own_has_room own p (answered a) h e room = full_own own p (subst (IsAnswerInstead own bits content before after p) (answer_full a e) h) room
-  own_has_room own p left_out h e room = omega (arith, e)
   own_has_room own p (printed status text) h e room = own_not_full status (own_status own h.problem_text p.options h.proof_text status text h.is) e
 
   has_room_by : (c : Command) (p : Asked) (o : Outcome) → ComesTo c bits content before after p o → status_of_outcome o ≡ 8
@@ -151,7 +147,6 @@ module _ (bits : ℕ) (content : List ℕ → Option (List ℕ)) (before after :
   has_room_by Check p (answered a) h e room =
       let full : IsAnswerTo bits content before after (Some p) (Judged PoolFull) = subst (IsAnswerTo bits content before after (Some p)) (answer_full a e) h in
       room full.problem_text full.proof_text full.problem_told full.proof_told full.judged
-  has_room_by Check p left_out h e room = h
   has_room_by Check p (printed status text) h e room = h
   has_room_by Elaborate p o h e room = own_has_room elaboration p o h e room
   has_room_by Core p o h e room = own_has_room (needed part.Core) p o h e room
@@ -164,7 +159,6 @@ module _ (bits : ℕ) (content : List ℕ → Option (List ℕ)) (before after :
   links_have_room n (answered Usage) h e room = h
   links_have_room n (answered ReadFault) h e room = h
   links_have_room n (answered TooLong) h e room = h
-  links_have_room n left_out h e room = h
   links_have_room n (printed status text) h e room =
       never_of_proof h.summary.judgement h.is.of_proof (judged_full h.summary.judgement (sym h.is_status ∙ e))
 

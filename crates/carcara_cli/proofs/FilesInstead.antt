@@ -11,7 +11,7 @@ use Rattle.carcara_cli.specs.Answering.{IsUnread}
 use Rattle.carcara_cli.specs.declared.answer.Answer.{Answer}
 use Rattle.carcara_cli.specs.declared.answer.Answer.TheVariants.{Usage, ReadFault, TooLong, Judged}
 use Rattle.carcara_cli.specs.Finishing.{TextsComeTo}
-use Rattle.carcara_cli.specs.Outcomes.{Outcome, answered, left_out, printed}
+use Rattle.carcara_cli.specs.Outcomes.{Outcome, answered, printed}
 use Rattle.carcara_cli.specs.OwnTexts.{Own, IsSaidInsteadBy}
 use Rattle.carcara_cli.specs.Printed.{status_of, text_of}
 use Rattle.carcara_cli.specs.TopCall.{OwnTo, IsOfFiles, IsTooLong, IsPrinted, PrintsPrefix}
@@ -36,7 +36,6 @@ module _ (own : Own) (bits : ℕ) (content : List ℕ → Option (List ℕ)) (be
   comes (answered Usage) h = absurd h
   comes (answered ReadFault) h = absurd h
   comes (answered TooLong) h = absurd h
-  comes left_out h = of_both _ h
   comes (printed status text) h = of_both _ h
 
   prefix_of : (old new : Option (List ℕ)) → PrintsPrefix (TextsComeTo own problem p.options proof bits) old new

@@ -7,8 +7,8 @@ use Rattle.command_words.specs.declared.request.Options.{Options}
 use Rattle.carcara_cli.specs.declared.answer.Answer.{Answer}
 use Rattle.elaborated_texts.specs.declared.elaborating.End.{End}
 use Rattle.elaborated_texts.specs.declared.elaborating.End.TheVariants as end
-use Rattle.elaborated_texts.specs.Ending.{EndsSo, SinkView}
-use Rattle.named_proofs.specs.Written.{SinkView as NeededView}
+use Rattle.elaborated_texts.specs.Ending.{EndsSo}
+use Rattle.named_proofs.specs.Written.{SinkView}
 use Rattle.pruned_texts.specs.declared.needing.Part.{Part}
 use Rattle.pruned_texts.specs.declared.needing.End.{End as NeededEnd}
 use Rattle.pruned_texts.specs.declared.needing.End.TheVariants as needed_end
@@ -108,22 +108,15 @@ module _ (own : Own) (problem : List ℕ) (options : Options) (proof : List ℕ)
 module _ (problem : List ℕ) (options : Options) (proof : List ℕ) (bits : ℕ) (first last : SinkView) where
   pub ends_by : (e : End) → EndsSo problem options proof bits first last e → EndsBy elaboration problem options proof bits first last e
   ends_by (end.Instead j) h = h
-  ends_by end.LeftOut h = h
   ends_by (end.Written status) h = record { text = h.text; is = h.is; printed = h.printed }
-  ends_by end.Failed h = (h.0, record { status = h.1.status; text = h.1.text; is = h.1.is; printed = h.1.printed })
+  ends_by end.Failed h = (h.0, record { status = h.1.is.0; text = h.1.text; is = h.1.is.1; printed = h.1.printed })
   ends_by end.Memory (inl same) = inl same
-  ends_by end.Memory (inr w) = inr (record { status = w.status; text = w.text; is = w.is; printed = w.printed })
+  ends_by end.Memory (inr w) = inr (record { status = w.is.0; text = w.text; is = w.is.1; printed = w.printed })
 
 module _ (part : Part) (problem : List ℕ) (options : Options) (proof : List ℕ) (bits : ℕ) (first last : SinkView) where
-  abbrev view : SinkView → NeededView
-  view x = record { written = x.written; faults = x.faults }
-
-  abbrev sink : NeededView → SinkView
-  sink x = record { written = x.written; faults = x.faults }
-
-  pub needed_ends_by : (e : NeededEnd) → NeededEndsSo part problem options proof bits (view first) (view last) e
+  pub needed_ends_by : (e : NeededEnd) → NeededEndsSo part problem options proof bits first last e
       → EndsBy (needed part) problem options proof bits first last (ends_as e)
-  needed_ends_by (needed_end.Instead j) h = (ap sink h.0, h.1)
+  needed_ends_by (needed_end.Instead j) h = h
   needed_ends_by needed_end.Written h = record { text = h.text; is = (refl, h.is); printed = h.printed }
   needed_ends_by needed_end.Failed h = (h.0, record { status = 0; text = h.1.text; is = (refl, h.1.is); printed = h.1.printed })
   needed_ends_by needed_end.Memory (inl same) = inl same

@@ -23,7 +23,7 @@ use Rattle.carcara_cli.specs.declared.answer.Answer.TheVariants.{Usage, ReadFaul
 use Rattle.judged_texts.specs.declared.judgement.Hole as code
 use Rattle.judged_texts.specs.declared.judgement.Judgement.{Judgement}
 use Rattle.judged_texts.specs.declared.judgement.Judgement.TheVariants.{Valid, Holey, NoEmptyClause, Faulty, TooWide, RefusedProblem, RefusedProof, PoolFull}
-use Rattle.elaborated_texts.specs.Elaborated.{IsElaboratedText, IsLeftOutText, IsStatusOfPrinted}
+use Rattle.elaborated_texts.specs.Elaborated.{IsElaboratedText, IsStatusOfPrinted}
 use Rattle.pruned_texts.specs.declared.needing.Part.{Part}
 use Rattle.pruned_texts.specs.declared.needing.Part.TheVariants as part
 use Rattle.pruned_texts.specs.Needed.{IsNeededText}
@@ -32,13 +32,13 @@ use Rattle.generated_texts.specs.Cells.{HasCells}
 use Rattle.generated_texts.specs.Standing.{standing_in}
 use Rattle.generated_texts.specs.Summaries.{IsOfProof, IsSummary, text_of_summary}
 use Rattle.carcara_cli.specs.OwnTexts.{Own, elaboration, needed, IsOwnText, IsSaidInsteadBy}
-use Rattle.carcara_cli.specs.Exactness.{IsDefinedAnswer, IsElaboratedAs, IsSaidByOwn, IsSaidOfElaborated, IsSaidOfNeeded, SaySame}
+use Rattle.carcara_cli.specs.Exactness.{IsDefinedAnswer, IsSaidByOwn, IsSaidOfElaborated, IsSaidOfNeeded, SaySame}
 use Rattle.judged_texts.specs.Holes.{Hole, holes_from, told_hole}
 use Rattle.judged_texts.specs.Judgement.{IsCheckedAs, IsJudgement}
 use Rattle.judged_texts.specs.Texts.{IsNotRead}
 use Rattle.judged_texts.specs.Printed.{line_end, text_of_step_cause, step_text, hole_line, refusal_text, text_of_judgement, status_of_judgement}
 use Rattle.carcara_cli.specs.Printed.{status_of, text_of}
-use Rattle.carcara_cli.specs.Outcomes.{Outcome, answered, left_out, printed, status_of_outcome, text_of_outcome}
+use Rattle.carcara_cli.specs.Outcomes.{Outcome, answered, printed, status_of_outcome, text_of_outcome}
 use Rattle.judged_texts.specs.Reading.{checking_of, settings_of}
 use Rattle.judged_texts.specs.Reading.{most_bytes}
 use Rattle.carcara_cli.specs.TopCall.{IsTooLong, IsJudgedOfFiles, IsAnswerInstead, IsAnswerTo, IsOfFiles, OwnTo}
@@ -307,11 +307,11 @@ module _
 
   -- what a check of told files says, and what is said where a text of its own is printed of some
   module _ (bits : ℕ) (content : List ℕ → Option (List ℕ)) (p : Asked) (old new : Option (List ℕ)) where
-    -- where an elaboration is printed, or the proof is left out
+    -- where an elaboration is printed
     of_status : (j : Judgement) (expected status : ℕ) → status_of_judgement j ≡ expected → (expected ≡ 0) ⊎ (expected ≡ 2)
-        → IsElaboratedAs expected content p old new status → IsSaidOfElaborated content p (Judged j) old new status
-    of_status Valid expected status e is h = rw (sym e) at h
-    of_status (Holey holes) expected status e is h = rw (sym e) at h
+        → status ≡ expected → IsSaidOfElaborated (Judged j) old new status
+    of_status Valid expected status e is h = h ∙ sym e
+    of_status (Holey holes) expected status e is h = h ∙ sym e
     of_status NoEmptyClause expected status e is h = absurd (neither_status 1 (λ x. omega (arith, x)) (λ x. omega (arith, x)) (rw (← e) at is))
     of_status (Faulty id cause) expected status e is h = absurd (neither_status 1 (λ x. omega (arith, x)) (λ x. omega (arith, x)) (rw (← e) at is))
     of_status (TooWide id) expected status e is h = absurd (neither_status 4 (λ x. omega (arith, x)) (λ x. omega (arith, x)) (rw (← e) at is))
@@ -322,7 +322,7 @@ module _
     module _ (problem proof : List ℕ) (first : content p.problem ≡ Some problem) (second : content p.proof ≡ Some proof) where
       by_check : (v : Verdict) (expected status : ℕ) → IsStatusOfPrinted v expected → IsCheckedAs problem p.options proof v → length problem ≤ most_bytes
           → length proof ≤ most_bytes → (a : Answer) → IsAnswerOf bits p.options (Some problem) (Some proof) a → a ≢ Judged PoolFull
-          → IsElaboratedAs expected content p old new status → IsSaidOfElaborated content p a old new status
+          → status ≡ expected → IsSaidOfElaborated a old new status
       by_check v expected status is checked small low (Judged j) h room said =
           of_status j expected status
           (verdict_agrees problem p.options proof bits j v checked (of_told bits p.options problem proof j h) (λ e. room (ap Judged e))
@@ -379,7 +379,7 @@ module _
       same_valid (needed part) b h e = never_printed (needed part) bits content 0 0 p b h e
 
       same_said : (own : Own) (a b : Answer) → IsAnswerInstead own bits content 0 0 p b → SaySame b a → Appends old new (text_of b)
-          → IsSaidByOwn own content p a old new (status_of b)
+          → IsSaidByOwn own a old new (status_of b)
       same_said own (Judged Valid) b h same text = absurd (same_valid own b h same.status)
       same_said elaboration (Judged (Holey holes)) b h same text = absurd (never_printed elaboration bits content 0 0 p b h (inr same.status))
       same_said (needed part) (Judged (Holey holes)) b h same text = (same.status, subst (Appends old new) same.text text)
@@ -404,18 +404,13 @@ module _
 
       said_of : (own : Own) (a : Answer) → IsAnswerOf bits p.options (Some problem) (Some proof) a → a ≢ Judged PoolFull → (o : Outcome)
           → OwnTo own bits content 0 0 p o → o ≢ answered (Judged PoolFull) → Appends old new (text_of_outcome o)
-          → IsSaidByOwn own content p a old new (status_of_outcome o)
+          → IsSaidByOwn own a old new (status_of_outcome o)
       said_of own a h room (answered b) k other text =
           same_said own a b k (one_of_told bits p.options problem proof b a (answer_of own b k (λ e. other (ap answered e))) h (λ e. other (ap answered e)) room) text
-      said_of elaboration a h room left_out k other text =
-          let all : IsLeftOutText problem p.options proof × (length problem ≤ most_bytes) × (length proof ≤ most_bytes) =
-          told_files (content p.problem) (content p.proof) problem proof (λ x y. IsLeftOutText x p.options y) first second k in
-          by_check all.0.verdict all.0.status 3 all.0.passes all.0.checked all.1 all.2 a h room (inr (k, (refl, text)))
-      said_of (needed part) a h room left_out k other text = absurd k.is
       said_of elaboration a h room (printed status bytes) k other text =
           let all : IsElaboratedText problem p.options proof status bytes × (length problem ≤ most_bytes) × (length proof ≤ most_bytes) =
           told_files (content p.problem) (content p.proof) problem proof (λ x y. IsElaboratedText x p.options y status bytes) first second k in
-          by_check all.0.verdict status status all.0.is_status all.0.checked all.1 all.2 a h room (inl refl)
+          by_check all.0.verdict status status all.0.is_status all.0.checked all.1 all.2 a h room refl
       said_of (needed part) a h room (printed status bytes) k other text =
           let all : IsOwnText (needed part) problem p.options proof status bytes × (length problem ≤ most_bytes) × (length proof ≤ most_bytes) =
           told_files (content p.problem) (content p.proof) problem proof (λ x y. IsOwnText (needed part) x p.options y status bytes) first second k in
@@ -423,14 +418,14 @@ module _
 
     from_told : (own : Own) (x y : Option (List ℕ)) → content p.problem ≡ x → content p.proof ≡ y → x ≢ None → y ≢ None → (a : Answer)
         → IsAnswerOf bits p.options x y a → a ≢ Judged PoolFull → (o : Outcome) → OwnTo own bits content 0 0 p o → o ≢ answered (Judged PoolFull)
-        → Appends old new (text_of_outcome o) → IsSaidByOwn own content p a old new (status_of_outcome o)
+        → Appends old new (text_of_outcome o) → IsSaidByOwn own a old new (status_of_outcome o)
     from_told own None y first second told told' a h = absurd (told refl)
     from_told own (Some problem) None first second told told' a h = absurd (told' refl)
     from_told own (Some problem) (Some proof) first second told told' a h = said_of problem proof first second own a h
 
   pub own_text_says : (own : Own) (bits : ℕ) (content : List ℕ → Option (List ℕ)) (p : Asked) (a : Answer) (o : Outcome) (old new : Option (List ℕ))
       → IsDefinedAnswer bits content p a → OwnTo own bits content 0 0 p o → o ≢ answered (Judged PoolFull) → Appends old new (text_of_outcome o)
-      → IsSaidByOwn own content p a old new (status_of_outcome o)
+      → IsSaidByOwn own a old new (status_of_outcome o)
   own_text_says own bits content p a o old new h =
       from_told bits content p old new own (content p.problem) (content p.proof) refl refl h.told.0 h.told.1 a (read_both bits content p a h.answers) h.has_room o
 

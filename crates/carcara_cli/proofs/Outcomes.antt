@@ -20,7 +20,7 @@ use Rattle.pruned_texts.specs.Needed.{IsNeededText}
 use Rattle.generated_texts.specs.declared.summarizing.Summary.{Summary}
 use Rattle.generated_texts.specs.Summaries.{no_options, IsSummaryOfLinks}
 use Rattle.carcara_cli.specs.OwnTexts.{Own, elaboration, needed, IsOwnText}
-use Rattle.carcara_cli.specs.Outcomes.{Outcome, answered, left_out, printed, status_of_outcome}
+use Rattle.carcara_cli.specs.Outcomes.{Outcome, answered, printed, status_of_outcome}
 use Rattle.carcara_cli.specs.Printed.{status_of}
 use Rattle.carcara_cli.specs.TopCall.{ComesTo, GeneratesTo, IsAnswerInstead, IsAnswerTo, IsOfFiles, IsOutcomeTo, IsPrinted, OwnTo}
 use Rattle.carcara_cli.specs.TopCall.{IsShownUnsatisfiable, IsUnsatisfiableOfLinks, ShowsUnsatisfiable}
@@ -63,13 +63,11 @@ module _ (bits : ℕ) (content : List ℕ → Option (List ℕ)) (before after :
 
   fault_own : (own : Own) (p : Asked) (o : Outcome) → OwnTo own bits content before after p o → status_of_outcome o ≡ 5 → HasRisen before after
   fault_own own p (answered a) h e = fault_instead own p a h e
-  fault_own own p left_out h e = absurd (omega (arith, e))
   fault_own own p (printed status text) h e =
       absurd (neither status 5 (own_status own h.problem_text p.options h.proof_text status text h.is) e (λ x. omega (arith, x)) (λ x. omega (arith, x)))
 
   fault_by : (c : Command) (p : Asked) (o : Outcome) → ComesTo c bits content before after p o → status_of_outcome o ≡ 5 → HasRisen before after
   fault_by Check p (answered a) h e = fault_risen p a h e
-  fault_by Check p left_out h e = absurd h
   fault_by Check p (printed status text) h e = absurd h
   fault_by Elaborate p o h e = fault_own elaboration p o h e
   fault_by Core p o h e = fault_own (needed part.Core) p o h e
@@ -80,7 +78,6 @@ module _ (bits : ℕ) (content : List ℕ → Option (List ℕ)) (before after :
   no_fault_of_links n (answered Usage) h e = h
   no_fault_of_links n (answered ReadFault) h e = h
   no_fault_of_links n (answered TooLong) h e = h
-  no_fault_of_links n left_out h e = h
   no_fault_of_links n (printed status text) h e = judged_no_fault h.summary.judgement (sym h.is_status ∙ e)
 
   fault_at : (task : Option Task) (o : Outcome) → IsOutcomeTo bits content before after task o → status_of_outcome o ≡ 5 → HasRisen before after
@@ -136,14 +133,12 @@ module _ (bits : ℕ) (content : List ℕ → Option (List ℕ)) (before after :
     shown_own : (own : Own) (p : Asked) (o : Outcome) → OwnTo own bits content before after p o → status_of_outcome o ≡ 0 → ShowsUnsatisfiable content (Some (over p))
     shown_own elaboration p (answered a) h e = absurd (never_printed elaboration bits content before after p a h (inl e))
     shown_own (needed which) p (answered a) h e = absurd (never_printed (needed which) bits content before after p a h e)
-    shown_own own p left_out h e = absurd (omega (arith, e))
     shown_own elaboration p (printed status text) h e = of_verdict p h.is.verdict status text h refl h.is.is_status e
     shown_own (needed which) p (printed status text) h e = of_needed which p status text h
 
     shown_by : (c : Command) (p : Asked) (o : Outcome) → ComesTo c bits content before after p o → status_of_outcome o ≡ 0
         → ShowsUnsatisfiable content (Some (over p))
     shown_by Check p (answered a) h e = valid_shows sound bits content before after p a h e
-    shown_by Check p left_out h e = absurd h
     shown_by Check p (printed status text) h e = absurd h
     shown_by Elaborate p o h e = shown_own elaboration p o h e
     shown_by Core p o h e = shown_own (needed part.Core) p o h e
@@ -177,7 +172,6 @@ module _ (bits : ℕ) (content : List ℕ → Option (List ℕ)) (before after :
     shown_of_links n (answered Usage) h e = absurd h
     shown_of_links n (answered ReadFault) h e = absurd h
     shown_of_links n (answered TooLong) h e = absurd h
-    shown_of_links n left_out h e = absurd h
     shown_of_links n (printed status text) h e = of_summary n h.summary h.is h.summary.judgement refl (sym h.is_status ∙ e)
 
     shown_at : (task : Option Task) (o : Outcome) → IsOutcomeTo bits content before after task o → status_of_outcome o ≡ 0 → ShowsUnsatisfiable content task

@@ -12,14 +12,13 @@ use Rattle.judged_texts.specs.declared.judgement.Judgement.TheVariants.{Valid, H
 use Rattle.judged_texts.specs.Cells.{HasMoreCells}
 use Rattle.judged_texts.specs.Printed.{status_of_judgement}
 use Rattle.judged_texts.specs.Reading.{NeedsRoom}
-use Rattle.elaborated_texts.specs.Elaborated.{HasManyCommands, IsLeftOutText, NeedsRoomToElaborate}
+use Rattle.elaborated_texts.specs.Elaborated.{HasManyCommands, NeedsRoomToElaborate}
 use Rattle.pruned_texts.specs.declared.needing.Part.TheVariants as Part
 use Rattle.generated_texts.specs.declared.summarizing.Summary.{Summary}
 use Rattle.generated_texts.specs.Summaries.{no_options, IsSummaryOfLinks, text_of_summary}
 use Rattle.carcara_cli.specs.declared.answer.Answer.{Answer}
 use Rattle.carcara_cli.specs.declared.answer.Answer.TheVariants.{Usage, Judged}
 use Rattle.carcara_cli.specs.Printed.{status_of, text_of}
-use Rattle.carcara_cli.specs.Outcomes.{left_out_answer}
 use Rattle.carcara_cli.specs.OwnTexts.{Own, elaboration, needed}
 use Rattle.carcara_cli.specs.TopCall.{IsAnswerTo, IsOfFiles}
 
@@ -43,32 +42,27 @@ pub record SaySame (a b : Answer) : Type 0 where
 abbrev pub IsSaid : Answer → Option (List ℕ) → Option (List ℕ) → ℕ → Type 0
 IsSaid a old new status = (status ≡ status_of a) × Appends old new (text_of a)
 
--- The status is that of a proof that was elaborated; or the proof is left out, which was printed.
-abbrev pub IsElaboratedAs : ℕ → (List ℕ → Option (List ℕ)) → Asked → Option (List ℕ) → Option (List ℕ) → ℕ → Type 0
-IsElaboratedAs expected content p old new status =
-    (status ≡ expected)
-    ⊎ (IsOfFiles (content p.problem) (content p.proof) (λ problem proof. IsLeftOutText problem p.options proof) × IsSaid left_out_answer old new status)
-
--- Where a proof is to be elaborated, the whole text of the answer was printed, with its status, where that is neither `valid` nor `holey`.
-abbrev pub IsSaidOfElaborated : (List ℕ → Option (List ℕ)) → Asked → Answer → Option (List ℕ) → Option (List ℕ) → ℕ → Type 0
-IsSaidOfElaborated content p (Judged Valid) old new status = IsElaboratedAs 0 content p old new status
-IsSaidOfElaborated content p (Judged (Holey holes)) old new status = IsElaboratedAs 2 content p old new status
-IsSaidOfElaborated content p a old new status = IsSaid a old new status
+-- Where a proof is to be elaborated, the whole text of the answer was printed, with its status, where that is neither `valid` nor `holey`;
+-- else the status is that of the answer.
+abbrev pub IsSaidOfElaborated : Answer → Option (List ℕ) → Option (List ℕ) → ℕ → Type 0
+IsSaidOfElaborated (Judged Valid) old new status = status ≡ 0
+IsSaidOfElaborated (Judged (Holey holes)) old new status = status ≡ 2
+IsSaidOfElaborated a old new status = IsSaid a old new status
 
 -- Where what a valid proof needs is to be printed, the same where the answer is not `valid`; else the status is 0.
 abbrev pub IsSaidOfNeeded : Answer → Option (List ℕ) → Option (List ℕ) → ℕ → Type 0
 IsSaidOfNeeded (Judged Valid) old new status = status ≡ 0
 IsSaidOfNeeded a old new status = IsSaid a old new status
 
-abbrev pub IsSaidByOwn : Own → (List ℕ → Option (List ℕ)) → Asked → Answer → Option (List ℕ) → Option (List ℕ) → ℕ → Type 0
-IsSaidByOwn elaboration content p = IsSaidOfElaborated content p
-IsSaidByOwn (needed part) content p = IsSaidOfNeeded
+abbrev pub IsSaidByOwn : Own → Answer → Option (List ℕ) → Option (List ℕ) → ℕ → Type 0
+IsSaidByOwn elaboration = IsSaidOfElaborated
+IsSaidByOwn (needed part) = IsSaidOfNeeded
 
-abbrev pub IsSaidBy : Command → (List ℕ → Option (List ℕ)) → Asked → Answer → Option (List ℕ) → Option (List ℕ) → ℕ → Type 0
-IsSaidBy Check content p = IsSaid
-IsSaidBy Elaborate content p = IsSaidByOwn elaboration content p
-IsSaidBy Core content p = IsSaidByOwn (needed Part.Core) content p
-IsSaidBy Prune content p = IsSaidByOwn (needed Part.Commands) content p
+abbrev pub IsSaidBy : Command → Answer → Option (List ℕ) → Option (List ℕ) → ℕ → Type 0
+IsSaidBy Check = IsSaid
+IsSaidBy Elaborate = IsSaidByOwn elaboration
+IsSaidBy Core = IsSaidByOwn (needed Part.Core)
+IsSaidBy Prune = IsSaidByOwn (needed Part.Commands)
 
 -- the status is that of the summary, and its whole text was printed
 abbrev pub IsSummed : Summary → Option (List ℕ) → Option (List ℕ) → ℕ → Type 0
@@ -78,7 +72,7 @@ IsSummed summary old new status = (status ≡ status_of_judgement summary.judgem
 -- of a proof and a problem, as its command says it, and the one summary of the generator's texts.
 abbrev pub IsSaidTo : ℕ → (List ℕ → Option (List ℕ)) → Option Task → Option (List ℕ) → Option (List ℕ) → ℕ → Type 0
 IsSaidTo bits content None old new status = IsSaid Usage old new status
-IsSaidTo bits content (Some (over p)) old new status = (a : Answer) → IsDefinedAnswer bits content p a → IsSaidBy p.command content p a old new status
+IsSaidTo bits content (Some (over p)) old new status = (a : Answer) → IsDefinedAnswer bits content p a → IsSaidBy p.command a old new status
 IsSaidTo bits content (Some (generate n workers)) old new status = (summary : Summary) → IsSummaryOfLinks n summary → IsSummed summary old new status
 
 -- This is so unless a file was not read (5), the output not written (6), memory ran out (7) or the pool was full (8).

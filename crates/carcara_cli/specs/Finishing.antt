@@ -4,21 +4,20 @@ use Rattle.std.specs.Io.KnownBytes.{Appends}
 use Rattle.file_ports.specs.Faults.{HasRisen}
 use Rattle.file_ports.specs.Texts.{AppendsPrefix}
 use Rattle.command_words.specs.declared.request.Options.{Options}
-use Rattle.elaborated_texts.specs.Ending.{SinkView}
+use Rattle.named_proofs.specs.Written.{SinkView}
 use Rattle.elaborated_texts.specs.declared.elaborating.End.{End}
 use Rattle.elaborated_texts.specs.declared.elaborating.End.TheVariants as end
 use Rattle.pruned_texts.specs.declared.needing.End.{End as NeededEnd}
 use Rattle.pruned_texts.specs.declared.needing.End.TheVariants as needed_end
 use Rattle.carcara_cli.specs.declared.answer.Answer.TheVariants.{Judged}
-use Rattle.carcara_cli.specs.Outcomes.{Outcome, answered, left_out, printed}
-use Rattle.carcara_cli.specs.OwnTexts.{Own, IsLeftOutBy, IsOwnText, IsSaidInsteadBy}
+use Rattle.carcara_cli.specs.Outcomes.{Outcome, answered, printed}
+use Rattle.carcara_cli.specs.OwnTexts.{Own, IsOwnText, IsSaidInsteadBy}
 use Rattle.carcara_cli.specs.TopCall.{IsPrinted}
 
 -- what the two texts come to
 abbrev pub TextsComeTo : Own → List ℕ → Options → List ℕ → ℕ → Outcome → Type 0
 TextsComeTo own problem options proof bits (answered (Judged j)) = IsSaidInsteadBy own problem options proof bits j
 TextsComeTo own problem options proof bits (answered a) = ⊥
-TextsComeTo own problem options proof bits left_out = IsLeftOutBy own problem options proof
 TextsComeTo own problem options proof bits (printed status text) = IsOwnText own problem options proof status text
 
 -- what was printed of it
@@ -41,7 +40,6 @@ pub record BeginsOwn (own : Own) (problem : List ℕ) (options : Options) (proof
 -- what was written, by how the printing ended
 abbrev pub EndsBy : Own → List ℕ → Options → List ℕ → ℕ → SinkView → SinkView → End → Type 0
 EndsBy own problem options proof bits old new (end.Instead j) = (new ≡ old) × IsSaidInsteadBy own problem options proof bits j
-EndsBy own problem options proof bits old new end.LeftOut = (new ≡ old) × IsLeftOutBy own problem options proof
 EndsBy own problem options proof bits old new (end.Written status) = WritesOwn own problem options proof status old.written new.written
 EndsBy own problem options proof bits old new end.Failed = HasRisen old.faults new.faults × BeginsOwn own problem options proof old.written new.written
 EndsBy own problem options proof bits old new end.Memory = (new.written ≡ old.written) ⊎ BeginsOwn own problem options proof old.written new.written

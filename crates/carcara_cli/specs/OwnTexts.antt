@@ -2,7 +2,7 @@
 use Rattle.std.specs.Prelude.{◌≡◌, ℕ, List}
 use Rattle.command_words.specs.declared.request.Options.{Options}
 use Rattle.judged_texts.specs.declared.judgement.Judgement.{Judgement}
-use Rattle.elaborated_texts.specs.Elaborated.{IsElaboratedText, IsLeftOutText}
+use Rattle.elaborated_texts.specs.Elaborated.{IsElaboratedText}
 use Rattle.elaborated_texts.specs.Elaborated as Elaborated
 use Rattle.pruned_texts.specs.declared.needing.Part.{Part}
 use Rattle.pruned_texts.specs.Needed.{IsNeededText}
@@ -17,11 +17,6 @@ pub data Own : Type 0 where
 abbrev pub IsOwnText : Own → List ℕ → Options → List ℕ → ℕ → List ℕ → Type 0
 IsOwnText elaboration problem options proof status text = IsElaboratedText problem options proof status text
 IsOwnText (needed part) problem options proof status text = (status ≡ 0) × IsNeededText part problem options proof text
-
--- the proof is left out
-abbrev pub IsLeftOutBy : Own → List ℕ → Options → List ℕ → Type 0
-IsLeftOutBy elaboration problem options proof = IsLeftOutText problem options proof
-IsLeftOutBy (needed part) problem options proof = ⊥
 
 -- This is said of the two texts instead, where the largest pool has 2^bits places. Of an elaboration it is neither `valid` nor `holey`, and of
 -- what is needed it is not `valid`.

@@ -23,8 +23,8 @@ use Rattle.generated_texts.specs.Generating.{ComesOfLinks}
 use Rattle.generated_texts.specs.Summaries.{IsSummaryOfLinks, text_of_summary}
 use Rattle.carcara_cli.specs.declared.answer.Answer.{Answer}
 use Rattle.carcara_cli.specs.declared.answer.Answer.TheVariants.{Usage, ReadFault, TooLong, Judged}
-use Rattle.carcara_cli.specs.OwnTexts.{Own, elaboration, needed, IsLeftOutBy, IsOwnText, IsSaidInsteadBy}
-use Rattle.carcara_cli.specs.Outcomes.{Outcome, answered, left_out, printed, status_of_outcome, text_of_outcome}
+use Rattle.carcara_cli.specs.OwnTexts.{Own, elaboration, needed, IsOwnText, IsSaidInsteadBy}
+use Rattle.carcara_cli.specs.Outcomes.{Outcome, answered, printed, status_of_outcome, text_of_outcome}
 
 -- the largest pool has 2^26 places
 abbrev pub most_bits : ℕ
@@ -78,7 +78,6 @@ pub record IsOfFiles (problem proof : Option (List ℕ)) (Is : List ℕ → List
 -- what a check comes to: an answer
 abbrev pub ChecksTo : ℕ → (List ℕ → Option (List ℕ)) → ℕ → ℕ → Asked → Outcome → Type 0
 ChecksTo bits content before after p (answered a) = IsAnswerTo bits content before after (Some p) a
-ChecksTo bits content before after p left_out = ⊥
 ChecksTo bits content before after p (printed status text) = ⊥
 
 -- An answer where a text of its own is printed of some proofs: as to a check, but for what is said of the two texts.
@@ -87,11 +86,9 @@ IsAnswerInstead own bits content before after p (Judged j) =
     IsOfFiles (content p.problem) (content p.proof) (λ problem proof. IsSaidInsteadBy own problem p.options proof bits j)
 IsAnswerInstead own bits content before after p a = IsAnswerTo bits content before after (Some p) a
 
--- what such a command comes to: such an answer, a proof that is left out, or a text of its own
+-- what such a command comes to: such an answer, or a text of its own
 abbrev pub OwnTo : Own → ℕ → (List ℕ → Option (List ℕ)) → ℕ → ℕ → Asked → Outcome → Type 0
 OwnTo own bits content before after p (answered a) = IsAnswerInstead own bits content before after p a
-OwnTo own bits content before after p left_out =
-    IsOfFiles (content p.problem) (content p.proof) (λ problem proof. IsLeftOutBy own problem p.options proof)
 OwnTo own bits content before after p (printed status text) =
     IsOfFiles (content p.problem) (content p.proof) (λ problem proof. IsOwnText own problem p.options proof status text)
 
@@ -113,7 +110,6 @@ pub record IsSummaryText (n : ℕ) (status : ℕ) (text : List ℕ) : Type 0 whe
 abbrev pub GeneratesTo : ℕ → ℕ → Outcome → Type 0
 GeneratesTo bits n (answered (Judged j)) = ComesOfLinks n bits (Generated.Not j)
 GeneratesTo bits n (answered a) = ⊥
-GeneratesTo bits n left_out = ⊥
 GeneratesTo bits n (printed status text) = IsSummaryText n status text
 
 abbrev pub DoesTo : ℕ → (List ℕ → Option (List ℕ)) → ℕ → ℕ → Task → Outcome → Type 0

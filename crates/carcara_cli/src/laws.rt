@@ -32,11 +32,11 @@ pub fn words_and_files_define_one_answer()
 }
 
 /// Where a text of its own is printed of some proofs, the same is said as by a check of the same files: the same text with the same
-/// status, where the proof is not one of these; and else the status of the check. Or the proof is left out.
+/// status, where the proof is not one of these; and else the status of the check.
 pub fn own_texts_say_what_checks_say()
     ensures { (own : Own) (bits : ℕ) (content : List ℕ → Option (List ℕ)) (p : Asked) (a : Answer) (o : Outcome) (old new : Option (List ℕ)) →
         IsDefinedAnswer bits content p a → OwnTo own bits content 0 0 p o → o ≢ answered (Judged PoolFull) →
-        Appends old new (text_of_outcome o) → IsSaidByOwn own content p a old new (status_of_outcome o) }
+        Appends old new (text_of_outcome o) → IsSaidByOwn own a old new (status_of_outcome o) }
 {
     texts_have_one_reading();
     proof_texts_have_one_reading();

@@ -5,12 +5,11 @@ ghost use Rattle.file_ports.specs.Faults.{HasRisen};
 ghost use Rattle.file_ports.specs.Texts.{AppendsPrefix};
 ghost use Rattle.command_words.specs.declared.request.Options.{Options as Chosen};
 ghost use Rattle.judged_texts.specs.Printed.{status_of_judgement};
-ghost use Rattle.elaborated_texts.specs.Ending.{SinkView};
+ghost use Rattle.named_proofs.specs.Written.{SinkView};
 ghost use Rattle.generated_texts.specs.Summaries.{text_of_summary};
 ghost use Rattle.carcara_cli.specs.Answering.{IsUnread};
 ghost use Rattle.carcara_cli.specs.declared.answer.Answer.{Answer as Said};
 ghost use Rattle.carcara_cli.specs.Finishing.{EndsBy, IsFinished};
-ghost use Rattle.carcara_cli.specs.Outcomes.{left_out_answer};
 ghost use Rattle.carcara_cli.specs.OwnTexts.{Own};
 ghost use Rattle.carcara_cli.specs.Printed as spec;
 
@@ -19,8 +18,7 @@ use crate::files::unread;
 use elaborated_texts::End;
 use file_ports::{OutStop, ReadStop, Sink, write_whole};
 use generated_texts::{Summary, text_of_summary};
-use judged_texts::{Judgement, status_of_judgement};
-use sexpr::{Cause, Refusal};
+use judged_texts::status_of_judgement;
 use std::alloc::Global;
 
 /// Prints an answer, and says the status with which the program ends.
@@ -78,19 +76,8 @@ pub(crate) fn finish<S: Sink>(alloc: Global, end: End, out: &mut S) -> u8
 {
     match end {
         End::Instead(judgement) => report(alloc, &Answer::Judged(judgement), out),
-        End::LeftOut => report(alloc, &left_out(), out),
         End::Written(status) => status,
         End::Failed => 6,
         End::Memory => 7,
     }
-}
-
-/// The answer where a proof is left out.
-fn left_out() -> Answer
-    ensures { result ≡ left_out_answer }
-{
-    Answer::Judged(Judgement::RefusedProof(Refusal {
-        at: 0,
-        cause: Cause::LeftOut,
-    }))
 }

@@ -38,8 +38,8 @@ use std::thread::Threads;
 ///
 /// Status 0 is `valid`, 1 `invalid`, 2 `holey`, 3 `refused`, 4 `unknown`, 5 a read fault, 6 a write fault, 7 out of memory, 8 texts
 /// whose terms have more than 2^26 distinct cells or an elaboration with too many commands, 9 a file of more than 268,435,456 bytes,
-/// and 64 words that spell no command. Of `elaborate`, 0 and 2 print the elaborated proof alone, and 3 is also a proof that is left out;
-/// of `prune`, 0 prints the pruned proof alone.
+/// and 64 words that spell no command. Of `elaborate`, 0 and 2 print the elaborated proof alone; of `prune`, 0
+/// prints the pruned proof alone.
 ///
 /// The first that answers decides, in this order: the words, the problem's file, the proof's file, the problem's text,
 /// the proof's text, the verdict. Nothing is written before the answer is known. Where it can't be written whole, the

@@ -1,6 +1,6 @@
 mod TextsInstead
 mod MadeLemmas
-mod Narrowed
 mod ElaboratedTexts
 mod WrittenElaborations
 mod AnyPool
+mod ClosedTruths

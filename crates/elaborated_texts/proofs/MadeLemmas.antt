@@ -1,5 +1,5 @@
 -- What was read stays so as the pool comes to know more, and what is made of it is of the two texts.
-use Rattle.std.proofs.Common.{◌≡◌, ◌⊎◌, inl, inr, ℕ, suc, ◌+◌, ◌^◌, ◌<◌, ◌≤◌, List, [], ◌∷◌, length, slice_get, Some, refl, sym, ◌∙◌, ap, subst, arith}
+use Rattle.std.proofs.Common.{◌≡◌, ◌⊎◌, inl, inr, ℕ, ◌^◌, List, Some, sym, subst}
 use Rattle.std.specs.Prelude.{All}
 use Rattle.std.proofs.lemmas.List.Elements.{All-weaker}
 use Rattle.pair_pool.specs.Views.{PassView, IsOneToOne, HasListsInOrder}
@@ -12,24 +12,15 @@ use Rattle.term_pool.specs.Views.{TermsView, RefersTo, ReferToAll, KeepsPass, Ke
 use Rattle.term_pool.proofs.OneTerm.{one_term}
 use Rattle.term_pool.proofs.PlacedCells.{lacks_more}
 use Rattle.term_reader.specs.declared.flags.Flags.{Flags}
-use Rattle.proof_store.specs.AddedSteps.{AddedStep}
 use Rattle.proof_store.specs.Meaning.{StandForItems}
-use Rattle.proof_store.proofs.MeaningLemmas.{commands_same}
 use Rattle.rule_model.specs.declared.statuses.Status.{Status}
 use Rattle.rule_model.specs.declared.statuses.Verdict.{Verdict}
 use Rattle.rule_model.specs.Proofs.{ProofItems}
-use Rattle.rule_model.specs.Reading.{rule_at}
-use Rattle.rule_model.specs.Scopes.{commands_in}
 use Rattle.rule_model.specs.Statuses.{AreStatuses, IsVerdict, Passes}
 use Rattle.step_check.specs.Chunks.{CanBeChecked}
 use Rattle.step_check.specs.Statuses.{AreStatusesOf, IsPlacedOf, LacksRoomForPlaced, PlacesOnly, checking}
-use Rattle.elab_resolution.specs.Adding.{nots_at_step, roots_at}
-use Rattle.elab_resolution.specs.Spellings.{IsNearTo}
-use Rattle.elaborator.specs.Blocks.{commands_for, commands_needed}
 use Rattle.elaboration_laws.proofs.Ones.{one_clause}
-use Rattle.elaboration_laws.proofs.Reading.{rule_same}
-use Rattle.elaboration.specs.Elaborated.{in_strict_mode, IsPlacedFor, IsResolution, IsShortBlock, IsTooLong}
-use Rattle.elaboration.specs.Elaborated.{IsLeftOut as IsLeftOutOf}
+use Rattle.elaboration.specs.Elaborated.{in_strict_mode, IsPlacedFor, IsTooLong}
 use Rattle.command_words.specs.declared.request.Options.{Options}
 use Rattle.judged_texts.specs.declared.judgement.Judgement.{Judgement}
 use Rattle.judged_texts.specs.declared.judgement.Judgement.TheVariants.{Valid, Holey, NoEmptyClause, Faulty, TooWide, RefusedProblem, RefusedProof, PoolFull}
@@ -38,17 +29,14 @@ use Rattle.elaborated_texts.specs.declared.making.Made.TheVariants as made
 use Rattle.judged_texts.specs.declared.texts.Both.{Both}
 use Rattle.judged_texts.specs.Naming.{NamesIds}
 use Rattle.judged_texts.specs.Cells.{HasMoreCells}
-use Rattle.elaborated_texts.specs.Elaborated.{IsLeftOut, IsMadeFor, IsJudgementInstead, IsStatusOfPrinted}
-use Rattle.elaborated_texts.specs.Elaborated.{HasManyCommands, NeedsRoomToElaborate, most_commands}
-use Rattle.judged_texts.specs.Judging.{Corresponds, IsJudgedProof}
+use Rattle.elaborated_texts.specs.Elaborated.{IsJudgementInstead, IsMadeFor, IsStatusOfPrinted, NeedsRoomToElaborate, StrictReading}
+use Rattle.judged_texts.specs.Judging.{IsJudgedProof}
 use Rattle.elaborated_texts.specs.Making.{IsMade, IsMadeBy, IsWholeMade}
 use Rattle.judged_texts.specs.Pools.{HoldsOnly}
-use Rattle.judged_texts.specs.Reading.{checking_of, IsReadOf, NeedsRoom}
+use Rattle.judged_texts.specs.Reading.{IsReadOf, NeedsRoom}
 use Rattle.elaborated_texts.specs.Statuses.{IsPrintedOf}
 use Rattle.judged_texts.specs.Texts.{flags_of, IsReadProof}
 use Rattle.judged_texts.proofs.CellLemmas.{has_more_cells, holds_kind, holds_more, more_cells_of}
-use Rattle.judged_texts.proofs.JudgementLemmas.{checked_as}
-use Rattle.judged_texts.proofs.VerdictLemmas.{status_within}
 
 -- the laws of `proof_store`
 abbrev pub ProofsStay : Type 0
@@ -169,104 +157,45 @@ module _ (problem : List ℕ) (options : Options) (text : List ℕ) (s : Table) 
       let cells : HasMoreCells Q (2 ^ bits) = has_more_cells s w.pass Q table shares known order holds there (2 ^ bits) places in
       inl (more_cells_of Q (NeedsRoomToElaborate problem options text) (2 ^ bits) (λ u h. inl h) cells)
 
--- ---- how many commands there are
-
-within_four : (n : ℕ) (block : List AddedStep) → length block ≤ n + 4 → commands_for block ≤ n + 4
-within_four n [] h = omega arith
-within_four n (a ∷ block) h = h
-
-needed_few : (proof : ProofItems Var Term) (i : ℕ) (blocks : List (List AddedStep))
-    → ((j : ℕ) (block : List AddedStep) → slice_get blocks j ≡ Some block → length block ≤ nots_at_step proof (i + j) + 4)
-    → commands_needed blocks ≤ most_commands proof i (length blocks)
-needed_few proof i [] each = omega arith
-needed_few proof i (block ∷ blocks) each =
-    let first : i + 0 ≡ i = omega arith in
-    let here = within_four (nots_at_step proof i) block (subst (λ k. length block ≤ nots_at_step proof k + 4) first (each 0 block refl)) in
-    let rest = needed_few proof (suc i) blocks (λ j b e.
-    let next : i + suc j ≡ suc i + j = omega arith in subst (λ k. length b ≤ nots_at_step proof k + 4) next (each (suc j) b e)) in
-    omega (arith, here, rest)
-
 -- ---- what is made of a proof that was read
 
-module _ (one : StandForOne) (problem : List ℕ) (options : Options) (text : List ℕ) (s : Table) (table : IsTable s) (v : TermsView)
-    (known : IsOneToOne v.pass) (both : Both) (read : IsReadProof problem options text s v both.problem.assertions both.proof) (strict : List Status) where
+module _ (problem : List ℕ) (options : Options) (text : List ℕ) (s : Table) (table : IsTable s) (v : TermsView)
+    (known : IsOneToOne v.pass) (both : Both) (read : IsReadProof problem options text s v both.problem.assertions both.proof) (strict : List Status)
+    (are : AreStatusesOf (in_strict_mode (flags_of options)) s v both.problem.assertions both.proof strict) where
   abbrev refs : ProofItems ℕ ℕ
   refs = both.proof
 
-  abbrev commands : ProofItems Var Term
-  commands = read.read.proof
+  abbrev asserted : List ℕ
+  asserted = both.problem.assertions
 
-  same_rule : (i : ℕ) → rule_at refs i ≡ rule_at commands i
-  same_rule i = rule_same s v refs commands read.read.refer i
-
-  one_proof : (proof : ProofItems Var Term) → StandForItems s v refs proof → proof ≡ commands
-  one_proof proof stand = one s v refs proof commands table known stand read.read.refer
-
-  made_for : (t : Term) → IsPlacedFor s v refs strict t → IsMadeFor problem options text t
-  made_for t h = record {
-    script = read.script;
-    commands = commands;
-    after = read.read.after;
-    problem_text = read.problem_text;
-    proof_text = read.read.stands;
-    placed = record {
-      index = h.index;
-      rule = subst IsResolution (same_rule h.index) h.replaced.rule;
-      near = subst (λ p. IsNearTo (roots_at p h.index) t) (one_proof h.proof h.stand) h.near;
-    };
+  abbrev reading : StrictReading problem options text
+  reading = record {
+    symbols = s;
+    is_table = table;
+    terms = v;
+    one_to_one = known;
+    assertions = both.problem.assertions;
+    commands = both.proof;
+    read = read;
+    strict = strict;
+    are = are;
   }
 
+  made_for : (t : Term) → IsPlacedFor s v asserted refs strict t → IsMadeFor problem options text t
+  made_for t h = record { reading = reading; placed = h }
+
   pub holds_made : (w : TermsView) → KeepsPass w.pass v.pass → HoldsOnly s w.pass (NeedsRoom problem options text)
-      → PlacesCellsOf s w.pass v.pass (IsPlacedFor s v refs strict) → HoldsOnly s v.pass (NeedsRoomToElaborate problem options text)
+      → PlacesCellsOf s w.pass v.pass (IsPlacedFor s v asserted refs strict) → HoldsOnly s v.pass (NeedsRoomToElaborate problem options text)
   holds_made w keeps holds placed =
       let Q : Term → Type 0 = NeedsRoomToElaborate problem options text in
       let held : HoldsOnly s w.pass Q = holds_kind s w.pass (NeedsRoom problem options text) Q (λ u h. inl h) holds in
-      holds_more s s w.pass v.pass (IsPlacedFor s v refs strict) Q (λ u h. inr (made_for u h)) (keeps_table s) keeps held placed
+      holds_more s s w.pass v.pass (IsPlacedFor s v asserted refs strict) Q (λ u h. inr (made_for u h)) (keeps_table s) keeps held placed
 
-  short_there : (proof : ProofItems Var Term) → proof ≡ commands → (i : ℕ) (block : List AddedStep) → (block ≡ []) ⊎ IsShortBlock refs strict proof i block
-      → length block ≤ nots_at_step commands i + 4
-  short_there proof same i block (inl e) = let none : length block ≡ 0 = ap length e in omega (arith, none)
-  short_there proof same i block (inr h) = subst (λ p. length block ≤ nots_at_step p i + 4) same h.few
-
-  many_commands : IsTooLong s v refs strict → HasManyCommands problem options text
-  many_commands h =
-      let count : length h.blocks ≡ commands_in refs = h.count in
-      let all : commands_in refs ≡ commands_in commands = commands_same s v refs commands read.read.refer in
-      let few = needed_few commands 0 h.blocks (λ j block e.
-      let at : j ≡ 0 + j = omega arith in
-      subst (λ k. length block ≤ nots_at_step commands k + 4) at (short_there h.proof (one_proof h.proof h.stand) j block (h.each j block e))) in
-      let few_all : commands_needed h.blocks ≤ most_commands commands 0 (commands_in commands) =
-      subst (λ n. commands_needed h.blocks ≤ most_commands commands 0 n) (count ∙ all) few in
-      let many = h.many in
-      record {
-        script = read.script;
-        commands = commands;
-        after = read.read.after;
-        problem_text = read.problem_text;
-        proof_text = read.read.stands;
-        many = omega (arith, many, few_all);
-      }
-
-  left_out : AreStatusesOf (in_strict_mode (flags_of options)) s v both.problem.assertions refs strict → IsLeftOutOf refs strict
-      → IsLeftOut (checking_of options read.script.assertions) commands
-  left_out are h =
-      let all : AreStatuses (checking (in_strict_mode (flags_of options)) read.script.assertions) commands strict =
-      are commands read.script.assertions read.read.refer read.assertions in record {
-        index = h.index;
-        within = subst (λ n. h.index < n) all.count (status_within strict h.index h.not_strict.status h.not_strict.is);
-        status = h.not_strict.status;
-        is = all.each h.index h.not_strict.status h.not_strict.is;
-        fails = h.not_strict.fails;
-        other = λ is. h.other (subst IsResolution (sym (same_rule h.index)) is);
-      }
-
-  module _ (j : Judgement) (status : ℕ) (printed : IsPrintedOf j (Some status)) (judged : IsJudgedProof (flags_of options) s v both.problem.assertions refs j)
-      (are : AreStatusesOf (in_strict_mode (flags_of options)) s v both.problem.assertions refs strict) where
+  module _ (j : Judgement) (status : ℕ) (printed : IsPrintedOf j (Some status)) (judged : IsJudgedProof (flags_of options) s v asserted refs j) where
     says : IsStatusOfPrinted judged.of status
     says = status_of_verdict judged.statuses refs judged.of status j printed judged.named
 
-    pub whole_made : (m : Made) → IsMadeBy (flags_of options) s v both.problem.assertions refs strict status m
-        → IsWholeMade problem options text s v both m
+    pub whole_made : (m : Made) → IsMadeBy (flags_of options) s v asserted refs strict status m → IsWholeMade problem options text s v both m
     whole_made (made.Whole new st) h = record {
       verdict = judged.of;
       is_status = subst (IsStatusOfPrinted judged.of) (sym h.0) says;
@@ -274,33 +203,23 @@ module _ (one : StandForOne) (problem : List ℕ) (options : Options) (text : Li
       statuses = judged.statuses;
       are = judged.are;
       of = judged.verdict;
-      strict = strict;
-      are_strict = are;
-      whole = h.1;
-      is = h.2;
-      over = h.3;
+      is = h.1;
+      over = h.2;
     }
-    whole_made made.LeftOut h = tt
     whole_made (made.Instead i) h = tt
 
-    module _ (bits : ℕ) (same : Corresponds s v refs commands) where
+    module _ (bits : ℕ) where
       full : HasListsInOrder v.pass → v.pass.shares ≡ 65 → v.pass.places ≡ 2 ^ bits → HoldsOnly s v.pass (NeedsRoomToElaborate problem options text)
-          → IsTooLong s v refs strict ⊎ LacksCellOf s v.pass (IsPlacedFor s v refs strict) → IsJudgementInstead problem options text bits PoolFull
-      full order shares places holds (inl long) = inr (many_commands long)
+          → IsTooLong s v asserted refs strict ⊎ LacksCellOf s v.pass (IsPlacedFor s v asserted refs strict)
+          → IsJudgementInstead problem options text bits PoolFull
+      full order shares places holds (inl long) = inr (record { reading = reading; long = long })
       full order shares places holds (inr lacks) =
+          let P : Term → Type 0 = IsPlacedFor s v asserted refs strict in
           let Q : Term → Type 0 = NeedsRoomToElaborate problem options text in
-          inl (has_more_cells s v.pass Q table shares known order holds (lacks_more s v.pass (IsPlacedFor s v refs strict) Q (λ u h. inr (made_for u h)) lacks)
-          (2 ^ bits) places)
+          inl (has_more_cells s v.pass Q table shares known order holds (lacks_more s v.pass P Q (λ u h. inr (made_for u h)) lacks) (2 ^ bits) places)
 
       pub is_made : v.pass.shares ≡ 65 → v.pass.places ≡ 2 ^ bits → HoldsOnly s v.pass (NeedsRoomToElaborate problem options text) → (m : Made)
-          → IsMadeBy (flags_of options) s v both.problem.assertions refs strict status m → IsMade problem options text bits s v both m
+          → IsMadeBy (flags_of options) s v asserted refs strict status m → IsMade problem options text bits s v both m
       is_made shares places holds (made.Whole new st) h = whole_made (made.Whole new st) h
-      is_made shares places holds made.LeftOut h = record {
-        verdict = judged.of;
-        status = status;
-        passes = says;
-        checked = checked_as problem options text bits s v both.problem.assertions refs read same j judged judged.of refl;
-        is = left_out are h;
-      }
       is_made shares places holds (made.Instead i) h =
           subst (IsJudgementInstead problem options text bits) (sym h.0) (full h.3 shares places holds h.4)

@@ -10,8 +10,10 @@ use Rattle.alethe_printer.specs.Printed.{proof_text}
 use Rattle.command_words.specs.declared.request.Options.{Options}
 use Rattle.judged_texts.specs.declared.texts.Both.{Both}
 use Rattle.elaborated_texts.specs.Elaborated.{IsElaboratedText}
-use Rattle.elaborated_texts.specs.Making.{IsFreePlan, IsMadeOf, IsNamedText, WritesText}
-use Rattle.elaborated_texts.specs.Ending.{WritesPrefixOf, WritesWholeOf}
+use Rattle.named_proofs.specs.Named.{IsFreePlan, IsNamedText, WritesText}
+use Rattle.named_proofs.specs.Written.{WritesPrefix, WritesWhole}
+use Rattle.elaborated_texts.specs.Ending.{IsTextOfSome}
+use Rattle.elaborated_texts.specs.Making.{IsMadeOf}
 use Rattle.judged_texts.specs.Texts.{AreReadBoth}
 
 module _ (problem : List ℕ) (options : Options) (text : List ℕ) (s : Table) (v : TermsView) (both : Both) (status : ℕ) (new : ProofItems ℕ ℕ)
@@ -22,7 +24,7 @@ module _ (problem : List ℕ) (options : Options) (text : List ℕ) (s : Table) 
   named Writes writes = writes read.read.script made.is.meant.proof read.is made.is.meant.stand
 
   pub whole_of : (before after : Option (List ℕ)) → WritesText (Appends before after) s v both.problem new
-      → WritesWholeOf problem options text status before after
+      → WritesWhole (IsElaboratedText problem options text status) before after
   whole_of before after writes =
       let n = named (Appends before after) writes in record {
         text = proof_text n.plan read.read.script made.is.meant.proof;
@@ -31,11 +33,10 @@ module _ (problem : List ℕ) (options : Options) (text : List ℕ) (s : Table) 
       }
 
   pub prefix_of : (before after : Option (List ℕ)) → WritesText (AppendsPrefix before after) s v both.problem new
-      → WritesPrefixOf problem options text before after
+      → WritesPrefix (IsTextOfSome problem options text) before after
   prefix_of before after writes =
       let n = named (AppendsPrefix before after) writes in record {
-        status = status;
         text = proof_text n.plan read.read.script made.is.meant.proof;
-        is = texts n.plan n.free;
+        is = (status, texts n.plan n.free);
         printed = n.written;
       }

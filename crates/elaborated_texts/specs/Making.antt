@@ -1,24 +1,15 @@
--- Private. An elaboration on its way to the output: what is made of the two texts, and with which names it is written.
-use Rattle.std.specs.Prelude.{◌≡◌, ◌⊎◌, ℕ, Bool, true, false, List, Contains, ⊤}
+-- Private. An elaboration on its way to the output: what is made of the two texts.
+use Rattle.std.specs.Prelude.{◌≡◌, ◌⊎◌, ℕ, Bool, true, false, List, ⊤}
 use Rattle.pair_pool.specs.Views.{IsOneToOne, HasListsInOrder}
 use Rattle.sym_table.specs.Table.{Table, IsTable}
-use Rattle.term_model.specs.Terms.{Var, Term}
 use Rattle.term_pool.specs.Placing.{LacksCellOf}
 use Rattle.term_pool.specs.Views.{TermsView}
-use Rattle.term_reader.specs.ProblemViews.{ProblemView, IsProblemOf}
 use Rattle.term_reader.specs.declared.flags.Flags.{Flags}
-use Rattle.proof_store.specs.Meaning.{StandForItems}
 use Rattle.rule_model.specs.declared.statuses.Status.{Status}
 use Rattle.rule_model.specs.declared.statuses.Verdict.{Verdict}
 use Rattle.rule_model.specs.Proofs.{ProofItems}
 use Rattle.rule_model.specs.Statuses.{IsVerdict}
-use Rattle.problem_text.specs.Scripts.{Named, Script}
-use Rattle.problem_text.specs.Words.{is_among}
-use Rattle.printed_proofs.specs.Naming.{IsPlan}
-use Rattle.printed_proofs.specs.Shared.{Plan}
-use Rattle.alethe_printer.specs.Printed.{proof_text}
-use Rattle.term_sharing.specs.Naming.{HasNoLeaf}
-use Rattle.elaboration.specs.Elaborated.{in_strict_mode, IsElaborated, IsLeftOut, IsPlacedFor, IsTooLong, StaysOver}
+use Rattle.elaboration.specs.Elaborated.{IsElaborated, IsPlacedFor, IsTooLong, StaysOver}
 use Rattle.step_check.specs.Statuses.{AreStatusesOf}
 use Rattle.command_words.specs.declared.request.Options.{Options}
 use Rattle.elaborated_texts.specs.declared.making.Made.{Made}
@@ -27,30 +18,8 @@ use Rattle.elaborated_texts.specs.declared.elaborating.End.{End}
 use Rattle.elaborated_texts.specs.declared.elaborating.End.TheVariants as end
 use Rattle.judged_texts.specs.declared.judgement.Judgement.TheVariants.{PoolFull}
 use Rattle.judged_texts.specs.declared.texts.Both.{Both}
-use Rattle.elaborated_texts.specs.Elaborated.{IsJudgementInstead, IsLeftOutText, IsStatusOfPrinted}
+use Rattle.elaborated_texts.specs.Elaborated.{IsJudgementInstead, IsStatusOfPrinted}
 use Rattle.judged_texts.specs.Texts.{IsReadProof, flags_of}
-
--- names that are free behind a script: no leaf of the table has one
-pub record IsFreePlan (s : Table) (script : Script) (plan : Plan) : Type 0 where
-  pub is_plan : IsPlan plan
-  pub free : (n : Named) → Contains plan n → is_among script.taken n.name ≡ false
-  pub no_leaf : HasNoLeaf s plan
-
--- the text of the proof, with such names, was written in this sense
-pub record IsNamedText (Writes : List ℕ → Type 0) (s : Table) (script : Script) (of : ProofItems Var Term) : Type 0 where
-  pub plan : Plan
-  pub free : IsFreePlan s script plan
-  pub written : Writes (proof_text plan script of)
-
--- so it was of each script for which the problem stands, and each proof for which the references stand
-abbrev pub WritesText : (List ℕ → Type 0) → Table → TermsView → ProblemView → ProofItems ℕ ℕ → Type 0
-WritesText Writes s v p refs =
-    (script : Script) (of : ProofItems Var Term) → IsProblemOf s v p script → StandForItems s v refs of → IsNamedText Writes s script of
-
--- the problem stands for some script
-pub record HasScript (s : Table) (v : TermsView) (p : ProblemView) : Type 0 where
-  pub script : Script
-  pub is : IsProblemOf s v p script
 
 -- The references that were made stand for an elaboration of the proof that was read, whose verdict is of this status.
 pub record IsMadeOf (problem : List ℕ) (options : Options) (text : List ℕ) (s : Table) (v : TermsView) (both : Both) (status : ℕ) (new : ProofItems ℕ ℕ)
@@ -61,20 +30,16 @@ pub record IsMadeOf (problem : List ℕ) (options : Options) (text : List ℕ) (
   pub statuses : List Status
   pub are : AreStatusesOf (flags_of options) s v both.problem.assertions both.proof statuses
   pub of : IsVerdict statuses both.proof verdict
-  pub strict : List Status
-  pub are_strict : AreStatusesOf (in_strict_mode (flags_of options)) s v both.problem.assertions both.proof strict
-  pub whole : ¬ IsLeftOut both.proof strict
   pub is : IsElaborated (flags_of options) s v both.problem.assertions both.proof new
   pub over : StaysOver s v both.proof new
 
 -- what was made of a proof that passes, by these strict statuses
 abbrev pub IsMadeBy : Flags → Table → TermsView → List ℕ → ProofItems ℕ ℕ → List Status → ℕ → Made → Type 0
 IsMadeBy flags s v asserted refs strict status (made.Whole new st) =
-    (st ≡ status) × (¬ IsLeftOut refs strict) × IsElaborated flags s v asserted refs new × StaysOver s v refs new
-IsMadeBy flags s v asserted refs strict status made.LeftOut = IsLeftOut refs strict
+    (st ≡ status) × IsElaborated flags s v asserted refs new × StaysOver s v refs new
 IsMadeBy flags s v asserted refs strict status (made.Instead j) =
     (j ≡ PoolFull) × IsTable s × IsOneToOne v.pass × HasListsInOrder v.pass
-    × (IsTooLong s v refs strict ⊎ LacksCellOf s v.pass (IsPlacedFor s v refs strict))
+    × (IsTooLong s v asserted refs strict ⊎ LacksCellOf s v.pass (IsPlacedFor s v asserted refs strict))
 
 -- what was made whole, whatever room the pool has
 abbrev pub IsWholeMade : List ℕ → Options → List ℕ → Table → TermsView → Both → Made → Type 0
@@ -84,7 +49,6 @@ IsWholeMade problem options text s v both m = ⊤
 -- what was made of two texts that were read
 abbrev pub IsMade : List ℕ → Options → List ℕ → ℕ → Table → TermsView → Both → Made → Type 0
 IsMade problem options text bits s v both (made.Whole new status) = IsMadeOf problem options text s v both status new
-IsMade problem options text bits s v both made.LeftOut = IsLeftOutText problem options text
 IsMade problem options text bits s v both (made.Instead j) = IsJudgementInstead problem options text bits j
 
 -- the pool was full, or there were too many commands

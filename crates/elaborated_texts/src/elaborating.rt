@@ -1,10 +1,6 @@
 //! The elaboration of the proof for which two texts stand, and its printing.
-ghost use Rattle.std.specs.Prelude.{◌≡◌, ◌<◌, ◌≤◌, ◌^◌, ◌⊎◌, ℕ, List, [], false, length, OnOk, OnErr, IsErrOf};
-ghost use Rattle.std.specs.Io.KnownBytes.{Appends};
-ghost use Rattle.file_ports.specs.Faults.{HasRisen};
-ghost use Rattle.file_ports.specs.Texts.{AppendsPrefix};
+ghost use Rattle.std.specs.Prelude.{◌≡◌, ◌<◌, ◌≤◌, ◌^◌, ℕ, List, [], false, length};
 ghost use Rattle.pair_pool.specs.Views.{IsForMany, IsPassOf};
-ghost use Rattle.proof_store.specs.Checks.{StandForSome};
 ghost use Rattle.term_reader.specs.ProblemViews.{IsNewTable};
 ghost use Rattle.printed_proofs.specs.Shared.{Plan};
 ghost use Rattle.alethe_printer.specs.Printed.{HaveSorts, proof_text};
@@ -20,72 +16,42 @@ ghost use Rattle.judged_texts.specs.Reading.{IsReadOf};
 ghost use Rattle.judged_texts.specs.Pools.{HoldsOnly};
 ghost use Rattle.judged_texts.specs.Texts.{AreReadBoth};
 ghost use Rattle.elaborated_texts.specs.Elaborated.{IsElaboratedText};
-ghost use Rattle.elaborated_texts.specs.Making.{is_full, HasScript, IsFreePlan, IsMadeOf, WritesText};
+ghost use Rattle.elaborated_texts.specs.Making.{is_full, IsMadeOf};
+ghost use Rattle.named_proofs.specs.Named.{IsFreePlan};
 ghost use Rattle.elaborated_texts.specs.Ending.{EndsSo};
 ghost use Rattle.judged_texts.specs.Reading.{most_bytes};
 
 use crate::making::{Made, make};
-use alethe_printer::{PrintFault, print};
+use alethe_printer::PrintFault;
 use file_ports::{Gate, Sink};
 use judged_texts::laws::proofs_have_scoped_terms;
 use judged_texts::{
     Both, Judgement, LEAST_BITS, MOST_BITS, Read, Texts, Workers, pool_bits, proofs_correspond,
     read_for, read_texts_stay,
 };
+use named_proofs::laws::named_proofs_are_read_back;
+use named_proofs::write_proof;
 use pair_pool::{Pass, Pool};
 use printing_laws::laws::{read_proofs_have_sorts, well_sorted_proofs_are_of_sorted_terms};
 use problem_text::laws::{scripts_are_closed, scripts_are_well_sorted};
-use proof_store::{Proof, commands_correspond};
-use readable_proofs::laws::{
-    proofs_are_over_their_names, proofs_that_pass_have_coefficients,
-    proofs_with_names_apart_are_read_back, scripts_are_well_named,
-};
-use rule_model::laws::soundness::statuses_are_unique;
+use proof_store::commands_correspond;
+use readable_proofs::laws::{proofs_are_over_their_names, proofs_that_pass_have_coefficients};
 use std::alloc::Global;
 use std::thread::Threads;
 use sym_table::Symbols;
 use term_pool::Terms;
-use term_reader::Problem;
-use term_sharing::{proof_names, terms_are_apart};
 
 /// How an elaboration ended.
 #[derive(Drop)]
 pub enum End {
     /// Nothing was written, and this is said of the texts instead.
     Instead(Judgement),
-    /// Nothing was written: the proof is left out.
-    LeftOut,
     /// The whole text was written, of a proof whose verdict has this status.
     Written(u8),
     /// The sink failed, and a prefix of the text was written.
     Failed,
     /// Out of memory, before the text was written or within it.
     Memory,
-}
-
-/// Writes a proof behind a problem, with names for closed terms that stand more than once.
-fn write_proof<S: Sink>(
-    alloc: Global,
-    problem: &Problem,
-    proof: &Proof,
-    symbols: &Symbols,
-    terms: &mut Terms<'_>,
-    out: &mut S,
-) -> Result<(), PrintFault>
-    requires problem { HasScript symbols.now terms.old problem.now }
-    requires stand { StandForSome symbols.now terms.old proof.now }
-    requires sorted { AreTermsSorted symbols.now terms.old proof.now }
-    requires sorts { HaveSorts symbols.now proof.now }
-    ensures whole { OnOk result (WritesText (Appends (S.written out.old) (S.written out.new)) symbols.now terms.old problem.now proof.now) }
-    ensures write { IsErrOf result PrintFault.Write → HasRisen (S.faults out.old) (S.faults out.new) ×
-        WritesText (AppendsPrefix (S.written out.old) (S.written out.new)) symbols.now terms.old problem.now proof.now }
-    ensures memory { IsErrOf result PrintFault.Memory → (S.written out.new ≡ S.written out.old) ⊎
-        WritesText (AppendsPrefix (S.written out.old) (S.written out.new)) symbols.now terms.old problem.now proof.now }
-{
-    let Ok(names) = proof_names(alloc, symbols, terms, proof, problem) else {
-        return Err(PrintFault::Memory);
-    };
-    print(alloc, proof, names, symbols, terms, out)
 }
 
 /// A law: what was made of two texts that were read has the text that is promised, with names that are free. The call does nothing.
@@ -97,12 +63,9 @@ fn made_elaborations_have_texts()
 {
     proofs_correspond();
     commands_correspond();
-    statuses_are_unique();
-    terms_are_apart();
-    scripts_are_well_named();
     proofs_are_over_their_names();
     proofs_that_pass_have_coefficients();
-    proofs_with_names_apart_are_read_back();
+    named_proofs_are_read_back();
 }
 
 /// A law: what was made of two texts that were read may be printed with names. The call does nothing.
@@ -151,7 +114,6 @@ fn elaborate_read<R: Threads + Sync, G: Gate, S: Sink>(
                 Err(PrintFault::Memory) => End::Memory,
             }
         }
-        Ok(Made::LeftOut) => End::LeftOut,
         Ok(Made::Instead(judgement)) => End::Instead(judgement),
         Err(_) => End::Memory,
     }

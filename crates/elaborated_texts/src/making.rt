@@ -1,15 +1,18 @@
 //! The elaboration of a proof that was read.
-ghost use Rattle.std.specs.Prelude.{◌≡◌, ◌<◌, ◌≤◌, ◌^◌, ℕ, length, false, IfErr, IfOk};
-ghost use Rattle.pair_pool.specs.Views.{IsForMany};
+ghost use Rattle.std.specs.Prelude.{◌≡◌, ◌<◌, ◌≤◌, ◌^◌, ℕ, List, length, false, IfErr, IfOk};
+ghost use Rattle.pair_pool.specs.Views.{IsForMany, IsOneToOne};
+ghost use Rattle.rule_model.specs.Proofs.{ProofItems};
+ghost use Rattle.sym_table.specs.Table.{Table, IsTable};
 ghost use Rattle.term_parts.specs.declared.answers.RuleStop.TheVariants as RuleStop;
-ghost use Rattle.term_pool.specs.Views.{KeepsTerms};
+ghost use Rattle.term_pool.specs.Views.{KeepsTerms, TermsView};
 ghost use Rattle.step_check.specs.Chunks.{CanBeChecked};
 ghost use Rattle.step_check.specs.Statuses.{AreStatusesOf, LacksRoomForPlaced, PlacesOnly};
 ghost use Rattle.command_words.specs.Requests.{IsNumberOfWorkers};
-ghost use Rattle.elaboration.specs.Elaborated.{in_strict_mode, IsPlacedFor, PassAll};
+ghost use Rattle.command_words.specs.declared.request.Options.{Options as Chosen};
+ghost use Rattle.elaboration.specs.Elaborated.{in_strict_mode, AreWellSorted, IsPlacedFor, PassAll};
 ghost use Rattle.judged_texts.specs.Reading.{IsReadOf};
 ghost use Rattle.judged_texts.specs.Pools.{HoldsOnly};
-ghost use Rattle.judged_texts.specs.Texts.{AreReadBoth};
+ghost use Rattle.judged_texts.specs.Texts.{AreReadBoth, IsReadProof};
 ghost use Rattle.elaborated_texts.specs.Making.{IsMade, IsMadeBy, IsWholeMade};
 ghost use Rattle.term_pool.specs.Placing.{PlacesCellsOf};
 ghost use Rattle.elaborated_texts.specs.Statuses.{IsPrintedOf};
@@ -17,11 +20,13 @@ ghost use Rattle.judged_texts.specs.Reading.{most_bytes};
 
 use elaboration::{Checked, ElabStop, elaborated};
 use file_ports::Gate;
+use judged_texts::laws::proofs_have_scoped_terms;
 use judged_texts::{
     Both, Judgement, Texts, Workers, check_commands, flags_of, joined, judge_commands, pool_full,
     proofs_correspond, read_proofs_can_be_checked,
 };
 use pair_pool::Memory;
+use problem_text::laws::{scripts_are_closed, scripts_are_well_sorted};
 use proof_store::{Proof, RuleStop, Status, proofs_stand_for_one, proofs_stay};
 use std::alloc::Global;
 use std::thread::Threads;
@@ -35,8 +40,6 @@ use term_reader::Flags;
 pub(crate) enum Made {
     /// The elaboration, and the status of the proof's verdict.
     Whole(Proof, u8),
-    /// The proof is left out.
-    LeftOut,
     /// This is said of the texts instead.
     Instead(Judgement),
 }
@@ -95,10 +98,11 @@ fn elaborated_by<R: Threads + Sync, G: Gate>(
     requires passes { PassAll checked.now.flags checked.now.symbols.now terms.old checked.now.problem.now.assertions checked.now.proof.now }
     requires strict { AreStatusesOf (in_strict_mode checked.now.flags) checked.now.symbols.now terms.old checked.now.problem.now.assertions
         checked.now.proof.now checked.now.strict.now }
+    requires sorted { AreWellSorted checked.now.symbols.now terms.old checked.now.problem.now.assertions checked.now.proof.now }
     ensures made { IfOk result (IsMadeBy checked.now.flags checked.now.symbols.now terms.new checked.now.problem.now.assertions
         checked.now.proof.now checked.now.strict.now status) }
     ensures placed { PlacesCellsOf checked.now.symbols.now terms.old.pass terms.new.pass
-        (IsPlacedFor checked.now.symbols.now terms.new checked.now.proof.now checked.now.strict.now) }
+        (IsPlacedFor checked.now.symbols.now terms.new checked.now.problem.now.assertions checked.now.proof.now checked.now.strict.now) }
     ensures keeps { KeepsTerms terms.old terms.new }
 {
     match elaborated(
@@ -110,13 +114,23 @@ fn elaborated_by<R: Threads + Sync, G: Gate>(
         workers.gate,
     ) {
         Ok(new) => Ok(Made::Whole(new, status)),
-        Err(ElabStop::LeftOut) => Ok(Made::LeftOut),
         Err(ElabStop::TooMany | ElabStop::PoolFull) => Ok(Made::Instead(pool_full(
             checked.symbols,
             terms,
         ))),
         Err(ElabStop::Memory) => Err(Memory),
     }
+}
+
+/// A law: a proof that was read behind a problem is well sorted, and so are the problem's assertions. The call does nothing.
+fn read_proofs_are_well_sorted()
+    ensures { (problem : List ℕ) (options : Chosen) (text : List ℕ) (s : Table) (v : TermsView) (asserted : List ℕ) (refs : ProofItems ℕ ℕ) →
+        IsTable s → IsOneToOne v.pass → IsReadProof problem options text s v asserted refs → AreWellSorted s v asserted refs }
+{
+    scripts_are_well_sorted();
+    scripts_are_closed();
+    proofs_have_scoped_terms();
+    proofs_stand_for_one();
 }
 
 /// The elaboration of a proof that was read, or what is said of the texts instead.
@@ -141,6 +155,7 @@ pub(crate) fn make<R: Threads + Sync, G: Gate>(
     ensures keeps { KeepsTerms terms.old terms.new }
 {
     read_proofs_can_be_checked();
+    read_proofs_are_well_sorted();
     proofs_correspond();
     proofs_stand_for_one();
     proofs_stay();

@@ -1,4 +1,4 @@
--- The steps in the place of a resolution may be added where it stands.
+-- The steps in the place of a command may be added where it stands.
 use Rattle.std.proofs.Common.{◌≡◌, ◌-◌, inl, inr, ℕ, List, [], ◌∷◌, ◌++◌}
 use Rattle.std.proofs.Common.{length, take, slice_get, Some, sym, ◌∙◌, ap, subst, arith, Contains}
 use Rattle.std.proofs.lemmas.List.{length-append}
@@ -23,7 +23,7 @@ use Rattle.elab_resolution.specs.Adding.{EndsInClause, IsLinkFor}
 use Rattle.elaborator.specs.Blocks.{standing, outside, IsLink, MayBeReplaced, IsBlockOf, AreBlocksOf}
 use Rattle.elaborator.specs.Pieces.{AreMadeBy}
 use Rattle.elaboration.specs.Elaborated.{IsResolution}
-use Rattle.elaboration.specs.Replaced.{IsKeptOrReplaced, IsReplacement}
+use Rattle.elaboration.specs.Replaced.{IsKeptOrReplaced, IsRelinking, IsReplacement}
 use Rattle.elaboration.proofs.Rules.{added_judged, resolution_judged}
 
 -- a premise is visible where the command belongs
@@ -89,11 +89,17 @@ module _ (s : Table) (v : TermsView) (refs : ProofItems ℕ ℕ) (strict : List 
           seen_there l l.command j (command_may refs i l formed there) (subst (λ js. Contains js j) (premises_are refs i l there) has)
       link_seen k (Link.New n) below = let few = taken_few k block in omega arith
 
-  pub are_blocks : (blocks : List (List AddedStep)) → AreMadeBy (IsKeptOrReplaced s v refs strict) (commands_in refs) blocks → AreBlocksOf refs blocks
-  are_blocks blocks made = record {
+  pub are_blocks : (asserted : List ℕ)
+      → ((i : ℕ) (block : List AddedStep) (l : Line ℕ ℕ) → slice_get (lines_in outermost refs) i ≡ Some l → IsRelinking s v asserted refs strict i block
+      → IsBlockOf l block)
+      → (blocks : List (List AddedStep)) → AreMadeBy (IsKeptOrReplaced s v asserted refs strict) (commands_in refs) blocks → AreBlocksOf refs blocks
+  are_blocks asserted relinked blocks made = record {
     count = made.count_is;
     each = λ i l block there e. elim (made.each i block e) [
       | inl kept ↦ inl kept.none
-      | inr replacement ↦ inr (block_of i block l there replacement)
+      | inr other ↦ elim other [
+        | inl replacement ↦ inr (block_of i block l there replacement)
+        | inr relinking ↦ inr (relinked i block l there relinking)
+      ]
     ];
   }

@@ -12,8 +12,15 @@ use Rattle.proof_store.proofs.MeaningLemmas.{items_stay}
 use Rattle.rule_model.specs.declared.statuses.Status.{Status}
 use Rattle.rule_model.specs.Proofs.{ProofItems}
 use Rattle.elab_resolution.specs.Adding.{linked_clause}
-use Rattle.elaboration.specs.Elaborated.{IsPlacedFor}
-use Rattle.elaboration.specs.Replaced.{CanBeReplaced, IsKeptOrReplaced, IsReplacement, IsTermStep}
+use Rattle.pair_pool.specs.Views.{Grows}
+use Rattle.equality_steps.specs.declared.site.Site.{Site}
+use Rattle.equality_blocks.specs.Made.{IsPlacedFor as IsPlacedForCommand}
+use Rattle.elaboration.specs.Elaborated.{IsMadeForRelinked, IsNearReplaced, IsPlacedFor}
+use Rattle.elaboration.specs.Replaced.{CanBeReplaced, IsKeptOrReplaced, IsRelinking, IsReplacement, IsTermStep}
+
+-- of the law of `equality_blocks`
+abbrev pub PlacedGrows : Type 0
+PlacedGrows = (p : Site) (v w : TermsView) (t : Term) → Grows v.pass w.pass → IsPlacedForCommand p v t → IsPlacedForCommand p w t
 
 module _ (s : Table) (v w : TermsView) (more : Extends v w) where
   refers_later : (r : ℕ) (t : Term) → RefersTo s v r t → RefersTo s w r t
@@ -44,16 +51,20 @@ module _ (s : Table) (v w : TermsView) (more : Extends v w) where
     met = h.met;
   }
 
-  module _ (refs : ProofItems ℕ ℕ) (strict : List Status) where
-    abbrev pub can_later : CanBeReplaced s v refs strict → CanBeReplaced s w refs strict
+  module _ (asserted : List ℕ) (refs : ProofItems ℕ ℕ) (strict : List Status) where
+    abbrev pub can_later : CanBeReplaced s v asserted refs strict → CanBeReplaced s w asserted refs strict
     can_later h = record {
       proof = h.proof;
       stand = stand_later refs h.proof h.stand;
+      formed = h.formed;
       short = h.short;
       sorted = h.sorted;
+      well_sorted = h.well_sorted;
+      assertions = h.assertions;
+      refer = refer_later asserted h.assertions h.refer;
+      truths = h.truths;
       count = h.count;
-      whole = h.whole;
-      met = h.met;
+      ok = h.ok;
     }
 
     replacement_later : (i : ℕ) (block : List AddedStep) → IsReplacement s v refs strict i block → IsReplacement s w refs strict i block
@@ -65,9 +76,33 @@ module _ (s : Table) (v w : TermsView) (more : Extends v w) where
       ends = h.ends;
     }
 
-    pub said_later : (i : ℕ) (block : List AddedStep) → IsKeptOrReplaced s v refs strict i block → IsKeptOrReplaced s w refs strict i block
-    said_later i block (inl kept) = inl kept
-    said_later i block (inr h) = inr (replacement_later i block h)
+    relinking_later : (i : ℕ) (block : List AddedStep) → IsRelinking s v asserted refs strict i block → IsRelinking s w asserted refs strict i block
+    relinking_later i block h = record {
+      relinked = h.relinked;
+      site = h.site;
+      is_site = h.is_site;
+      view = h.view;
+      more = λ r tree known. more.grows r tree (h.more r tree known);
+      steps = h.steps;
+    }
 
-    pub placed_later : (t : Term) → IsPlacedFor s v refs strict t → IsPlacedFor s w refs strict t
-    placed_later t h = record { proof = h.proof; stand = stand_later refs h.proof h.stand; index = h.index; replaced = h.replaced; near = h.near }
+    pub said_later : (i : ℕ) (block : List AddedStep) → IsKeptOrReplaced s v asserted refs strict i block → IsKeptOrReplaced s w asserted refs strict i block
+    said_later i block (inl kept) = inl kept
+    said_later i block (inr (inl h)) = inr (inl (replacement_later i block h))
+    said_later i block (inr (inr h)) = inr (inr (relinking_later i block h))
+
+    near_later : (t : Term) → IsNearReplaced s v refs strict t → IsNearReplaced s w refs strict t
+    near_later t h = record { proof = h.proof; stand = stand_later refs h.proof h.stand; index = h.index; replaced = h.replaced; near = h.near }
+
+    made_later : PlacedGrows → (t : Term) → IsMadeForRelinked s v asserted refs strict t → IsMadeForRelinked s w asserted refs strict t
+    made_later law t h = record {
+      index = h.index;
+      relinked = h.relinked;
+      site = h.site;
+      is_site = h.is_site;
+      made = law h.site v w t more.grows h.made;
+    }
+
+    pub placed_later : PlacedGrows → (t : Term) → IsPlacedFor s v asserted refs strict t → IsPlacedFor s w asserted refs strict t
+    placed_later law t (inl h) = inl (near_later t h)
+    placed_later law t (inr h) = inr (made_later law t h)

@@ -1,9 +1,9 @@
 -- The blocks that were made of a proof that was checked, and the proof that is assembled with them.
-use Rattle.std.proofs.Common.{◌≡◌, ◌≤◌, ◌-◌, ◌^◌, ℕ, Bool, false, List, IsTrue, ◌↔◌, refl, subst}
+use Rattle.std.proofs.Common.{◌≡◌, ◌≤◌, ◌-◌, ◌^◌, ℕ, false, List, refl, subst}
 use Rattle.pair_pool.specs.Views.{IsOneToOne}
 use Rattle.sym_table.specs.Table.{Table, IsTable}
 use Rattle.term_model.specs.Terms.{Var, Term}
-use Rattle.term_pool.specs.Views.{TermsView, KeepsTerms}
+use Rattle.term_pool.specs.Views.{TermsView, KeepsTerms, ReferToAll}
 use Rattle.term_pool.proofs.OneTerm.{one_term}
 use Rattle.term_reader.specs.declared.flags.Flags.{Flags}
 use Rattle.proof_store.specs.AddedSteps.{AddedStep}
@@ -24,15 +24,17 @@ use Rattle.elaborator.specs.Pieces.{AreMadeBy}
 use Rattle.term_parts.specs.declared.answers.RuleStop.{RuleStop}
 use Rattle.elaborator.specs.declared.stops.AssembleStop.{AssembleStop}
 use Rattle.elaboration_laws.specs.StrictBlocks.{AreFittingBlocks, AreStrictBlocks}
-use Rattle.elaboration.specs.Elaborated.{IsElaborated, IsLeftOut, IsTooLong, PassAll, StaysOver, in_strict_mode}
+use Rattle.equality_blocks.specs.Blocks.{IsReplacementFor}
+use Rattle.elaboration.specs.Elaborated.{AreWellSorted, IsElaborated, IsTooLong, PassAll, StaysOver, in_strict_mode}
 use Rattle.elaboration.specs.Replaced.{CanBeReplaced, IsKeptOrReplaced}
 use Rattle.elaboration.specs.Stops.{stop_of_assembly, stop_of_rule}
 use Rattle.elaboration.specs.declared.stops.ElabStop.{ElabStop}
 use Rattle.elaboration.proofs.FittingSteps.{NearAreLow}
 use Rattle.elaboration.proofs.Growing.{can_later, refer_later}
-use Rattle.elaboration.proofs.OneCommand.{not_both}
 use Rattle.elaboration.proofs.OverNear.{NegationsAreOver}
+use Rattle.elaboration.proofs.OverBlocks.{OverLaws, relinked_over}
 use Rattle.elaboration.proofs.OverSteps.{over_terms}
+use Rattle.elaboration.proofs.Relinked.{Replace}
 use Rattle.elaboration.proofs.Whole.{StandForOne, blocks_are, can_replace, fitting_blocks, is_elaborated, over_blocks, strict_blocks, too_long}
 
 -- the laws of `elaboration_laws`
@@ -61,43 +63,48 @@ rule_full RuleStop.PoolFull e = refl
 rule_full RuleStop.Memory e = absurd (cc)
 
 module _ (s : Table) (v : TermsView) (flags : Flags) (asserted : List ℕ) (refs : ProofItems ℕ ℕ) (strict : List Status) (can : CanBeChecked s v asserted refs)
-    (check : flags.strict ≡ false) (passes : PassAll flags s v asserted refs) (are : AreStatusesOf (in_strict_mode flags) s v asserted refs strict) (b : Bool)
-    (told : IsTrue b ↔ IsLeftOut refs strict) (false_is : b ≡ false) where
-  abbrev pub replaced : CanBeReplaced s v refs strict
-  replaced = can_replace s v flags asserted refs strict can check passes are (λ left. not_both b false_is (told.1 left))
+    (formed : IsWellFormed refs) (sorted : AreWellSorted s v asserted refs) (check : flags.strict ≡ false) (passes : PassAll flags s v asserted refs)
+    (are : AreStatusesOf (in_strict_mode flags) s v asserted refs strict) where
+  abbrev pub replaced : CanBeReplaced s v asserted refs strict
+  replaced = can_replace s v flags asserted refs strict can formed sorted check passes are
 
-  module _ (one : StandForOne) (table : IsTable s) (w : TermsView) (keeps : KeepsTerms v w) (known : IsOneToOne w.pass) (formed : IsWellFormed refs)
-      (blocks : List (List AddedStep)) (made : AreMadeBy (IsKeptOrReplaced s w refs strict) (commands_in refs) blocks) where
-    abbrev later : CanBeReplaced s w refs strict
-    later = can_later s v w (more_of v w keeps) refs strict replaced
+  module _ (replace : Replace IsReplacementFor) (one : StandForOne) (table : IsTable s) (w : TermsView) (keeps : KeepsTerms v w) (known : IsOneToOne w.pass)
+      (blocks : List (List AddedStep)) (made : AreMadeBy (IsKeptOrReplaced s w asserted refs strict) (commands_in refs) blocks) where
+    abbrev later : CanBeReplaced s w asserted refs strict
+    later = can_later s v w (more_of v w keeps) asserted refs strict replaced
 
     pub made_blocks : AreBlocksOf refs blocks
-    made_blocks = blocks_are one s table w known refs formed strict later blocks made
+    made_blocks = blocks_are replace one s table w known asserted refs strict later blocks made
 
-    pub made_too_long : 2 ^ 32 - 1 ≤ commands_needed blocks → IsTooLong s w refs strict
-    made_too_long many = too_long one s table w known refs formed strict later blocks made many
+    pub made_too_long : 2 ^ 32 - 1 ≤ commands_needed blocks → IsTooLong s w asserted refs strict
+    made_too_long many = too_long replace one s table w known asserted refs strict later blocks made many
 
     abbrev c : Checking
     c = checking flags can.asserted.assertions
 
+    refer : ReferToAll s w asserted can.asserted.assertions
+    refer = refer_later s v w (more_of v w keeps) asserted can.asserted.assertions can.asserted.refer
+
     made_strict : AreStrictBlocks s w c refs can.proof blocks
-    made_strict = strict_blocks one s table w known refs formed strict later blocks made c (are can.proof can.asserted.assertions can.stand can.asserted.refer)
+    made_strict =
+        strict_blocks replace one s table w known asserted refs strict later blocks made c refer
+        (are can.proof can.asserted.assertions can.stand can.asserted.refer)
 
     pub made_elaboration : NearAreLow → AreMeant → AreFormed → AreElaborations → (new : ProofItems ℕ ℕ) → IsAssembled refs blocks new
         → IsElaborated flags s w asserted refs new
     made_elaboration low meant well elaborates new is =
-        is_elaborated one s table w known flags asserted refs new can.proof later.stand can.asserted.assertions
-        (refer_later s v w (more_of v w keeps) asserted can.asserted.assertions can.asserted.refer)
+        is_elaborated one s table w known flags asserted refs new can.proof later.stand can.asserted.assertions refer
         (meant s w c refs new can.proof blocks later.stand made_blocks is made_strict)
         (λ elaboration stand. (
           elaborates s w c refs new can.proof elaboration blocks table known later.stand made_blocks is stand made_strict
-              (fitting_blocks one s table w known refs formed strict later blocks made low c),
+              (fitting_blocks replace one s table w known asserted refs strict later blocks made low c refer),
           well s w refs new elaboration blocks table is stand,
         ))
 
-    pub made_over : NegationsAreOver → (new : ProofItems ℕ ℕ) → IsAssembled refs blocks new → StaysOver s w refs new
-    made_over law new is names proof elaboration old_stand new_stand is_over =
+    pub made_over : NegationsAreOver → OverLaws → (new : ProofItems ℕ ℕ) → IsAssembled refs blocks new → StaysOver s w refs new
+    made_over law laws new is names proof elaboration old_stand new_stand is_over =
         let same = one s w refs proof can.proof table known old_stand later.stand in
         let over = subst (IsProofOver names) same is_over in
         over_terms s w known (one_term s table) refs new can.proof elaboration blocks later.stand made_blocks is new_stand names over
-        (over_blocks one s table w known refs formed strict later blocks made law names over)
+        (over_blocks replace one s table w known asserted refs strict later blocks made law names over
+        (λ i block less h. relinked_over laws law one replace s table w known asserted refs strict can.proof later.stand names over i block less h))

@@ -10,10 +10,9 @@ use Rattle.term_pool.specs.Views.{TermsView, KeepsTerms}
 use Rattle.term_pool.proofs.PlacedCells.{lacks_more, places_more}
 use Rattle.proof_store.specs.AddedSteps.{AddedStep}
 use Rattle.proof_store.specs.Meaning.{StandForItems}
-use Rattle.rule_model.specs.declared.rules.Rule.{Rule}
 use Rattle.rule_model.specs.declared.statuses.Status.{Status}
 use Rattle.rule_model.specs.Proofs.{ProofItems}
-use Rattle.rule_model.specs.Reading.{clause_at, rule_at}
+use Rattle.rule_model.specs.Reading.{clause_at}
 use Rattle.rule_model.specs.Scopes.{commands_in}
 use Rattle.rule_model.specs.Statuses.{Passes}
 use Rattle.elab_resolution.specs.Adding.{AreAddedFor, AreNear, EndsInClause, ResolvesAt, nots_at_step, roots_at}
@@ -21,16 +20,11 @@ use Rattle.elab_resolution.specs.Spellings.{IsNearTo}
 use Rattle.elaborator.proofs.MadeBlocks.{more_of}
 use Rattle.elaborator.specs.Pieces.{PlacesOnly}
 use Rattle.elaboration_laws.proofs.Reading.{clause_stands}
-use Rattle.elaboration.specs.Elaborated.{IsNotStrict, IsPlacedFor, IsReplaced, IsResolution}
+use Rattle.elaboration.specs.Elaborated.{IsNotStrict, IsPlacedFor, IsReplaced}
 use Rattle.elaboration.specs.Replaced.{CanBeReplaced, IsKeptOrReplaced, IsReplacement}
 use Rattle.elaboration.proofs.Growing.{stand_later}
 use Rattle.elaboration.proofs.TermSteps.{term_step}
 use Rattle.elaboration.proofs.Whole.{StandForOne, resolves_there}
-
-resolution_or : (rule : Rule) → IsResolution rule ⊎ (¬ IsResolution rule)
-resolution_or Rule.Resolution = inl (inl refl)
-resolution_or Rule.ThResolution = inl (inr refl)
-resolution_or rule = inr (λ h. elim h [ inl e ↦ absurd (cc) | inr e ↦ absurd (cc) ])
 
 passes_or : (status : Status) → Passes status ⊎ (¬ Passes status)
 passes_or Status.Ok = inl tt
@@ -44,30 +38,23 @@ not_both b f t = no (sym f ∙ t)
     no : ◌≡◌ {A = Bool} false true → ⊥
     no e = cc
 
--- a command that is not strict is a resolution, where none is left out
-module _ (s : Table) (v : TermsView) (refs : ProofItems ℕ ℕ) (strict : List Status) (can : CanBeReplaced s v refs strict) (i : ℕ) where
-  pub is_replaced : IsNotStrict strict i → IsReplaced refs strict i
-  is_replaced fails = elim (resolution_or (rule_at refs i)) [
-    | inl rule ↦ record { not_strict = fails; rule = rule }
-    | inr other ↦ absurd (can.whole (record { index = i; not_strict = fails; other = other }))
-  ]
-
-  pub is_kept : i < commands_in refs → (b : Bool) → IsTrue b ↔ IsNotStrict strict i → b ≡ false → (block : List AddedStep) → block ≡ []
-      → IsKeptOrReplaced s v refs strict i block
-  is_kept less b told false_is block none =
+module _ (s : Table) (v : TermsView) (asserted : List ℕ) (refs : ProofItems ℕ ℕ) (strict : List Status) (can : CanBeReplaced s v asserted refs strict)
+    (i : ℕ) where
+  pub is_kept : i < commands_in refs → (¬ IsNotStrict strict i) → (block : List AddedStep) → block ≡ [] → IsKeptOrReplaced s v asserted refs strict i block
+  is_kept less strictly block none =
       let count = can.count in
       let found = nth_there strict i (omega arith) in
       elim (passes_or found.0) [
         | inl passes ↦ inl (record { none = none; status = found.0; is = found.1; passes = passes })
-        | inr fails ↦ absurd (not_both b false_is (told.1 (record { status = found.0; is = found.1; fails = fails })))
+        | inr fails ↦ absurd (strictly (record { status = found.0; is = found.1; fails = fails }))
       ]
 
-  pub resolves_of : StandForOne → IsTable s → IsOneToOne v.pass → IsNotStrict strict i → (of : ProofItems Var Term) → StandForItems s v refs of
+  pub resolves_of : StandForOne → IsTable s → IsOneToOne v.pass → IsReplaced refs strict i → (of : ProofItems Var Term) → StandForItems s v refs of
       → ResolvesAt of i
-  resolves_of one table known fails of stand =
-      subst (λ p. ResolvesAt p i) (one s v refs can.proof of table known can.stand stand) (resolves_there s v refs strict can i (is_replaced fails))
+  resolves_of one table known replaced of stand =
+      subst (λ p. ResolvesAt p i) (one s v refs can.proof of table known can.stand stand) (resolves_there s v asserted refs strict can i replaced)
 
-  module _ (w : TermsView) (keeps : KeepsTerms v w) (fails : IsNotStrict strict i) where
+  module _ (w : TermsView) (keeps : KeepsTerms v w) (replaced : IsReplaced refs strict i) where
     pub replacement_is : (block : List AddedStep) → AreAddedFor s w refs i block → EndsInClause (clause_at refs i) block
         → length block ≤ nots_at_step can.proof i + 4
         → AreNear s w (roots_at can.proof i) block → IsReplacement s w refs strict i block
@@ -76,25 +63,26 @@ module _ (s : Table) (v : TermsView) (refs : ProofItems ℕ ℕ) (strict : List 
         record {
           proof = can.proof;
           stand = stand;
-          short = record { replaced = is_replaced fails; few = few };
+          short = record { replaced = replaced; few = few };
           each = term_step s w refs can.proof i (clause_stands s w refs can.proof stand) block added near;
           ends = ends;
         }
 
-    placed_for : (t : Term) → IsNearTo (roots_at can.proof i) t → IsPlacedFor s w refs strict t
-    placed_for t near = record {
-      proof = can.proof;
-      stand = stand_later s v w (more_of v w keeps) refs can.proof can.stand;
-      index = i;
-      replaced = is_replaced fails;
-      near = near;
-    }
+    placed_for : (t : Term) → IsNearTo (roots_at can.proof i) t → IsPlacedFor s w asserted refs strict t
+    placed_for t near =
+        inl (record {
+          proof = can.proof;
+          stand = stand_later s v w (more_of v w keeps) refs can.proof can.stand;
+          index = i;
+          replaced = replaced;
+          near = near;
+        })
 
-    pub places_for : PlacesCellsOf s v.pass w.pass (IsNearTo (roots_at can.proof i)) → PlacesOnly s (λ x. IsPlacedFor s x refs strict) v w
+    pub places_for : PlacesCellsOf s v.pass w.pass (IsNearTo (roots_at can.proof i)) → PlacesOnly s (λ x. IsPlacedFor s x asserted refs strict) v w
     places_for h = record {
       keeps = keeps;
-      placed = places_more s v.pass w.pass (IsNearTo (roots_at can.proof i)) (IsPlacedFor s w refs strict) placed_for h;
+      placed = places_more s v.pass w.pass (IsNearTo (roots_at can.proof i)) (IsPlacedFor s w asserted refs strict) placed_for h;
     }
 
-    pub lacks_for : LacksCellOf s w.pass (IsNearTo (roots_at can.proof i)) → LacksCellOf s w.pass (IsPlacedFor s w refs strict)
-    lacks_for h = lacks_more s w.pass (IsNearTo (roots_at can.proof i)) (IsPlacedFor s w refs strict) placed_for h
+    pub lacks_for : LacksCellOf s w.pass (IsNearTo (roots_at can.proof i)) → LacksCellOf s w.pass (IsPlacedFor s w asserted refs strict)
+    lacks_for h = lacks_more s w.pass (IsNearTo (roots_at can.proof i)) (IsPlacedFor s w asserted refs strict) placed_for h

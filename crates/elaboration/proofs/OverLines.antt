@@ -8,7 +8,7 @@ use Rattle.term_model.proofs.Lists.{all_joined, nth_there}
 use Rattle.term_model.specs.declared.symbols.Sort.{Sort}
 use Rattle.term_model.specs.Terms.{Var, Term}
 use Rattle.rule_model.specs.Commands.{Line, lines_in, closed_scope}
-use Rattle.rule_model.specs.Contexts.{IsClosedUnder}
+use Rattle.rule_model.specs.Contexts.{AreAnchorsNested, IsClosedUnder}
 use Rattle.rule_model.specs.Judged.{open_anchors, anchors_at}
 use Rattle.rule_model.specs.Proofs.{ProofItems, no_items, with_assume, with_step, with_subproof}
 use Rattle.rule_model.specs.Reading.{clause_of, pivots_of, clause_at, pivots_at, closes_at}
@@ -23,6 +23,7 @@ use Rattle.problem_text.specs.Words.{is_among}
 use Rattle.alethe_text.specs.Anchors.{bound_names}
 use Rattle.readable_proofs.specs.Names.{Vocabulary}
 use Rattle.readable_proofs.specs.ProofsOver.{IsTermIn, IsPivotIn, AreVariablesIn, AreIn, IsProofOver}
+use Rattle.readable_proofs.specs.TermsOver.{IsTermOver}
 use Rattle.elaborator.proofs.Sourcing.{pivots_are}
 use Rattle.elaboration_laws.proofs.Anchors.{own_list}
 
@@ -70,10 +71,25 @@ module _ (v : Vocabulary) where
   BindsIn m (Some k) [] = ⊤
   BindsIn m (Some k) (bs ∷ rest) = AreVariablesIn v m [] bs
 
+  -- what anchors bind is over the vocabulary, and the anchors outside one bind what stands free in its terms
+  pub record AreDeep (anchors : List (List (Var × Term))) : Type 0 where
+    pub nested : AreAnchorsNested anchors
+    pub terms : AllByRecursion (λ anchor. AllByRecursion (λ (b : Var × Term). IsTermOver v b.1) anchor) anchors
+
+  bound_deep : (m : Nesting Var Term) (earlier : List (List ℕ)) (bs : List (Var × Term)) → AreVariablesIn v m earlier bs
+      → AllByRecursion (λ (b : Var × Term). IsClosedUnder (open_anchors m) b.1) bs × AllByRecursion (λ (b : Var × Term). IsTermOver v b.1) bs
+  bound_deep m earlier [] h = (tt, tt)
+  bound_deep m earlier (b ∷ bs) h =
+      let rest = bound_deep m (b.0.name ∷ earlier) bs h.1 in ((h.0.term.closed, rest.0), (h.0.term.of, rest.1))
+
+  deeper : (m : Nesting Var Term) (bs : List (Var × Term)) → AreDeep (open_anchors m) → AreVariablesIn v m [] bs → AreDeep (bs ∷ open_anchors m)
+  deeper m bs d h = let both = bound_deep m [] bs h in record { nested = (both.0, d.nested); terms = (both.1, d.terms) }
+
   -- a command's terms may stand where these anchors are open
   pub record IsOverBy (closes : Option ℕ) (anchors : List (List (Var × Term))) (ts : List Term) (ps : List (Term × Bool)) : Type 0 where
     pub nesting : Nesting Var Term
     pub opens : open_anchors nesting ≡ own_list closes anchors
+    pub deep : AreDeep (open_anchors nesting)
     pub clause : AllByRecursion (λ t. IsTermIn v nesting t Sort.Bool) ts
     pub pivots : AllByRecursion (λ (p : Term × Bool). IsPivotIn v nesting p.0) ps
     pub binds : BindsIn nesting closes anchors
@@ -90,19 +106,20 @@ module _ (v : Vocabulary) where
       subst (λ x. IsOverBy x ys us qs) closes
       (subst (λ x. IsOverBy o x us qs) anchors (subst (λ x. IsOverBy o xs x qs) clause (subst (λ x. IsOverBy o xs ts x) pivots h)))
 
-  lines_over : (m : Nesting Var Term) (ps : ProofItems Var Term) → AreIn v m ps → AllByRecursion IsLineOver (lines_in m ps)
-  lines_over m no_items h = tt
-  lines_over m (with_assume items id t) h =
-      all_joined IsLineOver (lines_in m items) _ (lines_over m items h.0)
-      (record { nesting = m; opens = refl; clause = (h.1, tt); pivots = tt; binds = tt }, tt)
-  lines_over m (with_step items s) h =
-      all_joined IsLineOver (lines_in m items) _ (lines_over m items h.0)
-      (record { nesting = m; opens = refl; clause = h.1.clause; pivots = h.1.pivots; binds = tt }, tt)
-  lines_over m (with_subproof items bindings proof s) h =
-      let deep = inner m items bindings s in
-      all_joined IsLineOver (lines_in m items ++ lines_in deep proof) _
-      (all_joined IsLineOver (lines_in m items) (lines_in deep proof) (lines_over m items h.0) (lines_over deep proof h.2))
-      (record { nesting = m; opens = refl; clause = h.3.clause; pivots = h.3.pivots; binds = h.1 }, tt)
+  lines_over : (m : Nesting Var Term) (ps : ProofItems Var Term) → AreDeep (open_anchors m) → AreIn v m ps → AllByRecursion IsLineOver (lines_in m ps)
+  lines_over m no_items d h = tt
+  lines_over m (with_assume items id t) d h =
+      all_joined IsLineOver (lines_in m items) _ (lines_over m items d h.0)
+      (record { nesting = m; opens = refl; deep = d; clause = (h.1, tt); pivots = tt; binds = tt }, tt)
+  lines_over m (with_step items s) d h =
+      all_joined IsLineOver (lines_in m items) _ (lines_over m items d h.0)
+      (record { nesting = m; opens = refl; deep = d; clause = h.1.clause; pivots = h.1.pivots; binds = tt }, tt)
+  lines_over m (with_subproof items bindings proof s) d h =
+      let within = inner m items bindings s in
+      all_joined IsLineOver (lines_in m items ++ lines_in within proof) _
+      (all_joined IsLineOver (lines_in m items) (lines_in within proof) (lines_over m items d h.0)
+      (lines_over within proof (deeper m bindings d h.1) h.2))
+      (record { nesting = m; opens = refl; deep = d; clause = h.3.clause; pivots = h.3.pivots; binds = h.1 }, tt)
 
   items_over : (m : Nesting Var Term) (ps : ProofItems Var Term) → AllByRecursion IsLineOver (lines_in m ps) → AreIn v m ps
   items_over m no_items h = tt
@@ -138,7 +155,7 @@ module _ (v : Vocabulary) where
       let count = lines_in_count outermost proof in
       let l = nth_there (lines_in outermost proof) i (omega arith) in
       same_over _ _ _ _ _ _ _ _ (sym (closes_is proof i l.0 l.1)) (sym (anchors_are proof i l.0 l.1)) (sym (clause_is proof i l.0 l.1))
-      (sym (pivots_are proof i l.0 l.1)) (all_at IsLineOver (lines_in outermost proof) i l.0 (lines_over outermost proof h) l.1)
+      (sym (pivots_are proof i l.0 l.1)) (all_at IsLineOver (lines_in outermost proof) i l.0 (lines_over outermost proof (record { nested = tt; terms = tt }) h) l.1)
 
   pub proof_over : (proof : ProofItems Var Term) → ((i : ℕ) → i < commands_in proof → IsOverAt proof i) → IsProofOver v proof
   proof_over proof each =

@@ -34,7 +34,7 @@ NegationsAreOver = (v : Vocabulary) (nesting : Nesting Var Term) (t : Term) → 
 
 module _ (v : Vocabulary) (m : Nesting Var Term) where
   -- a term stands in a scope where it does under `not`s
-  below_not : (t : Term) (sort : Sort) → IsTermIn v m (not_of t) sort → IsPivotIn v m t
+  pub below_not : (t : Term) (sort : Sort) → IsTermIn v m (not_of t) sort → IsPivotIn v m t
   below_not t sort h = go h.sorted.sorts h.sorted.arguments
     where
       go : (sorts : List Sort) → AreOf (term t no_terms) sorts → IsPivotIn v m t
@@ -62,7 +62,7 @@ module _ (v : Vocabulary) (m : Nesting Var Term) where
   falsity_over : IsTermIn v m falsity_term Sort.Bool
   falsity_over = record { of = tt; sorted = record { sorts = []; arguments = tt; is = refl }; closed = λ x none. absurd none }
 
-  literal_over : (ts : List Term) (t : Term) → AllByRecursion (λ u. IsTermIn v m u Sort.Bool) ts → Contains ts t → IsTermIn v m t Sort.Bool
+  pub literal_over : (ts : List Term) (t : Term) → AllByRecursion (λ u. IsTermIn v m u Sort.Bool) ts → Contains ts t → IsTermIn v m t Sort.Bool
   literal_over ts t h has =
       All-contains (λ u. IsTermIn v m u Sort.Bool) ts t (All-from_recursion (λ u. IsTermIn v m u Sort.Bool) ts h) has
 
@@ -72,7 +72,7 @@ module _ (v : Vocabulary) (law : NegationsAreOver) (proof : ProofItems Var Term)
   own = over_at v proof i less is_over
 
   -- a premise's literal is closed where the premise stands, so where the step does
-  premise_over : (p : ℕ) → Contains (premises_at proof i) p → (t : Term) → Contains (clause_at proof p) t → IsTermIn v own.nesting t Sort.Bool
+  pub premise_over : (p : ℕ) → Contains (premises_at proof i) p → (t : Term) → Contains (clause_at proof p) t → IsTermIn v own.nesting t Sort.Bool
   premise_over p has t literal =
       let there = over_at v proof p (premise_within proof formed i less p has) is_over in
       let is = literal_over v there.nesting (clause_at proof p) t there.clause literal in

@@ -90,7 +90,7 @@ module _ (s : Table) (w : TermsView) (known : IsOneToOne w.pass) (one_term : (a 
           (pivots_at terms j) (pivots_at terms j) (sym (closes_there i j from.closes_is))
           (anchors_are j (anchors_at refs i) (anchors_at proof i) (anchors_stand s w refs proof old_stand i)
           (ap (λ (x : Looked). x.anchors) from.looks)) refl refl
-          (record { nesting = here.nesting; opens = here.opens; clause = both.0; pivots = both.1; binds = here.binds })
+          (record { nesting = here.nesting; opens = here.opens; deep = here.deep; clause = both.0; pivots = both.1; binds = here.binds })
       go (from_block i number block a e at below from) =
           let here = old i block e in
           let both = terms_over i j number block a (own_anchors refs i) e at from.looks in
@@ -100,7 +100,7 @@ module _ (s : Table) (w : TermsView) (known : IsOneToOne w.pass) (one_term : (a 
           let closing = ap (λ o. own_list o (anchors_at proof i)) (sym (closes_same s w refs proof old_stand i)) in
           same_over v None (closes_at terms j) (anchors_at terms j) (anchors_at terms j) (clause_at terms j) (clause_at terms j)
           (pivots_at terms j) (pivots_at terms j) (sym (sym (closes_same s w new terms new_stand j) ∙ from.closes_is)) refl refl refl
-          (record { nesting = here.nesting; opens = here.opens ∙ (closing ∙ anchors); clause = both.0; pivots = both.1; binds = tt })
+          (record { nesting = here.nesting; opens = here.opens ∙ (closing ∙ anchors); deep = here.deep; clause = both.0; pivots = both.1; binds = tt })
 
   pub over_terms : IsProofOver v terms
   over_terms = proof_over v terms (λ j less. each_over j (let same = commands_same s w new terms new_stand in omega arith))

@@ -1,7 +1,8 @@
 -- From what is asked of a proof to what its commands are, and from the steps that were made to an elaboration.
 use Rattle.std.proofs.Common.{◌≡◌, ◌<◌, ◌≤◌, ◌-◌, ◌^◌, inl, inr, ℕ, Bool, false, List, []}
 use Rattle.std.proofs.Common.{◌∷◌, map, length, take, slice_get, get_or, Some, sym, ◌∙◌, ap, subst, arith, All, if◌then◌else◌}
-use Rattle.std.proofs.lemmas.List.Elements.{All-nil, All-cons}
+use Rattle.std.specs.List.{AllByRecursion}
+use Rattle.std.proofs.lemmas.List.Elements.{All-nil, All-cons, All-from_recursion, All-weaker}
 use Rattle.std.proofs.lemmas.Option.{slice_get_within, slice_get-get_or}
 use Rattle.pair_pool.specs.Views.{IsOneToOne}
 use Rattle.sym_table.specs.Table.{Table, IsTable}
@@ -21,8 +22,9 @@ use Rattle.rule_model.specs.Conditions.{IsClauseOfTruths, IsMetAt}
 use Rattle.rule_model.specs.Elaboration.{IsElaboration}
 use Rattle.rule_model.specs.Proofs.{ProofItems}
 use Rattle.rule_model.specs.Reading.{clause_at, premises_at, rule_at}
-use Rattle.rule_model.specs.Scopes.{commands_in}
-use Rattle.rule_model.specs.Statuses.{AreStatuses, Checking, IsStatusBy, Passes, kind_under}
+use Rattle.rule_model.specs.Scopes.{commands_in, outermost}
+use Rattle.rule_model.specs.Statuses.{AreStatuses, Checking, IsStatusAt, IsStatusBy, kind_under}
+use Rattle.rule_model.specs.Truth.{IsLiteralIn}
 use Rattle.rule_model.specs.WellFormed.{IsWellFormed}
 use Rattle.readable_proofs.specs.Names.{Vocabulary}
 use Rattle.readable_proofs.specs.ProofsOver.{IsProofOver}
@@ -35,14 +37,19 @@ use Rattle.elaboration_laws.specs.StrictBlocks.{AreFittingBlocks, AreStrictBlock
 use Rattle.elaboration_laws.proofs.Forming.{formed_over_terms}
 use Rattle.elaboration_laws.proofs.Ones.{one_clause}
 use Rattle.elaboration_laws.proofs.Reading.{rule_same}
-use Rattle.elaboration.specs.Elaborated.{IsElaborated, IsLeftOut, IsReplaced, IsResolution, IsShortBlock, IsTooLong, PassAll, in_strict_mode}
-use Rattle.elaboration.specs.Replaced.{CanBeReplaced, IsKeptOrReplaced, IsReplacement, IsTermStep}
+use Rattle.equality_blocks.specs.Blocks.{IsReplacementFor}
+use Rattle.equality_blocks.specs.Commands.{IsClosedTruth, in_check_mode}
+use Rattle.elaboration.specs.Elaborated.{AreWellSorted, IsElaborated, IsNotStrict, IsReplaced, IsResolution, IsShortBlock, IsTooLong, PassAll, in_strict_mode}
+use Rattle.elaboration.specs.Replaced.{CanBeReplaced, IsKeptOrReplaced, IsOkInCheck, IsRelinking, IsReplacement, IsTermStep}
 use Rattle.elaboration.proofs.BlockLemmas.{are_blocks, not_empty}
 use Rattle.elaboration.proofs.FittingSteps.{NearAreLow, kept_fits, replaced_fits}
+use Rattle.elaboration.proofs.OverLines.{over_at}
 use Rattle.elaboration.proofs.OverNear.{NegationsAreOver, clause_over, pivots_over}
-use Rattle.elaboration.proofs.OverSteps.{AreBlocksOver}
+use Rattle.elaboration.proofs.OverSteps.{AreBlocksOver, IsBlockOver}
+use Rattle.elaboration.proofs.Relinked.{Replace, relinked_added, relinked_few, relinked_fits, relinked_strict}
 use Rattle.elaboration.proofs.Rules.{closes_none, resolution_kind, resolves}
 use Rattle.elaboration.proofs.StrictSteps.{kept_strict, nothing_there, replaced_strict}
+use Rattle.elaboration.proofs.TwoColumns.{ok_in_check}
 
 -- the law of `proof_store`
 abbrev pub StandForOne : Type 0
@@ -50,50 +57,55 @@ StandForOne =
     (s : Table) (v : TermsView) (refs : ProofItems ℕ ℕ) (p q : ProofItems Var Term) → IsTable s → IsOneToOne v.pass → StandForItems s v refs p
     → StandForItems s v refs q → p ≡ q
 
--- a status by the condition of a rule that passes
-met_where : (c : Checking) (proof : ProofItems Var Term) (i : ℕ) (family : Family) (status : Status) → Passes status
-    → IsStatusBy (Kind.Judged family) c proof i status → IsMetAt c.mode proof i
-met_where c proof i family Status.Ok passes h = h.1
-met_where c proof i family Status.Hole passes h = absurd h
-met_where c proof i family (Status.Faulty cause) passes h = absurd passes
-met_where c proof i family Status.Wide passes h = absurd passes
-
 check_mode : (flags : Flags) → flags.strict ≡ false → mode_of flags ≡ Mode.Check
 check_mode flags e = ap (λ (b : Bool). if b then Mode.Strict else Mode.Check) e
+
+-- check mode, whatever the flags say of the mode
+in_check : (flags : Flags) → flags.strict ≡ false → (assertions : List Term) (proof : ProofItems Var Term) (i : ℕ) (status : Status)
+    → IsStatusAt (checking flags assertions) proof i status → IsStatusAt (checking_in Mode.Check (checking flags assertions)) proof i status
+in_check flags e assertions proof i status h =
+    subst (λ m. IsStatusAt (record { mode = m; unknown_are_holes = flags.ignore_unknown; assertions = assertions }) proof i status) (check_mode flags e) h
+
+pub closed_truths : (ts : List Term) → AllByRecursion (IsLiteralIn outermost) ts → All IsClosedTruth ts
+closed_truths ts h =
+    All-weaker (IsLiteralIn outermost) IsClosedTruth (λ t k. record { sort = k.sort; closed = λ x free. k.closed x free }) ts
+    (All-from_recursion (IsLiteralIn outermost) ts h)
 
 module _ (s : Table) (v : TermsView) (flags : Flags) (asserted : List ℕ) (refs : ProofItems ℕ ℕ) (strict : List Status)
     (can : CanBeChecked s v asserted refs) where
   pub strict_count : AreStatusesOf (in_strict_mode flags) s v asserted refs strict → length strict ≡ commands_in refs
   strict_count are = (are can.proof can.asserted.assertions can.stand can.asserted.refer).count ∙ sym (commands_same s v refs can.proof can.stand)
 
-  -- a resolution that passes in check mode meets its condition
-  pub met_at : flags.strict ≡ false → PassAll flags s v asserted refs → (i : ℕ) → i < commands_in refs → IsResolution (rule_at refs i)
-      → IsMetAt Mode.Check can.proof i
-  met_at check all i less rule =
-      let are = all.are can.proof can.asserted.assertions can.stand can.asserted.refer in
-      let count = are.count in
-      let same = commands_same s v refs can.proof can.stand in
+  -- a command that passes in check mode and not in strict mode
+  pub ok_at : flags.strict ≡ false → PassAll flags s v asserted refs → AreStatusesOf (in_strict_mode flags) s v asserted refs strict
+      → (i : ℕ) → IsNotStrict strict i → IsOkInCheck can.proof can.asserted.assertions i
+  ok_at check all are i fails =
+      let assertions = can.asserted.assertions in
+      let loose_are = all.are can.proof assertions can.stand can.asserted.refer in
+      let strict_are = are can.proof assertions can.stand can.asserted.refer in
+      let inside = slice_get_within strict i fails.status fails.is in
+      let strict_size = strict_are.count in
+      let loose_size = loose_are.count in
       let within : i < length all.statuses = omega arith in
-      let status = get_or all.statuses i Status.Ok in
-      let is = are.each i status (slice_get-get_or all.statuses i Status.Ok within) in
-      let kind = resolution_kind (rule_at can.proof i) (subst IsResolution (rule_same s v refs can.proof can.stand i) rule) in
-      subst (λ m. IsMetAt m can.proof i) (check_mode flags check)
-      (met_where (checking flags can.asserted.assertions) can.proof i Family.Resolution status (all.pass i Status.Ok within)
-      (subst (λ k. IsStatusBy (kind_under flags.ignore_unknown k) (checking flags can.asserted.assertions) can.proof i status) kind is))
+      let loose = get_or all.statuses i Status.Ok in
+      ok_in_check (checking flags assertions) can.proof i loose fails.status
+      (in_check flags check assertions can.proof i loose (loose_are.each i loose (slice_get-get_or all.statuses i Status.Ok within)))
+      (all.pass i Status.Ok within) (strict_are.each i fails.status fails.is) fails.fails
 
-  abbrev pub can_replace : flags.strict ≡ false → PassAll flags s v asserted refs → AreStatusesOf (in_strict_mode flags) s v asserted refs strict
-      → ¬ IsLeftOut refs strict → CanBeReplaced s v refs strict
-  can_replace check all are whole = record {
+  abbrev pub can_replace : IsWellFormed refs → AreWellSorted s v asserted refs → flags.strict ≡ false → PassAll flags s v asserted refs
+      → AreStatusesOf (in_strict_mode flags) s v asserted refs strict → CanBeReplaced s v asserted refs strict
+  can_replace formed sorted check all are = record {
     proof = can.proof;
     stand = can.stand;
+    formed = formed;
     short = can.short;
     sorted = can.sorted;
+    well_sorted = (sorted can.proof can.asserted.assertions can.stand can.asserted.refer).0;
+    assertions = can.asserted.assertions;
+    refer = can.asserted.refer;
+    truths = closed_truths can.asserted.assertions (sorted can.proof can.asserted.assertions can.stand can.asserted.refer).1;
     count = strict_count are;
-    whole = whole;
-    met = λ i h.
-        let within = slice_get_within strict i h.not_strict.status h.not_strict.is in
-        let count = strict_count are in
-        met_at check all i (omega arith) h.rule;
+    ok = ok_at check all are;
   }
 
 all_mapped : (proof : ProofItems Var Term) (ps : List ℕ) → ((i : ℕ) → IsClauseOfTruths (clause_at proof i)) → All IsClauseOfTruths (map (clause_at proof) ps)
@@ -101,25 +113,31 @@ all_mapped proof [] sorted = All-nil IsClauseOfTruths
 all_mapped proof (p ∷ ps) sorted =
     All-cons IsClauseOfTruths (clause_at proof p) (map (clause_at proof) ps) (sorted p) (all_mapped proof ps sorted)
 
--- a replaced command, by the proof for which the references stand
-module _ (s : Table) (v : TermsView) (refs : ProofItems ℕ ℕ) (strict : List Status) (can : CanBeReplaced s v refs strict) (i : ℕ)
+-- a replaced resolution, by the proof for which the references stand
+module _ (s : Table) (v : TermsView) (asserted : List ℕ) (refs : ProofItems ℕ ℕ) (strict : List Status) (can : CanBeReplaced s v asserted refs strict) (i : ℕ)
     (h : IsReplaced refs strict i) where
   pub rule_there : IsResolution (rule_at can.proof i)
   rule_there = subst IsResolution (rule_same s v refs can.proof can.stand i) h.rule
 
+  pub met_there : IsMetAt Mode.Check can.proof i
+  met_there =
+      (subst (λ k. IsStatusBy (kind_under false k) (in_check_mode can.assertions) can.proof i Status.Ok) (resolution_kind (rule_at can.proof i) rule_there)
+      (can.ok i h.not_strict).ok).1
+
   pub resolves_there : ResolvesAt can.proof i
   resolves_there = record {
-    follows = resolves can.proof i rule_there (can.met i h);
+    follows = resolves can.proof i rule_there met_there;
     clause = can.sorted i;
     premises = all_mapped can.proof (premises_at can.proof i) can.sorted;
   }
 
 -- the blocks that were made
-module _ (one : StandForOne) (s : Table) (table : IsTable s) (w : TermsView) (known : IsOneToOne w.pass) (refs : ProofItems ℕ ℕ) (formed : IsWellFormed refs)
-    (strict : List Status) (can : CanBeReplaced s w refs strict) (blocks : List (List AddedStep))
-    (made : AreMadeBy (IsKeptOrReplaced s w refs strict) (commands_in refs) blocks) where
+module _ (replace : Replace IsReplacementFor) (one : StandForOne) (s : Table) (table : IsTable s) (w : TermsView) (known : IsOneToOne w.pass)
+    (asserted : List ℕ) (refs : ProofItems ℕ ℕ) (strict : List Status) (can : CanBeReplaced s w asserted refs strict) (blocks : List (List AddedStep))
+    (made : AreMadeBy (IsKeptOrReplaced s w asserted refs strict) (commands_in refs) blocks) where
   pub blocks_are : AreBlocksOf refs blocks
-  blocks_are = are_blocks s w refs strict formed blocks made
+  blocks_are =
+      are_blocks s w refs strict can.formed asserted (λ i block l there h. relinked_added replace s w known asserted refs strict i block h l there) blocks made
 
   same_proof : (i : ℕ) (block : List AddedStep) (h : IsReplacement s w refs strict i block) → h.proof ≡ can.proof
   same_proof i block h = one s w refs h.proof can.proof table known h.stand can.stand
@@ -128,39 +146,53 @@ module _ (one : StandForOne) (s : Table) (table : IsTable s) (w : TermsView) (kn
       → IsTermStep s w refs can.proof i (take k block) a
   steps_are i block h k a at = subst (λ p. IsTermStep s w refs p i (take k block) a) (same_proof i block h) (h.each k a at)
 
-  pub strict_blocks : (c : Checking) → AreStatuses (checking_in Mode.Strict c) can.proof strict → AreStrictBlocks s w c refs can.proof blocks
-  strict_blocks c are i block e = elim (made.each i block e) [
+  pub strict_blocks : (c : Checking) → ReferToAll s w asserted c.assertions → AreStatuses (checking_in Mode.Strict c) can.proof strict
+      → AreStrictBlocks s w c refs can.proof blocks
+  strict_blocks c refer are i block e = elim (made.each i block e) [
     | inl kept ↦ kept_strict s w c refs can.proof i block strict are kept
-    | inr h ↦
-        replaced_strict s w c refs can.proof i block strict can.stand
-        (closes_none can.proof i (rule_there s w refs strict can i h.short.replaced) (can.met i h.short.replaced)) (steps_are i block h)
-        (not_empty (clause_at refs i) block h.ends)
+    | inr other ↦ elim other [
+      | inl h ↦
+          replaced_strict s w c refs can.proof i block strict can.stand
+          (closes_none can.proof i (rule_there s w asserted refs strict can i h.short.replaced)
+          (met_there s w asserted refs strict can i h.short.replaced)) (steps_are i block h)
+          (not_empty (clause_at refs i) block h.ends)
+      | inr h ↦ relinked_strict replace s w known asserted refs strict i block h c can.proof can.stand refer
+    ]
   ]
 
-  pub fitting_blocks : NearAreLow → (c : Checking) → AreFittingBlocks s w c refs can.proof blocks
-  fitting_blocks law c i block e =
+  pub fitting_blocks : NearAreLow → (c : Checking) → ReferToAll s w asserted c.assertions → AreFittingBlocks s w c refs can.proof blocks
+  fitting_blocks law c refer i block e =
       let within = slice_get_within blocks i block e in
       let count = made.count_is in
       let same = commands_same s w refs can.proof can.stand in
       let less : i < commands_in can.proof = omega arith in
-      let over = formed_over_terms s w table refs can.proof can.stand formed in
+      let over = formed_over_terms s w table refs can.proof can.stand can.formed in
       elim (made.each i block e) [
         | inl kept ↦ kept_fits s w known (one_term s table) c refs can.proof can.stand over i less block strict kept
-        | inr h ↦ replaced_fits s w known (one_term s table) c refs can.proof can.stand over i less block law (steps_are i block h)
+        | inr other ↦ elim other [
+          | inl h ↦ replaced_fits s w known (one_term s table) c refs can.proof can.stand over i less block law (steps_are i block h)
+          | inr h ↦ relinked_fits replace s w known asserted refs strict i block h c can.proof can.stand refer
+        ]
       ]
 
-  pub over_blocks : NegationsAreOver → (v : Vocabulary) (is_over : IsProofOver v can.proof) → AreBlocksOver s w v can.proof is_over blocks
-  over_blocks law v is_over i block e less = elim (made.each i block e) [
+  pub over_blocks : NegationsAreOver → (v : Vocabulary) (is_over : IsProofOver v can.proof)
+      → ((i : ℕ) (block : List AddedStep) (less : i < commands_in can.proof) → IsRelinking s w asserted refs strict i block
+      → IsBlockOver s w v (over_at v can.proof i less is_over).nesting block)
+      → AreBlocksOver s w v can.proof is_over blocks
+  over_blocks law v is_over relinked i block e less = elim (made.each i block e) [
     | inl kept ↦ λ number a at ts ps clause pivots. absurd (nothing_there number a (subst (λ b. slice_get b number ≡ Some a) kept.none at))
-    | inr h ↦ λ number a at ts ps clause pivots.
-        let well = formed_over_terms s w table refs can.proof can.stand formed in
-        let one = steps_are i block h number a at in (
-          clause_over v law can.proof well is_over i less s w known (one_term s table) refs (take number block) a one ts clause,
-          pivots_over v law can.proof well is_over i less s w known (one_term s table) refs (take number block) a one ps pivots,
-        )
+    | inr other ↦ elim other [
+      | inl h ↦ λ number a at ts ps clause pivots.
+          let well = formed_over_terms s w table refs can.proof can.stand can.formed in
+          let step = steps_are i block h number a at in (
+            clause_over v law can.proof well is_over i less s w known (one_term s table) refs (take number block) a step ts clause,
+            pivots_over v law can.proof well is_over i less s w known (one_term s table) refs (take number block) a step ps pivots,
+          )
+      | inr h ↦ relinked i block less h
+    ]
   ]
 
-  pub too_long : 2 ^ 32 - 1 ≤ commands_needed blocks → IsTooLong s w refs strict
+  pub too_long : 2 ^ 32 - 1 ≤ commands_needed blocks → IsTooLong s w asserted refs strict
   too_long many = record {
     proof = can.proof;
     stand = can.stand;
@@ -168,7 +200,10 @@ module _ (one : StandForOne) (s : Table) (table : IsTable s) (w : TermsView) (kn
     count = made.count_is;
     each = λ i block e. elim (made.each i block e) [
       | inl kept ↦ inl kept.none
-      | inr h ↦ inr (subst (λ p. IsShortBlock refs strict p i block) (same_proof i block h) h.short)
+      | inr other ↦ elim other [
+        | inl h ↦ inr (inl (subst (λ p. IsShortBlock refs strict p i block) (same_proof i block h) h.short))
+        | inr h ↦ inr (inr (relinked_few replace s w known asserted refs strict i block h))
+      ]
     ];
     many = many;
   }

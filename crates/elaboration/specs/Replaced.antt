@@ -1,7 +1,8 @@
--- Private. Steps in the place of a resolution, by terms for which their references stand; and what is known of a proof of which
--- commands are replaced.
+-- Private. Steps in the place of a command: of a resolution, by terms for which their references stand, and of others; and what is known
+-- of a proof of which commands are replaced.
 use Rattle.std.specs.Prelude.{◌≡◌, ◌<◌, ◌⊎◌, ℕ, Bool, List, [], map, take, length, slice_get, Some, None, All}
 use Rattle.std.specs.List.{AllZip}
+use Rattle.pair_pool.specs.Views.{Grows}
 use Rattle.sym_table.specs.Table.{Table}
 use Rattle.term_model.specs.Terms.{Var, Term}
 use Rattle.term_pool.specs.Views.{TermsView, ReferToAll}
@@ -10,16 +11,23 @@ use Rattle.proof_store.specs.Meaning.{IsPivotOf, StandForItems}
 use Rattle.rule_model.specs.declared.rules.Mode.{Mode}
 use Rattle.rule_model.specs.declared.rules.Rule.{Rule}
 use Rattle.rule_model.specs.declared.statuses.Status.{Status}
-use Rattle.rule_model.specs.Conditions.{IsClauseOfTruths, IsMetAt, Met}
+use Rattle.rule_model.specs.Conditions.{IsClauseOfTruths, Met}
 use Rattle.rule_model.specs.Proofs.{ProofItems}
-use Rattle.rule_model.specs.Reading.{clause_at, premises_at, rule_at}
+use Rattle.rule_model.specs.Reading.{clause_at, premises_at, rule_at, scope_at}
 use Rattle.rule_model.specs.Scopes.{commands_in}
-use Rattle.rule_model.specs.Statuses.{Passes}
+use Rattle.rule_model.specs.Statuses.{IsStatusAt, Passes}
+use Rattle.rule_model.specs.Truth.{IsWellSortedProof}
+use Rattle.rule_model.specs.WellFormed.{IsWellFormed}
 use Rattle.rules_resolution.specs.Steps.{IsShort}
 use Rattle.chain_plan.specs.Plans.{IsBridgeRule}
 use Rattle.elab_resolution.specs.Adding.{EndsInClause, IsLinkFor, linked_clause, roots_at}
 use Rattle.elab_resolution.specs.Spellings.{IsNearTo}
-use Rattle.elaboration.specs.Elaborated.{IsNotStrict, IsReplaced, IsResolution, IsShortBlock, IsLeftOut}
+use Rattle.equality_steps.specs.declared.site.Site.{Site}
+use Rattle.equality_blocks.specs.Blocks.{IsReplacementFor}
+use Rattle.equality_blocks.specs.Commands.{IsClosedTruth, in_check_mode}
+use Rattle.elab_denials.specs.Rules.{IsElaboratedHere as IsDenialRule}
+use Rattle.elab_equality.specs.Rules.{IsElaboratedHere as IsEqualityRule}
+use Rattle.elaboration.specs.Elaborated.{IsNotStrict, IsRelinked, IsReplaced, IsResolution, IsShortBlock, IsSiteOf}
 
 -- A step that is added for command i behind others, with terms for which its references stand. They are near to those of the command.
 pub record IsTermStep (s : Table) (v : TermsView) (refs : ProofItems ℕ ℕ) (proof : ProofItems Var Term) (i : ℕ) (before : List AddedStep)
@@ -53,6 +61,16 @@ pub record IsReplacement (s : Table) (v : TermsView) (refs : ProofItems ℕ ℕ)
   pub each : (k : ℕ) (a : AddedStep) → slice_get block k ≡ Some a → IsTermStep s v refs proof i (take k block) a
   pub ends : EndsInClause (clause_at refs i) block
 
+-- The steps take the place of another command at an index that is not strict, as it was seen when at most as much was known as now.
+pub record IsRelinking (s : Table) (v : TermsView) (asserted : List ℕ) (refs : ProofItems ℕ ℕ) (strict : List Status) (i : ℕ)
+    (block : List AddedStep) : Type 0 where
+  pub relinked : IsRelinked refs strict i
+  pub site : Site
+  pub is_site : IsSiteOf s asserted refs i site
+  pub view : TermsView
+  pub more : Grows view.pass v.pass
+  pub steps : IsReplacementFor site view block
+
 -- by its strict status the command at an index passes, and none are added for it
 pub record IsKept (strict : List Status) (i : ℕ) (block : List AddedStep) : Type 0 where
   pub none : block ≡ []
@@ -60,23 +78,31 @@ pub record IsKept (strict : List Status) (i : ℕ) (block : List AddedStep) : Ty
   pub is : slice_get strict i ≡ Some status
   pub passes : Passes status
 
-abbrev pub IsKeptOrReplaced : Table → TermsView → ProofItems ℕ ℕ → List Status → ℕ → List AddedStep → Type 0
-IsKeptOrReplaced s v refs strict i block = IsKept strict i block ⊎ IsReplacement s v refs strict i block
+abbrev pub IsKeptOrReplaced : Table → TermsView → List ℕ → ProofItems ℕ ℕ → List Status → ℕ → List AddedStep → Type 0
+IsKeptOrReplaced s v asserted refs strict i block =
+    IsKept strict i block ⊎ (IsReplacement s v refs strict i block ⊎ IsRelinking s v asserted refs strict i block)
 
--- The references stand for a proof whose literals are of Bool. Each command has a strict status, and each that is not strict is a
--- resolution that meets its condition in check mode.
-pub record CanBeReplaced (s : Table) (v : TermsView) (refs : ProofItems ℕ ℕ) (strict : List Status) : Type 0 where
+-- the rules with two columns: commands of other rules meet in strict mode what they meet in check mode
+abbrev pub HasTwoColumns : Rule → Type 0
+HasTwoColumns rule = IsResolution rule ⊎ (IsEqualityRule rule ⊎ IsDenialRule rule)
+
+-- The command at an index is by a rule with two columns, and is Ok in check mode. An assume stands in the outermost scope.
+pub record IsOkInCheck (proof : ProofItems Var Term) (assertions : List Term) (i : ℕ) : Type 0 where
+  pub two : HasTwoColumns (rule_at proof i)
+  pub ok : IsStatusAt (in_check_mode assertions) proof i Status.Ok
+  pub outer : rule_at proof i ≡ Rule.Assume → scope_at proof i ≡ 0
+
+-- The references stand for a well-formed and well-sorted proof, and for closed assertions of Bool. Each command has a strict status, and
+-- each that is not strict is Ok in check mode.
+pub record CanBeReplaced (s : Table) (v : TermsView) (asserted : List ℕ) (refs : ProofItems ℕ ℕ) (strict : List Status) : Type 0 where
   pub proof : ProofItems Var Term
   pub stand : StandForItems s v refs proof
+  pub formed : IsWellFormed refs
   pub short : IsShort refs
   pub sorted : (i : ℕ) → IsClauseOfTruths (clause_at proof i)
+  pub well_sorted : IsWellSortedProof proof
+  pub assertions : List Term
+  pub refer : ReferToAll s v asserted assertions
+  pub truths : All IsClosedTruth assertions
   pub count : length strict ≡ commands_in refs
-  pub whole : ¬ IsLeftOut refs strict
-  pub met : (i : ℕ) → IsReplaced refs strict i → IsMetAt Mode.Check proof i
-
--- the command at an index is left out, and none before one is
-abbrev pub IsLeftOutAt : ProofItems ℕ ℕ → List Status → ℕ → Type 0
-IsLeftOutAt refs strict i = IsNotStrict strict i × (¬ IsResolution (rule_at refs i))
-
-abbrev pub NoneLeftOutTo : ProofItems ℕ ℕ → List Status → ℕ → Type 0
-NoneLeftOutTo refs strict n = (i : ℕ) → i < n → ¬ IsLeftOutAt refs strict i
+  pub ok : (i : ℕ) → IsNotStrict strict i → IsOkInCheck proof assertions i

@@ -1,46 +1,57 @@
 //! The steps that are added for each command.
 
-ghost use Rattle.std.specs.Prelude.{◌≡◌, ◌<◌, IfOk, IfErr};
-ghost use Rattle.elaboration.specs.Elaborated.{IsNotStrict, IsPlacedFor};
-ghost use Rattle.elaboration.specs.Replaced.{CanBeReplaced, IsReplacement};
+ghost use Rattle.std.specs.Prelude.{◌≡◌, ◌<◌, ◌⊎◌, IfOk, IfErr};
+ghost use Rattle.elab_denials.specs.Rules.{IsElaboratedHere as IsDenialRule};
+ghost use Rattle.elab_equality.specs.Rules.{IsElaboratedHere as IsEqualityRule};
+ghost use Rattle.elaboration.specs.Elaborated.{IsNotStrict, IsPlacedFor, IsRelinked, IsReplaced};
+ghost use Rattle.elaboration.specs.Replaced.{CanBeReplaced, IsRelinking, IsReplacement};
 ghost use Rattle.elaborator.specs.Pieces.{PlacesOnly};
+ghost use Rattle.equality_blocks.specs.Blocks.{IsReplacementFor};
+ghost use Rattle.equality_blocks.specs.Commands.{IsToElaborate, rule_of_command};
+ghost use Rattle.equality_blocks.specs.Made.{IsPlacedFor as IsPlacedForCommand};
 ghost use Rattle.rule_model.specs.Scopes.{commands_in};
 ghost use Rattle.term_parts.specs.declared.answers.RuleStop.TheVariants as RuleStop;
-ghost use Rattle.term_pool.specs.Placing.{LacksCellOf};
+ghost use Rattle.term_pool.specs.Placing.{LacksCellOf, PlacesCellsOf};
+ghost use Rattle.term_pool.specs.Views.{KeepsTerms};
 
-use crate::leaving_out::is_not_strict;
+use crate::choosing::{is_denial, is_not_strict, is_resolution};
 use elaborator::Elaborate;
+use equality_blocks::made_terms_grow;
+use equality_steps::Site;
+use pair_pool::Ref;
 use proof_store::{Added, Proof, Status, proofs_stand_for_one};
 use std::alloc::Global;
 use sym_table::Symbols;
 use term_parts::RuleStop;
 use term_pool::Terms;
+use term_reader::Problem;
 
-/// What is replaced: the resolutions that are not strict by these statuses.
+/// What is replaced: the commands that are not strict by these statuses, of a proof for this problem.
 #[derive(Clone, Copy)]
-pub(crate) struct Resolutions<'a> {
+pub(crate) struct Replacements<'a> {
     pub(crate) symbols: &'a Symbols,
+    pub(crate) problem: &'a Problem,
     pub(crate) strict: &'a [Status],
 }
 
 /// The steps in the place of the resolution at an index.
-fn replacement(
+fn resolved(
     alloc: Global,
-    resolutions: &Resolutions<'_>,
+    replacements: &Replacements<'_>,
     proof: &Proof,
     i: u32,
     terms: &mut Terms<'_>,
 ) -> Result<Vec<Added>, RuleStop>
     requires inside { i < commands_in proof.now }
-    requires fits { CanBeReplaced resolutions.now.symbols.now terms.old proof.now resolutions.now.strict.now }
-    requires not_strict { IsNotStrict resolutions.now.strict.now i }
-    ensures replaced { IfOk result (λ block. IsReplacement resolutions.now.symbols.now terms.new proof.now resolutions.now.strict.now i block.items) }
-    ensures places { PlacesOnly resolutions.now.symbols.now (λ v. IsPlacedFor resolutions.now.symbols.now v proof.now resolutions.now.strict.now)
-        terms.old terms.new }
-    ensures full { IfErr result (λ stop. stop ≡ RuleStop.PoolFull → LacksCellOf resolutions.now.symbols.now terms.new.pass
-        (IsPlacedFor resolutions.now.symbols.now terms.new proof.now resolutions.now.strict.now)) }
+    requires fits { CanBeReplaced replacements.now.symbols.now terms.old replacements.now.problem.now.assertions proof.now replacements.now.strict.now }
+    requires replaced { IsReplaced proof.now replacements.now.strict.now i }
+    ensures replaced { IfOk result (λ block. IsReplacement replacements.now.symbols.now terms.new proof.now replacements.now.strict.now i block.items) }
+    ensures places { PlacesOnly replacements.now.symbols.now (λ v. IsPlacedFor replacements.now.symbols.now v replacements.now.problem.now.assertions proof.now
+        replacements.now.strict.now) terms.old terms.new }
+    ensures full { IfErr result (λ stop. stop ≡ RuleStop.PoolFull → LacksCellOf replacements.now.symbols.now terms.new.pass
+        (IsPlacedFor replacements.now.symbols.now terms.new replacements.now.problem.now.assertions proof.now replacements.now.strict.now)) }
 {
-    let symbols = resolutions.symbols;
+    let symbols = replacements.symbols;
     symbols.leaves_differ();
     terms.one_to_one();
     proofs_stand_for_one();
@@ -50,17 +61,105 @@ fn replacement(
     }
 }
 
-impl<'a> Elaborate for Resolutions<'a> {
+/// The steps in the place of a command of another rule.
+fn relinked_at(at: &Site<'_>, terms: &mut Terms<'_>) -> Result<Vec<Added>, RuleStop>
+    requires job { IsToElaborate at.now terms.old }
+    requires rule { IsEqualityRule (rule_of_command at.now) ⊎ IsDenialRule (rule_of_command at.now) }
+    ensures made { IfOk result (λ block. IsReplacementFor at.now terms.new block.items) }
+    ensures placed { PlacesCellsOf at.now.symbols.now terms.old.pass terms.new.pass (IsPlacedForCommand at.now terms.new) }
+    ensures full { IfErr result (λ stop. stop ≡ RuleStop.PoolFull →
+        LacksCellOf at.now.symbols.now terms.new.pass (IsPlacedForCommand at.now terms.new)) }
+    ensures keeps { KeepsTerms terms.old terms.new }
+{
+    if is_denial(at.proof.rule(at.command)) {
+        elab_denials::steps(at, terms)
+    } else {
+        elab_equality::steps(at, terms)
+    }
+}
+
+/// The assertions of a problem.
+fn assertions_of(problem: &Problem) -> &[Ref]
+    ensures { result.now ≡ problem.now.assertions }
+{
+    &problem.assertions
+}
+
+/// The steps in the place of the command at an index, which is no resolution.
+fn relinked(
+    alloc: Global,
+    replacements: &Replacements<'_>,
+    proof: &Proof,
+    i: u32,
+    terms: &mut Terms<'_>,
+) -> Result<Vec<Added>, RuleStop>
+    requires inside { i < commands_in proof.now }
+    requires fits { CanBeReplaced replacements.now.symbols.now terms.old replacements.now.problem.now.assertions proof.now replacements.now.strict.now }
+    requires relinked { IsRelinked proof.now replacements.now.strict.now i }
+    ensures relinked { IfOk result (λ block. IsRelinking replacements.now.symbols.now terms.new replacements.now.problem.now.assertions proof.now
+        replacements.now.strict.now i block.items) }
+    ensures places { PlacesOnly replacements.now.symbols.now (λ v. IsPlacedFor replacements.now.symbols.now v replacements.now.problem.now.assertions proof.now
+        replacements.now.strict.now) terms.old terms.new }
+    ensures full { IfErr result (λ stop. stop ≡ RuleStop.PoolFull → LacksCellOf replacements.now.symbols.now terms.new.pass
+        (IsPlacedFor replacements.now.symbols.now terms.new replacements.now.problem.now.assertions proof.now replacements.now.strict.now)) }
+{
+    replacements.symbols.leaves_differ();
+    terms.one_to_one();
+    let at = Site {
+        alloc,
+        symbols: replacements.symbols,
+        proof,
+        command: i,
+        asserted: assertions_of(replacements.problem),
+    };
+    match relinked_at(&at, terms) {
+        Ok(block) => Ok(block),
+        Err(stop) => Err(stop),
+    }
+}
+
+/// The steps in the place of the command at an index, which is not strict.
+fn replaced(
+    alloc: Global,
+    replacements: &Replacements<'_>,
+    proof: &Proof,
+    i: u32,
+    terms: &mut Terms<'_>,
+) -> Result<Vec<Added>, RuleStop>
+    requires inside { i < commands_in proof.now }
+    requires fits { CanBeReplaced replacements.now.symbols.now terms.old replacements.now.problem.now.assertions proof.now replacements.now.strict.now }
+    requires not_strict { IsNotStrict replacements.now.strict.now i }
+    ensures replaced { IfOk result (λ block. IsReplacement replacements.now.symbols.now terms.new proof.now replacements.now.strict.now i block.items
+        ⊎ IsRelinking replacements.now.symbols.now terms.new replacements.now.problem.now.assertions proof.now replacements.now.strict.now i block.items) }
+    ensures places { PlacesOnly replacements.now.symbols.now (λ v. IsPlacedFor replacements.now.symbols.now v replacements.now.problem.now.assertions proof.now
+        replacements.now.strict.now) terms.old terms.new }
+    ensures full { IfErr result (λ stop. stop ≡ RuleStop.PoolFull → LacksCellOf replacements.now.symbols.now terms.new.pass
+        (IsPlacedFor replacements.now.symbols.now terms.new replacements.now.problem.now.assertions proof.now replacements.now.strict.now)) }
+{
+    if is_resolution(proof.rule(i)) {
+        match resolved(alloc, replacements, proof, i, terms) {
+            Ok(block) => Ok(block),
+            Err(stop) => Err(stop),
+        }
+    } else {
+        match relinked(alloc, replacements, proof, i, terms) {
+            Ok(block) => Ok(block),
+            Err(stop) => Err(stop),
+        }
+    }
+}
+
+impl<'a> Elaborate for Replacements<'a> {
     ghost use Rattle.elaboration.specs.Elaborated.{IsPlacedFor};
     ghost use Rattle.elaboration.specs.Replaced.{CanBeReplaced, IsKeptOrReplaced};
 
     ghost symbols = { λ r. r.symbols.now };
 
-    ghost fits = { λ r refs v. CanBeReplaced r.symbols.now v refs r.strict.now };
+    ghost fits = { λ r refs v. CanBeReplaced r.symbols.now v r.problem.now.assertions refs r.strict.now };
 
-    ghost says = { λ r refs v i block. IsKeptOrReplaced r.symbols.now v refs r.strict.now i block };
+    ghost says = { λ r refs v i block. IsKeptOrReplaced r.symbols.now v r.problem.now.assertions refs r.strict.now i block };
 
-    ghost places = { λ r refs v t. IsPlacedFor r.symbols.now v refs r.strict.now t };
+    ghost places = { λ r refs v t. IsPlacedFor r.symbols.now v r.problem.now.assertions refs r.strict.now t };
 
     fn steps(
         &self,
@@ -70,11 +169,13 @@ impl<'a> Elaborate for Resolutions<'a> {
         terms: &mut Terms<'_>,
     ) -> Result<Vec<Added>, RuleStop> {
         if is_not_strict(self.strict, i) {
-            replacement(alloc, self, proof, i, terms)
+            replaced(alloc, self, proof, i, terms)
         } else {
             Ok(Vec::new(alloc))
         }
     }
 
-    fn more_may_be_known(&self) {}
+    fn more_may_be_known(&self) {
+        made_terms_grow();
+    }
 }

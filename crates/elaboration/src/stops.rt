@@ -12,9 +12,6 @@ use thiserror::Error;
 /// Why no elaboration was made.
 #[derive(Clone, Copy, Debug, PartialEq, Eq, Error)]
 pub enum ElabStop {
-    /// A command that is no resolution meets its condition in check mode alone.
-    #[error("a step is left out")]
-    LeftOut,
     /// It would have 2^32 - 1 commands or more.
     #[error("the proof would have too many commands")]
     TooMany,

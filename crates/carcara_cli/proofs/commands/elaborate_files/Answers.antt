@@ -1,6 +1,6 @@
 use Rattle.std.proofs.Common.{ap, Err}
 use Rattle.command_words.specs.Requests.{told}
-use Rattle.elaborated_texts.specs.Ending.{SinkView}
+use Rattle.named_proofs.specs.Written.{SinkView}
 use Rattle.elaborated_texts.specs.Ending.{EndsSo}
 use Rattle.carcara_cli.proofs.Finishing.{ends_by}
 use Rattle.carcara_cli.specs.Finishing.{EndsBy}

@@ -1,6 +1,6 @@
 use Rattle.std.proofs.Common.{ap, Err}
 use Rattle.command_words.specs.Requests.{told}
-use Rattle.elaborated_texts.specs.Ending.{SinkView}
+use Rattle.named_proofs.specs.Written.{SinkView}
 use Rattle.pruned_texts.specs.Ending.{EndsSo}
 use Rattle.carcara_cli.proofs.Finishing.{needed_ends_by}
 use Rattle.carcara_cli.specs.Finishing.{EndsBy}
@@ -16,8 +16,7 @@ returns-clause-printed g c =
     let bits = c.args.setting.now.most_bits in
     let first : SinkView = record { written = g.S.Sink.written c.args.out.now; faults = g.S.Sink.faults c.args.out.now } in
     let middle : SinkView = record { written = g.S.Sink.written c.print_needed.new.out; faults = g.S.Sink.faults c.print_needed.new.out } in
-    let so : EndsSo c.args.part problem a.options proof bits (record { written = first.written; faults = first.faults })
-    (record { written = middle.written; faults = middle.faults }) c.print_needed.result =
+    let so : EndsSo c.args.part problem a.options proof bits first middle c.print_needed.result =
     rw (← c.deref.ensures.value, ← c.deref-2.ensures.value) c.print_needed.ensures.ends in
     let ends : EndsBy (needed c.args.part) problem a.options proof bits first middle c.end_of-end.result =
     rw c.end_of-end.ensures (needed_ends_by c.args.part problem a.options proof bits first middle c.print_needed.result so) in
@@ -33,8 +32,7 @@ returns-clause-write_fault g c =
     let bits = c.args.setting.now.most_bits in
     let first : SinkView = record { written = g.S.Sink.written c.args.out.now; faults = g.S.Sink.faults c.args.out.now } in
     let middle : SinkView = record { written = g.S.Sink.written c.print_needed.new.out; faults = g.S.Sink.faults c.print_needed.new.out } in
-    let so : EndsSo c.args.part problem a.options proof bits (record { written = first.written; faults = first.faults })
-    (record { written = middle.written; faults = middle.faults }) c.print_needed.result =
+    let so : EndsSo c.args.part problem a.options proof bits first middle c.print_needed.result =
     rw (← c.deref.ensures.value, ← c.deref-2.ensures.value) c.print_needed.ensures.ends in
     let ends : EndsBy (needed c.args.part) problem a.options proof bits first middle c.end_of-end.result =
     rw c.end_of-end.ensures (needed_ends_by c.args.part problem a.options proof bits first middle c.print_needed.result so) in

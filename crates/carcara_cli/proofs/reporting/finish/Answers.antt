@@ -1,9 +1,9 @@
 use Rattle.std.proofs.Common.{inl, inr, refl, subst, sym, ap}
 use Rattle.carcara_cli.specs.declared.answer.Answer.TheVariants.{Judged}
 use Rattle.elaborated_texts.specs.declared.elaborating.End.TheVariants as end
-use Rattle.elaborated_texts.specs.Ending.{SinkView}
+use Rattle.named_proofs.specs.Written.{SinkView}
 use Rattle.carcara_cli.specs.Finishing.{EndsBy}
-use Rattle.carcara_cli.specs.Outcomes.{answered, left_out}
+use Rattle.carcara_cli.specs.Outcomes.{answered}
 use Rattle.carcara_cli.specs.Printed.{status_of, text_of}
 use Rattle.carcara_cli.proofs.Finishing.{finished, said}
 use Rattle.carcara_cli.proofs.reporting.finish.Goals as goal
@@ -15,13 +15,6 @@ returns-in-Instead g c = λ own problem options proof bits first ends.
     subst (EndsBy own problem options proof bits first before) c.in-Instead.is ends in
     said own problem options proof bits first _ _ (answered (Judged c.in-Instead.judgement)) (Judged c.in-Instead.judgement) c.report.result h.0 h.1 refl refl
     c.report.ensures.whole c.report.ensures.prefix c.report.ensures.failed
-
-pub returns-in-LeftOut : goal.returns-in-LeftOut
-returns-in-LeftOut g c = λ own problem options proof bits first ends.
-    let before : SinkView = record { written = g.S.Sink.written c.args.out.now; faults = g.S.Sink.faults c.args.out.now } in
-    let h : EndsBy own problem options proof bits first before end.LeftOut = subst (EndsBy own problem options proof bits first before) c.in-LeftOut.is ends in
-    said own problem options proof bits first _ _ left_out c.left_out.result c.report-in-LeftOut.result h.0 h.1 (ap status_of (sym c.left_out.ensures))
-    (ap text_of (sym c.left_out.ensures)) c.report-in-LeftOut.ensures.whole c.report-in-LeftOut.ensures.prefix c.report-in-LeftOut.ensures.failed
 
 pub returns-in-Written : goal.returns-in-Written
 returns-in-Written g c = λ own problem options proof bits first ends.

@@ -1,5 +1,6 @@
 use Rattle.std.proofs.Common.{◌≡◌, ◌∙◌, ap, refl, subst, sym}
-use Rattle.elaborated_texts.specs.Ending.{EndsSo, SinkView}
+use Rattle.named_proofs.specs.Written.{SinkView}
+use Rattle.elaborated_texts.specs.Ending.{EndsSo}
 use Rattle.elaborated_texts.proofs.AnyPool.{any_pool, nothing_written}
 use Rattle.elaborated_texts.proofs.elaborating.elaborate.Goals as goal
 

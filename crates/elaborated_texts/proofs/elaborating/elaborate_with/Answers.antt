@@ -1,7 +1,7 @@
 use Rattle.std.proofs.Common.{◌≡◌, ◌∙◌, refl, subst, sym}
 use Rattle.term_pool.specs.Views.{TermsView}
 use Rattle.judged_texts.specs.declared.texts.Read.TheVariants as read
-use Rattle.elaborated_texts.specs.Ending.{SinkView}
+use Rattle.named_proofs.specs.Written.{SinkView}
 use Rattle.judged_texts.specs.Texts.{AreReadBoth, IsRead}
 use Rattle.elaborated_texts.proofs.TextsInstead.{not_read_instead}
 use Rattle.elaborated_texts.proofs.elaborating.elaborate_with.Goals as goal

@@ -162,6 +162,19 @@ elaborated_by-made-requires-clause-strict g c =
     (λ lives longer. statuses_later c.proofs_stay.ensures s w z c.statuses_of.ensures.keeps both.problem.assertions both.proof c.proofs_stand_for_one.ensures.one
     c.leaves_differ.ensures.table c.one_to_one.ensures there (in_strict_mode (flags_of t.options)) c.in-Ok-statuses_of.strict.items are)
 
+pub elaborated_by-made-requires-clause-sorted : goal.elaborated_by-made-requires-clause-sorted
+elaborated_by-made-requires-clause-sorted g c =
+    let t = c.args.texts.now in
+    let both = c.args.both.now in
+    let s = c.args.symbols.now in
+    let v = c.args.terms.now in
+    let z = c.statuses_of.new.terms in
+    let all = terms-trans v c.judge_commands.new.terms z c.judge_commands.ensures.keeps c.statuses_of.ensures.keeps in
+    let read = read_later c.proofs_stay.ensures s v z all both.problem.assertions both.proof t.problem.now t.options t.proof.now c.requires.read.read in
+    let sorted = c.read_proofs_are_well_sorted.ensures t.problem.now t.options t.proof.now s z both.problem.assertions both.proof
+    c.leaves_differ.ensures.table c.one_to_one.ensures read in
+    λ lives longer. sorted
+
 -- ---- what is made of it
 
 pub returns-clause-made : goal.returns-clause-made
@@ -207,20 +220,19 @@ returns-clause-made g c = λ bits places.
     let are_last = statuses_later stay s w y behind asserted refs one table known can_there (in_strict_mode flags) strict are in
     let first : PlacesOnly s v w refs = rw (c.job-check.ensures.symbols, c.job-check.ensures.proof) at c.judge_commands.ensures.placed in
     let second : PlacesOnly s w z refs = rw (c.job-strict_check.ensures.symbols, c.job-strict_check.ensures.proof) at c.statuses_of.ensures.placed in
-    let third : PlacesCellsOf s z.pass y.pass (IsPlacedFor s y refs strict) = rw c.deref.ensures.value at c.elaborated_by-made.ensures.placed in
+    let third : PlacesCellsOf s z.pass y.pass (IsPlacedFor s y asserted refs strict) = rw c.deref.ensures.value at c.elaborated_by-made.ensures.placed in
     let held = holds_read t.problem.now t.options t.proof.now s v.pass c.requires.holds in
     let holds = holds_checked t.problem.now t.options t.proof.now s v w asserted refs read keeps.pass held first in
     let more = holds_checked t.problem.now t.options t.proof.now s w z asserted refs read_there next.pass holds second in
-    let ends = holds_made one t.problem.now t.options t.proof.now s table y known both read_last strict z last.pass more third in
-    let same = c.proofs_correspond.ensures s y refs read_last.read.proof read_last.read.refer in
+    let ends = holds_made t.problem.now t.options t.proof.now s table y known both read_last strict are_last z last.pass more third in
     let printed : IsPrintedOf c.in-Ok.judgement (Some c.in-Some.status) = c.in-Some.ensures in
     let by : IfOk c.elaborated_by-made.result (IsMadeBy flags s y asserted refs strict c.in-Some.status) =
     rw (c.deref.ensures.value, c.flags_of-flags.ensures) at c.elaborated_by-made.ensures.made in
     let shares = last.pass.shares ∙ (next.pass.shares ∙ (keeps.pass.shares ∙ c.requires.shares)) in
     let all_places = last.pass.places ∙ (next.pass.places ∙ (keeps.pass.places ∙ places)) in
     IfOk-weaker c.elaborated_by-made.result _ _
-    (is_made one t.problem.now t.options t.proof.now s table y known both read_last strict c.in-Ok.judgement c.in-Some.status printed judged_last are_last
-    bits same shares all_places ends) by
+    (is_made t.problem.now t.options t.proof.now s table y known both read_last strict are_last c.in-Ok.judgement c.in-Some.status printed judged_last
+    bits shares all_places ends) by
 
 pub returns-clause-whole : goal.returns-clause-whole
 returns-clause-whole g c =
@@ -262,6 +274,6 @@ returns-clause-whole g c =
     let by : IfOk c.elaborated_by-made.result (IsMadeBy flags s y asserted refs strict c.in-Some.status) =
     rw (c.deref.ensures.value, c.flags_of-flags.ensures) at c.elaborated_by-made.ensures.made in
     IfOk-weaker c.elaborated_by-made.result _ _
-    (whole_made one t.problem.now t.options t.proof.now s table y known both read_last strict c.in-Ok.judgement c.in-Some.status printed
-    (judged_later stay s v y all asserted refs one table known can flags c.in-Ok.judgement judged)
-    (statuses_later stay s w y behind asserted refs one table known can_there (in_strict_mode flags) strict are)) by
+    (whole_made t.problem.now t.options t.proof.now s table y known both read_last strict
+    (statuses_later stay s w y behind asserted refs one table known can_there (in_strict_mode flags) strict are)
+    c.in-Ok.judgement c.in-Some.status printed (judged_later stay s v y all asserted refs one table known can flags c.in-Ok.judgement judged)) by
