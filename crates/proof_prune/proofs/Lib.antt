@@ -1,8 +1,13 @@
 mod Marks
 mod Stepping
-mod Halving
+mod FlipsThrough
+mod Likeness
+mod Thinning
+mod Listing
+mod Rounds
 mod Wanted
 mod Found
+mod Existing
 mod Corresponding
 mod ClosedOnce
 mod OldLines

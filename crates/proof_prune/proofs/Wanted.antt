@@ -12,7 +12,7 @@ use Rattle.rule_model.specs.Scopes.{outermost, commands_in}
 use Rattle.rule_model.proofs.Numbers.{lines_in_count}
 use Rattle.pruned_proofs.specs.Reached.{is_kept}
 use Rattle.pruned_proofs.proofs.Counting.{not_both}
-use Rattle.proof_prune.specs.Numbering.{AreWantedTo}
+use Rattle.proof_prune.specs.Wanted.{AreWantedTo}
 
 all_three : (a b : Bool) (n : ℕ) → (a && (b && nat_eq n 0)) ≡ true → (a ≡ true) × (b ≡ true) × (n ≡ 0)
 all_three true true n e = (refl, refl, eqb-true n 0 e)

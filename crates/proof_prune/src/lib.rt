@@ -3,13 +3,14 @@
 #![tactic(auto)]
 
 mod closers;
+mod first;
 pub mod laws;
 mod marking;
 mod pruning;
 mod reaching;
 mod used;
 
-pub use laws::pruning_corresponds;
+pub use laws::{cores_exist, pruning_corresponds};
 pub use pruning::prune;
 pub use reaching::reached;
 pub use used::core;

@@ -1,9 +1,9 @@
 //! The assertions that are used.
 
-ghost use Rattle.std.specs.Prelude.{◌≡◌, ◌↔◌, ◌<◌, ◌+◌, ◌^◌, ◌&&◌, ◌++◌, [], nat_eq, ℕ, List, length, All, IsTrue, IfOk, OnOk};
-ghost use Rattle.flip_keys.specs.Assertions.{references_of, AreAssertionsReady};
-ghost use Rattle.proof_prune.specs.Numbering.{AreAsserted, AreWantedTo, AreHalves, Places, PutsOne, SortsOne};
-ghost use Rattle.pair_pool.specs.Views.{IsKnown};
+ghost use Rattle.std.specs.Prelude.{◌≡◌, ◌<◌, ◌+◌, ◌^◌, ◌&&◌, ◌++◌, nat_eq, List, length, All, IfOk, OnOk};
+ghost use Rattle.proof_prune.specs.Firsts.{AreNumbersTo};
+ghost use Rattle.proof_prune.specs.Numbering.{AreAsserted};
+ghost use Rattle.proof_prune.specs.Wanted.{AreWantedTo};
 ghost use Rattle.proof_store.specs.Meaning.{IsMeant, StandForItems};
 ghost use Rattle.pruned_proofs.specs.Core.{IsCore};
 ghost use Rattle.pruned_proofs.specs.Reached.{is_kept};
@@ -13,9 +13,9 @@ ghost use Rattle.rule_model.specs.Scopes.{commands_in};
 ghost use Rattle.term_model.specs.Terms.{Var, Term};
 ghost use Rattle.term_pool.specs.Views.{IsTerm, ReferToAll};
 
+use crate::first::firsts;
 use crate::marking::is_marked;
 use crate::reaching::is_assumed;
-use flip_keys::Assertions;
 use pair_pool::{Memory, Ref};
 use proof_store::{Proof, commands_correspond, terms_correspond};
 use std::alloc::Global;
@@ -64,157 +64,35 @@ fn wanted(alloc: Global, proof: &Proof, kept: &[bool]) -> Result<Vec<Ref>, Memor
     Ok(list)
 }
 
-/// Of some terms those that are equal to an assertion up to flips, and the others.
-#[derive(Drop)]
-struct Halves {
-    asserted: Vec<Ref>,
-    others: Vec<Ref>,
-}
-
-/// Puts a term to those that are equal to an assertion, or to the others.
-fn put(halves: &mut Halves, is_asserted: bool, r: Ref) -> Result<(), Memory>
-    ensures { OnOk result (PutsOne is_asserted r halves.old.asserted.items halves.old.others.items halves.new.asserted.items halves.new.others.items) }
+/// Adds a number where it is marked.
+fn add_marked(numbers: &mut Vec<u32>, marks: &[bool], number: u32) -> Result<(), Memory>
+    requires before { AreNumbersTo marks.now number numbers.old.items }
+    ensures { OnOk result (AreNumbersTo marks.now (number + 1) numbers.new.items) }
 {
-    if is_asserted {
-        halves.asserted.push(r)?;
-    } else {
-        halves.others.push(r)?;
+    if is_marked(marks, number) {
+        numbers.push(number)?;
     }
     Ok(())
 }
 
-/// Puts a term where it belongs, by whether it is equal to an assertion.
-fn sort_one(
-    halves: &mut Halves,
-    asserted: &mut Assertions,
-    symbols: &Symbols,
-    terms: &mut Terms<'_>,
-    r: Ref,
-) -> Result<(), Memory>
-    requires term { IsKnown terms.old.pass r }
-    requires ready { AreAssertionsReady terms.old asserted.old }
-    ensures halves { OnOk result (SortsOne symbols.now terms.old (references_of asserted.old) r halves.old.asserted.items halves.old.others.items
-        halves.new.asserted.items halves.new.others.items) }
-    ensures references { references_of asserted.new ≡ references_of asserted.old }
-    ensures ready { OnOk result (AreAssertionsReady terms.old asserted.new) }
-    ensures same { terms.new ≡ terms.old }
+/// The numbers that are marked, in rising order.
+fn numbers_of(alloc: Global, marks: &[bool]) -> Result<Vec<u32>, Memory>
+    requires { length marks.now < 2 ^ 32 }
+    ensures { IfOk result (λ numbers. AreNumbersTo marks.now (length marks.now) numbers.items) }
 {
-    let is_asserted = asserted.is_asserted(symbols, terms, r)?;
-    put(halves, is_asserted, r)
-}
-
-/// Sorts terms by whether they are equal to an assertion up to flips.
-fn sort_all(
-    alloc: Global,
-    symbols: &Symbols,
-    terms: &mut Terms<'_>,
-    asserted: &mut Assertions,
-    wanted: &[Ref],
-) -> Result<Halves, Memory>
-    requires ready { AreAssertionsReady terms.old asserted.old }
-    requires wanted { All (IsTerm symbols.now terms.old) wanted.now }
-    ensures halves { IfOk result (λ halves. AreHalves symbols.now terms.old (references_of asserted.old) wanted.now halves.asserted.items
-        halves.others.items) }
-    ensures same { terms.new ≡ terms.old }
-{
-    let mut halves = Halves {
-        asserted: Vec::new(alloc),
-        others: Vec::new(alloc),
-    };
-    'wanted: for r in wanted {
-        sort_one(&mut halves, asserted, symbols, terms, *r)?;
+    let mut numbers = Vec::new(alloc);
+    'marks: for number in 0..marks.len() as u32 {
+        add_marked(&mut numbers, marks, number)?;
     }
-    Ok(halves)
-}
-
-/// Sorts terms by whether they are equal to one of these assertions up to flips.
-fn sort_out(
-    alloc: Global,
-    symbols: &Symbols,
-    terms: &mut Terms<'_>,
-    assertions: &[Ref],
-    wanted: &[Ref],
-) -> Result<Halves, Memory>
-    requires assertions { All (IsTerm symbols.now terms.old) assertions.now }
-    requires wanted { All (IsTerm symbols.now terms.old) wanted.now }
-    ensures halves { IfOk result (λ halves. AreHalves symbols.now terms.old assertions.now wanted.now halves.asserted.items halves.others.items) }
-    ensures same { terms.new ≡ terms.old }
-{
-    let mut asserted = Assertions::new(alloc, terms, assertions)?;
-    sort_all(alloc, symbols, terms, &mut asserted, wanted)
-}
-
-/// Whether a list has so many references.
-fn has_length(list: &[Ref], count: usize) -> bool
-    ensures { IsTrue result ↔ length list.now ≡ count }
-{
-    list.len() == count
-}
-
-/// The first half of a list and the second, where it has more than one reference.
-fn in_halves(list: &[Ref]) -> (&[Ref], &[Ref])
-    requires { 1 < length list.now }
-    ensures joined { list.now ≡ result.0.now ++ result.1.now }
-    ensures first_less { length result.0.now < length list.now }
-    ensures second_less { length result.1.now < length list.now }
-{
-    list.split_at(list.len() / 2)
-}
-
-/// Adds the numbers, from `base` on, of the assertions that are the first ones equal to wanted terms, in rising order. It looks for
-/// the terms in the first half of the assertions, and for those that have none there in the second.
-fn place(
-    alloc: Global,
-    symbols: &Symbols,
-    terms: &mut Terms<'_>,
-    assertions: &[Ref],
-    wanted: &[Ref],
-    base: u32,
-    numbers: &mut Vec<u32>,
-) -> Result<(), Memory>
-    requires assertions { All (IsTerm symbols.now terms.old) assertions.now }
-    requires wanted { All (IsTerm symbols.now terms.old) wanted.now }
-    requires few { base + length assertions.now < 2 ^ 32 }
-    ensures places { OnOk result (Places symbols.now terms.old assertions.now wanted.now base numbers.old.items numbers.new.items) }
-    ensures same { terms.new ≡ terms.old }
-{
-    if has_length(wanted, 0) {
-        return Ok(());
-    }
-    if has_length(assertions, 0) {
-        return Ok(());
-    }
-    if has_length(assertions, 1) {
-        numbers.push(base)?;
-        return Ok(());
-    }
-    let (first, second) = in_halves(assertions);
-    let halves = sort_out(alloc, symbols, terms, first, wanted)?;
-    place(
-        alloc,
-        symbols,
-        terms,
-        first,
-        &halves.asserted,
-        base,
-        numbers,
-    )?;
-    let next = base + first.len() as u32;
-    place(alloc, symbols, terms, second, &halves.others, next, numbers)
-}
-
-/// No numbers.
-fn no_numbers(alloc: Global) -> Vec<u32>
-    ensures { result.items ≡ [] }
-{
-    Vec::new(alloc)
+    Ok(numbers)
 }
 
 /// The numbers of the assertions that a proof uses, from 0 in file order: for each assume of the outermost scope that is kept,
 /// the number of the first assertion that is equal to its term up to flips. Each stands once, in rising order.
 ///
-/// It places no cell, and refuses only when out of memory. Each term is looked for in half of the assertions, then in half of
-/// that half, and so on: the cost is in proportion to the assertions and the terms, times the logarithm of their number.
+/// It places no cell, and refuses only when out of memory. Takes time in proportion to the commands and to the distinct cells of
+/// assertions and assumes, and then once for each binary digit of the number of assertions in proportion to the distinct cells
+/// of those that are used; memory in proportion to the cells.
 pub fn core(
     alloc: Global,
     proof: &Proof,
@@ -236,7 +114,6 @@ pub fn core(
     terms.one_to_one();
     trees_of_terms();
     let list = wanted(alloc, proof, kept)?;
-    let mut numbers = no_numbers(alloc);
-    place(alloc, symbols, terms, assertions, &list, 0, &mut numbers)?;
-    Ok(numbers)
+    let marks = firsts(alloc, symbols, terms, assertions, &list)?;
+    numbers_of(alloc, &marks)
 }

@@ -1,7 +1,8 @@
 -- The check of two texts that were read speaks of what was read.
-use Rattle.std.proofs.Common.{◌≡◌, ℕ, Bool, List, [], ◌∷◌, refl, sym, subst}
+use Rattle.std.proofs.Common.{◌≡◌, inl, inr, ℕ, Bool, List, [], ◌∷◌, Contains, refl, sym, subst}
 use Rattle.std.specs.List.{AllZip}
 use Rattle.sym_table.specs.Table.{Table}
+use Rattle.term_model.proofs.Lists.{contains_none, contains_cases}
 use Rattle.term_model.specs.Terms.{Var, Term}
 use Rattle.term_pool.specs.Views.{TermsView, RefersTo, ReferToAll}
 use Rattle.term_reader.specs.ProblemViews.{IsProblemOf}
@@ -45,6 +46,17 @@ module _ (one_script : OneScript) (one_proof : OneProof) (problem : List ℕ) (o
 
   pub is_problem : IsProblemOf s v both.problem h.checked.script
   is_problem = subst (IsProblemOf s v both.problem) (sym same_script) h.read.is
+
+-- a term for which one of these references stands
+pub referred : (s : Table) (v : TermsView) (rs : List ℕ) (ts : List Term) (t : Term) → AllZip (RefersTo s v) rs ts → Contains ts t → (r : ℕ) × RefersTo s v r t
+referred s v [] [] t zip has = absurd (contains_none t has)
+referred s v [] (u ∷ ts) t zip has = absurd zip
+referred s v (r ∷ rs) [] t zip has = absurd zip
+referred s v (r ∷ rs) (u ∷ ts) t zip has =
+    elim (contains_cases u t ts has) [
+      | inl e ↦ (r, subst (λ x. RefersTo s v r x) e zip.0)
+      | inr later ↦ referred s v rs ts t zip.1 later
+    ]
 
 -- what stands for an empty clause is empty
 pub none_there : (s : Table) (v : TermsView) (rs : List ℕ) (ts : List Term) → AllZip (RefersTo s v) rs ts → ts ≡ [] → rs ≡ []

@@ -1,6 +1,6 @@
 -- Public. What the texts of a problem and of a proof come to where what the refutation needs is to be printed: the numbers of the
 -- assertions that it uses, or the proof of the commands on which it rests.
-use Rattle.std.specs.Prelude.{◌≡◌, ◌<◌, ◌+◌, ℕ, Bool, List, [], ◌++◌, codes, decimal, flat_map, replicate}
+use Rattle.std.specs.Prelude.{◌≡◌, ◌<◌, ◌+◌, ℕ, Bool, false, List, [], ◌++◌, Contains, codes, decimal, flat_map, replicate}
 use Rattle.term_model.specs.Terms.{Var, Term}
 use Rattle.term_model.specs.Unsatisfiable.{Unsatisfiable}
 use Rattle.rule_model.specs.declared.statuses.Status.{Status}
@@ -13,6 +13,9 @@ use Rattle.pruned_proofs.specs.Core.{IsCore, chosen, checking_for}
 use Rattle.pruned_proofs.specs.Pruned.{new_index, pruned}
 use Rattle.pruned_proofs.specs.Reached.{AreReachedMarks, IsFirstEmpty, IsReached}
 use Rattle.problem_text.specs.Problems.{HasNamesApart}
+use Rattle.problem_text.specs.Scripts.{Named, Script}
+use Rattle.problem_text.specs.Words.{is_among}
+use Rattle.printed_proofs.specs.Naming.{IsApart, IsPlan}
 use Rattle.printed_proofs.specs.Shared.{Plan}
 use Rattle.alethe_printer.specs.Printed.{proof_text}
 use Rattle.named_proofs.specs.Named.{IsReadAs}
@@ -60,13 +63,22 @@ left_of problem options proof r = pruned r.marks r.checked.commands
 abbrev pub last_of : (problem : List ℕ) (options : Options) (proof : List ℕ) → IsRefutation problem options proof → ℕ
 last_of problem options proof r = new_index r.marks r.first
 
--- The bytes are the printed text of the proof of the commands that are reached, with names for some terms. Each of its commands is Ok
--- with the assertions alone that the refutation uses, its last one is of the outermost scope and has the empty clause, and each of them
--- is reached from that one. Where no function has the name of a variable that a let or an anchor of the two texts binds, the bytes are
--- read as this proof.
+-- The names may be given to terms behind the script: the script gives none of them, and in no literal of the proof does one stand or is
+-- one bound.
+pub record AreFreeNames (script : Script) (proof : ProofItems Var Term) (plan : Plan) : Type 0 where
+  pub is_plan : IsPlan plan
+  pub free : (n : Named) → Contains plan n → is_among script.taken n.name ≡ false
+  pub apart : (i : ℕ) (t : Term) → Contains (clause_at proof i) t → IsApart plan t
+
+-- The bytes are the printed text of the proof of the commands that are reached, with names for some terms, which are free. Each of its
+-- commands is Ok with the assertions alone that the refutation uses, its last one is of the outermost scope and has the empty clause, and
+-- each of them is reached from that one. Where no function has the name of a variable that a let or an anchor of the two texts binds, the
+-- bytes are read as this proof.
 pub record IsPrunedText (problem : List ℕ) (options : Options) (proof : List ℕ) (bytes : List ℕ) : Type 0 where
   pub refutation : IsRefutation problem options proof
-  pub statuses : (numbers : List ℕ) → IsCoreOf problem options proof refutation numbers →
+  pub numbers : List ℕ
+  pub core : IsCoreOf problem options proof refutation numbers
+  pub statuses :
       AreStatuses (checking_for (checking_of options refutation.checked.script.assertions) numbers) (left_of problem options proof refutation)
       (replicate (commands_in (left_of problem options proof refutation)) Status.Ok)
   pub end : commands_in (left_of problem options proof refutation) ≡ last_of problem options proof refutation + 1
@@ -75,6 +87,7 @@ pub record IsPrunedText (problem : List ℕ) (options : Options) (proof : List �
   pub each : (i : ℕ) → i < commands_in (left_of problem options proof refutation) →
       IsReached (left_of problem options proof refutation) (last_of problem options proof refutation) i
   pub plan : Plan
+  pub names : AreFreeNames refutation.checked.script (left_of problem options proof refutation) plan
   pub printed : bytes ≡ proof_text plan refutation.checked.script (left_of problem options proof refutation)
   pub read_back : HasNamesApart refutation.checked.after → IsReadAs bytes refutation.checked.script (left_of problem options proof refutation)
 

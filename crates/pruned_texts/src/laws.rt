@@ -1,6 +1,7 @@
 //! Laws on what a refutation needs. Each is the contract of a function that does nothing.
 ghost use Rattle.std.specs.Prelude.{◌≡◌, ◌≤◌, ◌^◌, ℕ, Bool, false, List, length};
-ghost use Rattle.sym_table.specs.Table.{Table};
+ghost use Rattle.pair_pool.specs.Views.{IsOneToOne};
+ghost use Rattle.sym_table.specs.Table.{Table, IsTable};
 ghost use Rattle.term_pool.specs.Views.{TermsView};
 ghost use Rattle.rule_model.specs.Scopes.{commands_in};
 ghost use Rattle.rule_model.specs.Statuses.{ReachesEmpty};
@@ -24,7 +25,7 @@ use judged_texts::laws::proofs_have_scoped_terms;
 use named_proofs::laws::{named_proofs_are_read_back, named_proofs_have_sorts};
 use printing_laws::laws::well_sorted_proofs_are_of_sorted_terms;
 use problem_text::laws::{scripts_are_closed, scripts_are_well_sorted, texts_have_one_reading};
-use proof_prune::pruning_corresponds;
+use proof_prune::{cores_exist, pruning_corresponds};
 use proof_store::{commands_correspond, terms_correspond};
 use pruned_proofs::laws::{
     cores_are_unsatisfiable, pruned_proofs_are_valid, pruned_proofs_are_well_formed,
@@ -32,6 +33,7 @@ use pruned_proofs::laws::{
 };
 use readable_proofs::laws::{proofs_are_over_their_names, proofs_that_pass_have_coefficients};
 use sexpr::tokens_are_spelled;
+use term_sharing::terms_are_apart;
 
 /// The problem for which a text stands has no more assertions than the text has bytes.
 pub(crate) fn problems_are_short()
@@ -40,7 +42,7 @@ pub(crate) fn problems_are_short()
     tokens_are_spelled();
 }
 
-/// The proof for which references stand has the empty clause where the one over references has it.
+/// The references of a valid proof have the empty clause, as the proof has for which they stand.
 pub(crate) fn refutations_have_ends()
     ensures { (problem : List ℕ) (options : Chosen) (text : List ℕ) (s : Table) (v : TermsView) (both : BothRead) →
         IsValidRead problem options text s v both → ReachesEmpty both.proof }
@@ -71,7 +73,8 @@ pub(crate) fn cores_have_texts()
 /// The proof of the commands that a valid proof needs has the text that is promised, with names that are free.
 pub(crate) fn pruned_proofs_have_texts()
     ensures { (problem : List ℕ) (options : Chosen) (text : List ℕ) (s : Table) (v : TermsView) (both : BothRead) (first : ℕ) (marks : List Bool)
-        (plan : Plan) → options.is_strict ≡ false → (valid : IsValidRead problem options text s v both) → IsFirstEmpty both.proof first →
+        (plan : Plan) → options.is_strict ≡ false → IsTable s → IsOneToOne v.pass → (valid : IsValidRead problem options text s v both) →
+        IsFirstEmpty both.proof first →
         AreReachedMarks both.proof first marks → commands_in (pruned marks both.proof) ≤ 2 ^ 32 →
         IsFreePlan s valid.checked.script plan →
         IsPrunedText problem options text (proof_text plan valid.checked.script (pruned marks valid.checked.commands)) }
@@ -79,6 +82,9 @@ pub(crate) fn pruned_proofs_have_texts()
     texts_have_one_reading();
     proof_texts_have_one_reading();
     commands_correspond();
+    terms_correspond();
+    terms_are_apart();
+    cores_exist();
     pruning_corresponds();
     proofs_are_well_formed();
     pruned_proofs_are_well_formed();

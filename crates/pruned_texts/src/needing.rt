@@ -122,6 +122,8 @@ fn write_pruned<S: Sink>(
     ensures { (bits : ℕ) → EndsSo Part.Commands texts.now.problem.now texts.now.options texts.now.proof.now bits
         (record { written = S.written out.old; faults = S.faults out.old }) (record { written = S.written out.new; faults = S.faults out.new }) result }
 {
+    symbols.leaves_differ();
+    terms.one_to_one();
     refutations_have_ends();
     pruned_proofs_have_texts();
     pruned_proofs_are_sorted();

@@ -1,5 +1,5 @@
 use Rattle.std.proofs.Common.{◌+◌, ◌++◌, sym, ◌∙◌, ap, subst}
-use Rattle.proof_prune.specs.Numbering.{AreWantedTo}
+use Rattle.proof_prune.specs.Wanted.{AreWantedTo}
 use Rattle.proof_prune.proofs.Marks.{ok_then}
 use Rattle.proof_prune.proofs.Wanted.{one_wanted, none_wanted}
 use Rattle.proof_prune.proofs.used.add_wanted.Goals as goal

@@ -1,4 +1,4 @@
-use Rattle.proof_prune.specs.Numbering.{AreWantedTo}
+use Rattle.proof_prune.specs.Wanted.{AreWantedTo}
 use Rattle.proof_prune.proofs.used.wanted.Given as goal
 
 abbrev pub invariant-commands : goal.invariant-commands

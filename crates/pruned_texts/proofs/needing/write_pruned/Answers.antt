@@ -52,7 +52,7 @@ returns-in-Ok-written g c = λ bits.
     (c.pruned_proofs_are_sorted.ensures.problem t.problem.now t.options t.proof.now s v c.args.both.now h)
     (c.pruned_proofs_are_sorted.ensures.stand t.problem.now t.options t.proof.now s v c.args.both.now is.marks h) few
     (λ plan less free. c.pruned_proofs_have_texts.ensures t.problem.now t.options t.proof.now s v c.args.both.now c.first_empty-from.result is.marks plan
-    c.requires.check h c.first_empty-from.ensures is.reached less free) _ _ c.in-Ok-written.ensures.whole
+    c.requires.check c.leaves_differ.ensures.table c.one_to_one.ensures h c.first_empty-from.ensures is.reached less free) _ _ c.in-Ok-written.ensures.whole
 
 pub returns-in-Err-Write : goal.returns-in-Err-Write
 returns-in-Err-Write g c = λ bits.
@@ -69,7 +69,7 @@ returns-in-Err-Write g c = λ bits.
           (c.pruned_proofs_are_sorted.ensures.problem t.problem.now t.options t.proof.now s v c.args.both.now h)
           (c.pruned_proofs_are_sorted.ensures.stand t.problem.now t.options t.proof.now s v c.args.both.now is.marks h) few
           (λ plan less free. c.pruned_proofs_have_texts.ensures t.problem.now t.options t.proof.now s v c.args.both.now c.first_empty-from.result is.marks
-          plan c.requires.check h c.first_empty-from.ensures is.reached less free) _ _ write.1,
+          plan c.requires.check c.leaves_differ.ensures.table c.one_to_one.ensures h c.first_empty-from.ensures is.reached less free) _ _ write.1,
     )
 
 pub returns-in-Err-Memory : goal.returns-in-Err-Memory
@@ -86,6 +86,6 @@ returns-in-Err-Memory g c = λ bits.
     (c.pruned_proofs_are_sorted.ensures.problem t.problem.now t.options t.proof.now s v c.args.both.now h)
     (c.pruned_proofs_are_sorted.ensures.stand t.problem.now t.options t.proof.now s v c.args.both.now is.marks h) few
     (λ plan less free. c.pruned_proofs_have_texts.ensures t.problem.now t.options t.proof.now s v c.args.both.now c.first_empty-from.result is.marks plan
-    c.requires.check h c.first_empty-from.ensures is.reached less free)
+    c.requires.check c.leaves_differ.ensures.table c.one_to_one.ensures h c.first_empty-from.ensures is.reached less free)
     (g.S.Sink.written c.args.out.now) (g.S.Sink.written c.write_proof-written.new.out))
     (c.write_proof-written.ensures.memory (subst (IsErrOf c.write_proof-written.result) said c.in-Err-Memory.is))
