@@ -1,0 +1,73 @@
+use Rattle.std.proofs.Common.{◌≡◌, true, false, Some, [], replicate, refl, sym, ap, subst}
+use Rattle.rule_model.specs.declared.rules.Mode.{Mode}
+use Rattle.rule_model.specs.declared.statuses.Status.{Status}
+use Rattle.rule_model.specs.declared.statuses.Verdict.{Verdict}
+use Rattle.rule_model.specs.Columns.{checking_in}
+use Rattle.rule_model.specs.Scopes.{commands_in}
+use Rattle.rule_model.specs.Statuses.{Checking, AreStatuses}
+use Rattle.problem_text.specs.Limits.{most_height}
+use Rattle.problem_text.specs.Problems.{StandsForProblem}
+use Rattle.alethe_text.specs.ProofTexts.{StandsForProof}
+use Rattle.alethe_text.specs.States.{limited_proof}
+use Rattle.printed_proofs.specs.Numbered.{numbered_proof}
+use Rattle.readable_proofs.specs.ProofsOver.{printed_settings}
+use Rattle.command_words.specs.declared.request.Options.{Options}
+use Rattle.judged_texts.specs.Reading.{checking_of}
+use Rattle.pruned_texts.specs.Needed.{left_of, last_of}
+use Rattle.output_laws.specs.Again.{IsCheckedWith}
+use Rattle.output_laws.proofs.HoleRules.{no_rules}
+use Rattle.output_laws.proofs.MoreAssertions.{ok_with_all, valid_to_end}
+use Rattle.output_laws.proofs.SameIds.{same_up_to_ids}
+use Rattle.output_laws.proofs.laws.pruned_texts_are_valid.Goals as goal
+
+pub returns-clause-read : goal.returns-clause-read
+returns-clause-read c = λ problem options proof bytes out check stands read.
+    let script = out.refutation.checked.script in
+    let left = left_of problem options proof out.refutation in
+    let last = last_of problem options proof out.refutation in
+    let numbered = numbered_proof left in
+    let statuses = replicate (commands_in left) Status.Ok in
+    let checking : Checking = checking_of options script.assertions in
+    let mode : checking.mode ≡ Mode.Check = rw check refl in
+    let ids = c.ids_play_no_part.ensures in
+    let pivots = c.pivots_do_not_matter_in_check_mode.ensures in
+    let are : AreStatuses checking numbered statuses =
+    ids.statuses checking left numbered statuses (same_up_to_ids left) (ok_with_all checking out.numbers left (commands_in left) out.statuses) in
+    let verdict = pivots.verdict numbered read.others statuses Verdict.Valid read.same
+    (ids.verdict left numbered statuses Verdict.Valid (same_up_to_ids left) (valid_to_end left last out.end out.scope out.empty)) in
+    record {
+      checked = record {
+        script = script;
+        commands = read.others;
+        after = read.after;
+        statuses = statuses;
+        problem_text = stands;
+        proof_text = read.stands;
+        are = subst (λ m. AreStatuses (checking_in m checking) read.others statuses) (sym mode)
+            (pivots.statuses checking numbered read.others statuses read.same
+            (subst (λ m. AreStatuses (checking_in m checking) numbered statuses) mode are));
+        verdict = verdict;
+      };
+      holes = no_rules read.others 0 statuses verdict.0;
+    }
+
+pub returns-clause-replaced : goal.returns-clause-replaced
+returns-clause-replaced c = λ problem options proof bytes out apart check stands none low.
+    let read = out.read_back apart in
+    let script = out.refutation.checked.script in
+    let numbered = numbered_proof (left_of problem options proof out.refutation) in
+    let strict = c.proofs_are_read_alike_within_limits.ensures (Some most_height) bytes printed_settings script numbered read.after read.stands low in
+    let text = c.texts_without_pivots_are_read_alike.ensures bytes (limited_proof false true) false script numbered read.after none strict in
+    returns-clause-read c problem options proof bytes out check stands
+    (record {
+      others = numbered;
+      after = read.after;
+      stands = subst (λ b. StandsForProof bytes (limited_proof false b) script numbered read.after) (sym check) text;
+      same = refl;
+    })
+
+pub returns-clause-kept : goal.returns-clause-kept
+returns-clause-kept c = λ problem options proof bytes out apart check kept none low.
+    subst (λ (o : Options). IsCheckedWith problem o bytes Verdict.Valid []) (ap (λ b. record options { replaces_lets = b }) (sym kept))
+    (returns-clause-replaced c problem options proof bytes out apart check
+    (subst (λ b. StandsForProblem problem b out.refutation.checked.script) kept out.refutation.checked.problem_text) none low)
