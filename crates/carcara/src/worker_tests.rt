@@ -1,5 +1,5 @@
 //! What no contract says: that the top call has as many workers as the words ask for, that these work beside each other, and that
-//! each chunk is checked, and elaborated, behind the gate.
+//! each chunk is checked, and elaborated, behind the gate, also of the generator's texts.
 use carcara_cli::carcara;
 use file_ports::{Gate, MemoryFolder, MemorySink};
 use std::alloc::{AllocError, Global};
@@ -152,6 +152,46 @@ fn three_workers_work_beside_each_other(rt: HostRuntime) -> Result<(), Fail> {
     assert!(rt;
         answer.is_some_and(|(status, output)| status == 2
             && output.as_slice() == b"holey\nhole t191 hole\n".as_slice())
+    );
+    assert!(rt; gate.gave_up.load(Ordering::SeqCst) == 0);
+    Ok(())
+}
+
+// The words of a command over the generator's texts of three links, by two workers.
+fn generate_by_two(alloc: Global) -> Result<Vec<String>, AllocError> {
+    let mut words = Vec::new(alloc);
+    words.push(String::from_str(alloc, "generate")?)?;
+    words.push(String::from_str(alloc, "3")?)?;
+    words.push(String::from_str(alloc, "--num-threads")?)?;
+    words.push(String::from_str(alloc, "2")?)?;
+    Ok(words)
+}
+
+// What the top call prints and returns of these words behind a gate.
+fn generated<R: AllocGlobal + Threads + Sync>(
+    rt: &R,
+    gate: &LastFirst,
+) -> Result<(u8, Vec<u8>), AllocError> {
+    let alloc = rt.alloc();
+    let words = generate_by_two(alloc)?;
+    let mut folder = MemoryFolder::new(Vec::new(alloc), 65_536, Vec::new(alloc));
+    let mut out = MemorySink::new(65_536, Vec::new(alloc));
+    let status = carcara(rt, &words, &mut folder, &mut out, gate);
+    let output = Vec::from_slice(alloc, out.written())?;
+    drop(out);
+    drop(folder);
+    drop(words);
+    Ok((status, output))
+}
+
+// The 84 commands of three links, in two chunks.
+#[test]
+fn two_workers_check_generated_texts_beside_each_other(rt: HostRuntime) -> Result<(), Fail> {
+    let gate = LastFirst::new(false);
+    let answer = generated(&rt, &gate).ok();
+    assert!(rt;
+        answer.is_some_and(|(status, output)| status == 0
+            && output.as_slice() == b"steps 84\ncells 228\nvalid\n".as_slice())
     );
     assert!(rt; gate.gave_up.load(Ordering::SeqCst) == 0);
     Ok(())
