@@ -2,14 +2,13 @@
 use Rattle.std.specs.Prelude.{◌≡◌, ℕ, List, [], ◌∷◌, Contains}
 use Rattle.proof_store.specs.AddedSteps.{AddedStep}
 use Rattle.proof_store.specs.declared.added.Link.{Link}
-use Rattle.rule_model.specs.declared.rules.Rule.{Rule}
 use Rattle.rule_model.specs.Reading.{scope_at}
 use Rattle.term_model.specs.Terms.{Term, not_of}
 use Rattle.term_pool.specs.Views.{TermsView, RefersTo}
 use Rattle.equality_steps.specs.declared.site.Site.{Site}
 use Rattle.equality_steps.specs.Links.{LinkSays}
 use Rattle.equality_steps.specs.Sites.{IsLiteralAt}
-use Rattle.equality_blocks.specs.Commands.{clause_of_command, rule_of_command}
+use Rattle.equality_blocks.specs.Commands.{clause_of_command}
 use Rattle.equality_blocks.specs.Made.{IsMadeFor}
 use Rattle.equality_blocks.specs.Pairs.{IsFirstAsserted, IsOther}
 

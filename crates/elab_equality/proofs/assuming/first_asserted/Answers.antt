@@ -1,6 +1,6 @@
-use Rattle.std.proofs.Common.{◌≡◌, ◌∙◌, false, sym, subst, true}
+use Rattle.std.proofs.Common.{◌∙◌, false, sym, subst, true}
 use Rattle.term_pool.specs.Views.{IsTerm}
-use Rattle.elab_equality.proofs.AssumeLemmas.{IsLikeWhere, asserted_term, assumed_term, first_found, not_past, others_more, others_none}
+use Rattle.elab_equality.proofs.AssumeLemmas.{IsLikeWhere, asserted_term, assumed_term, first_found, not_past, others_more}
 use Rattle.elab_equality.proofs.assuming.first_asserted.Goals as goal
 
 pub is_like-requires-clause-one : goal.is_like-requires-clause-one
