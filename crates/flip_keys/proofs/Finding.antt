@@ -21,7 +21,7 @@ use Rattle.flip_keys.specs.KeyTables.{AreClassKeys, HasKeyNumber, HasMore, Inser
 use Rattle.flip_keys.proofs.EqualNumbers.{terms_both}
 use Rattle.flip_keys.proofs.Walking.{has_later}
 
-contains_before : {X : Type 0} (xs : List X) (y x : X) → Contains xs x → Contains (xs ++ y ∷ []) x
+pub contains_before : {X : Type 0} (xs : List X) (y x : X) → Contains xs x → Contains (xs ++ y ∷ []) x
 contains_before [] y x h = absurd (contains_none x h)
 contains_before (z ∷ xs) y x h =
     elim (contains_cases z x xs h) [
@@ -30,7 +30,7 @@ contains_before (z ∷ xs) y x h =
     ]
 
 module _ (p q : PassView) (old new : Keys) (grows : Grows p q) (more : HasMore old new) where
-  numbered_later : (r k : ℕ) → HasKeyNumber p old r k → HasKeyNumber q new r k
+  pub numbered_later : (r k : ℕ) → HasKeyNumber p old r k → HasKeyNumber q new r k
   numbered_later r k h = has_later p q old.classes.keys new.classes.keys grows more (Item.Term r) k h
 
   pub found_later : (references numbers : List ℕ) → AreFound p old references numbers → AreFound q new references numbers
@@ -62,7 +62,7 @@ module _ (s : Table) (v : TermsView) where
         | inr later ↦ any_later P t ts (term_at rs ts P r refer.1 later f)
       ]
 
-  reference_at : (rs : List ℕ) (ts : List Term) (P : Term → Type 0) (Q : Type 0) → ReferToAll s v rs ts → Any P ts → ((r : ℕ) (t : Term) → Contains rs r → RefersTo s v r t → P t → Q) → Q
+  pub reference_at : (rs : List ℕ) (ts : List Term) (P : Term → Type 0) (Q : Type 0) → ReferToAll s v rs ts → Any P ts → ((r : ℕ) (t : Term) → Contains rs r → RefersTo s v r t → P t → Q) → Q
   reference_at [] [] P Q refer (k, y, below, same, h) f = absurd (omega (arith, below))
   reference_at [] (t ∷ ts) P Q refer any f = absurd refer
   reference_at (x ∷ rs) [] P Q refer any f = absurd refer
@@ -73,7 +73,7 @@ module _ (s : Table) (v : TermsView) where
       ]
 
   -- two references have one number exactly where their terms are equal up to flips
-  one_number : IsTable s → IsOneToOne v.pass → (keys : Keys) → AreClassKeys v.pass keys → (a r k l : ℕ) → HasKeyNumber v.pass keys a k → HasKeyNumber v.pass keys r l → (t u : Term) → RefersTo s v a t → RefersTo s v r u → (k ≡ l) ↔ EqualUpToFlips t u
+  pub one_number : IsTable s → IsOneToOne v.pass → (keys : Keys) → AreClassKeys v.pass keys → (a r k l : ℕ) → HasKeyNumber v.pass keys a k → HasKeyNumber v.pass keys r l → (t u : Term) → RefersTo s v a t → RefersTo s v r u → (k ≡ l) ↔ EqualUpToFlips t u
   one_number table one keys good a r k l p q t u left right =
       let both = terms_both (Knows v.pass) keys.classes.keys one.one_tree one.one_reference good.apart p.tree q.tree k l p.number q.number in
       let flips = flips_are s v 9 a r (same_terms 9 p.tree q.tree) table (table.begins 9 (operator Op.Equal) refl)

@@ -4,3 +4,4 @@ pub mod EqualNumbers
 pub mod Visits
 pub mod Walking
 pub mod Finding
+pub mod FirstPlaces

@@ -1,12 +1,13 @@
 //! The assertions of a problem, up to flips.
 
-ghost use Rattle.std.specs.Prelude.{◌≡◌, ◌↔◌, List, All, Any, Contains, IsTrue, IfOk, OnOk};
+ghost use Rattle.std.specs.Prelude.{◌≡◌, ◌↔◌, ◌<◌, [], List, length, All, Any, Contains, IsTrue, IfOk, IfSome, IfNone, OnOk};
 ghost use Rattle.pair_pool.specs.Views.{IsKnown};
 ghost use Rattle.term_model.specs.Flips.{EqualUpToFlips};
 ghost use Rattle.term_model.specs.Terms.{Term};
 ghost use Rattle.term_pool.specs.Views.{RefersTo, ReferToAll};
 ghost use Rattle.flip_keys.specs.KeyTables.{AreClassKeys, InsertsNumber, HasJust, AreFound};
-ghost use Rattle.flip_keys.specs.Assertions.{references_of, AreAssertionsReady};
+ghost use Rattle.flip_keys.specs.FirstPlaces.{firsts_of, AddsFirst, AreFirstPlaces, IsFirstPlaceOf};
+ghost use Rattle.flip_keys.specs.Assertions.{references_of, AreAssertionsReady, IsFirstLike};
 
 use crate::numbering::Keys;
 use indexmap::IndexSet;
@@ -15,15 +16,22 @@ use std::alloc::Global;
 use sym_table::Symbols;
 use term_pool::Terms;
 
+/// The numbers that assertions have up to flips, and for each the place of the first assertion that has it.
+#[derive(Drop)]
+pub(crate) struct Found {
+    numbers: IndexSet<usize>,
+    firsts: Vec<usize>,
+}
+
 /// The assertions of a problem. They get their numbers up to flips when a term is asked for that is none of them as it
-/// stands.
+/// stands, or the first one that is equal to a term.
 #[derive(Drop)]
 pub struct Assertions {
     alloc: Global,
     references: Vec<Ref>,
     placed: IndexSet<u32>,
     keys: Keys,
-    numbers: IndexSet<usize>,
+    found: Found,
     is_numbered: bool,
 }
 
@@ -53,33 +61,66 @@ fn place_all(alloc: Global, references: &[Ref]) -> Result<IndexSet<u32>, Memory>
     Ok(placed)
 }
 
-/// Adds a number to a set.
-fn add(numbers: &mut IndexSet<usize>, number: usize) -> Result<(), Memory>
-    ensures { OnOk result (InsertsNumber numbers.old.keys number numbers.new.keys) }
-{
-    numbers.insert(number)?;
-    Ok(())
+impl Found {
+    /// No numbers.
+    fn new(alloc: Global) -> Found
+        ensures numbers { result.numbers.keys ≡ [] }
+        ensures firsts { result.firsts.items ≡ [] }
+    {
+        Found {
+            numbers: IndexSet::new(alloc),
+            firsts: Vec::new(alloc),
+        }
+    }
+
+    /// Adds the number of the assertion at a place behind all others.
+    fn add(&mut self, number: usize, place: usize) -> Result<(), Memory>
+        ensures { OnOk result (AddsFirst self.old.numbers.keys (firsts_of self.old) number place self.new.numbers.keys (firsts_of self.new)) }
+    {
+        let (_, is_new) = self.numbers.insert_full(number)?;
+        if is_new {
+            self.firsts.push(place)?;
+        }
+        Ok(())
+    }
+
+    /// Whether an assertion has this number.
+    fn has(&self, number: usize) -> bool
+        ensures { IsTrue result ↔ Contains self.now.numbers.keys number }
+    {
+        self.numbers.contains(&number)
+    }
+
+    /// The place of the first assertion that has this number.
+    fn first(&self, number: usize) -> Option<usize>
+        requires { length (firsts_of self.now) ≡ length self.now.numbers.keys }
+        ensures { IsFirstPlaceOf self.now.numbers.keys (firsts_of self.now) number result }
+    {
+        let at = self.numbers.get_index_of(&number)?;
+        Some(self.firsts[at])
+    }
 }
 
-/// The numbers of terms, as a set.
+/// The numbers of terms, and for each the first place of a term that has it.
 fn number_all(
     alloc: Global,
     terms: &mut Terms<'_>,
     keys: &mut Keys,
     references: &[Ref],
-) -> Result<IndexSet<usize>, Memory>
+) -> Result<Found, Memory>
     requires known { All (IsKnown terms.old.pass) references.now }
     requires keys { AreClassKeys terms.old.pass keys.old }
-    ensures found { IfOk result (λ numbers. AreFound terms.old.pass keys.new references.now numbers.keys) }
+    ensures found { IfOk result (λ found. AreFound terms.old.pass keys.new references.now found.numbers.keys) }
+    ensures firsts { IfOk result (λ found. AreFirstPlaces terms.old.pass keys.new references.now found.numbers.keys (firsts_of found)) }
     ensures keys { OnOk result (AreClassKeys terms.old.pass keys.new) }
     ensures same { terms.new ≡ terms.old }
 {
-    let mut numbers = IndexSet::new(alloc);
-    'references: for r in references {
-        let number = keys.number(alloc, terms, *r)?;
-        add(&mut numbers, number)?;
+    let mut found = Found::new(alloc);
+    'references: for place in 0..references.len() {
+        let number = keys.number(alloc, terms, references[place])?;
+        found.add(number, place)?;
     }
-    Ok(numbers)
+    Ok(found)
 }
 
 impl Assertions {
@@ -103,7 +144,7 @@ impl Assertions {
             references: owned,
             placed,
             keys: Keys::new(alloc),
-            numbers: IndexSet::new(alloc),
+            found: Found::new(alloc),
             is_numbered: false,
         })
     }
@@ -119,7 +160,7 @@ impl Assertions {
         if self.is_numbered {
             return Ok(());
         }
-        self.numbers = number_all(
+        self.found = number_all(
             self.alloc,
             terms,
             &mut self.keys,
@@ -156,8 +197,38 @@ impl Assertions {
         }
         self.number_once(terms)?;
         let number = self.keys.number(self.alloc, terms, r)?;
-        Ok(self.numbers.contains(&number))
+        Ok(self.found.has(number))
     }
+
+    /// The place of the first assertion that is equal to a term up to flips, where there is one. Places count from 0.
+    ///
+    /// The first call costs time and memory in proportion to the distinct cells of all assertions, where they have no numbers yet,
+    /// and each call those of the term's distinct cells that were in no numbered term before it, and a look-up. It places no cell,
+    /// and refuses only when out of memory.
+    pub fn first_asserted(
+        &mut self,
+        symbols: &Symbols,
+        terms: &mut Terms<'_>,
+        r: Ref,
+    ) -> Result<Option<usize>, Memory>
+        requires known { IsKnown terms.old.pass r }
+        requires ready { AreAssertionsReady terms.old self.old }
+        ensures first { IfOk result (λ found. (ts : List Term) (t : Term) → ReferToAll symbols.now terms.old (references_of self.old) ts →
+            RefersTo symbols.now terms.old r t → IfSome found (IsFirstLike ts t)) }
+        ensures none { IfOk result (λ found. (ts : List Term) (t : Term) → ReferToAll symbols.now terms.old (references_of self.old) ts →
+            RefersTo symbols.now terms.old r t → IfNone found (¬ Any (λ a. EqualUpToFlips a t) ts)) }
+        ensures within { IfOk result (λ found. IfSome found (λ place. place < length (references_of self.old))) }
+        ensures references { references_of self.new ≡ references_of self.old }
+        ensures ready { OnOk result (AreAssertionsReady terms.new self.new) }
+        ensures same { terms.new ≡ terms.old }
+    {
+        symbols.leaves_differ();
+        terms.one_to_one();
+        self.number_once(terms)?;
+        let number = self.keys.number(self.alloc, terms, r)?;
+        Ok(self.found.first(number))
+    }
+
     /// Whether a term is an assertion as it stands, where the order of sides counts.
     ///
     /// It costs one look-up, takes no memory and places no cell.

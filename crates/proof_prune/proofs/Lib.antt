@@ -1,10 +1,7 @@
 mod Marks
 mod Stepping
-mod FlipsThrough
-mod Likeness
-mod Thinning
+mod FirstMarks
 mod Listing
-mod Rounds
 mod Wanted
 mod Found
 mod Existing

@@ -91,8 +91,7 @@ fn numbers_of(alloc: Global, marks: &[bool]) -> Result<Vec<u32>, Memory>
 /// the number of the first assertion that is equal to its term up to flips. Each stands once, in rising order.
 ///
 /// It places no cell, and refuses only when out of memory. Takes time in proportion to the commands and to the distinct cells of
-/// assertions and assumes, and then once for each binary digit of the number of assertions in proportion to the distinct cells
-/// of those that are used; memory in proportion to the cells.
+/// assertions and assumes, and memory in proportion to the cells.
 pub fn core(
     alloc: Global,
     proof: &Proof,

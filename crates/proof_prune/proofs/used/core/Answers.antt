@@ -1,6 +1,6 @@
 use Rattle.std.proofs.Common.{length, All, sym, subst, arith}
 use Rattle.term_pool.specs.Views.{IsTerm}
-use Rattle.proof_prune.specs.Firsts.{AreFirsts, AreLikeAt, AreNumbersTo, IsLikeOneAt}
+use Rattle.proof_prune.specs.Firsts.{AreFirsts, AreNumbersTo}
 use Rattle.proof_prune.proofs.Found.{wanted_terms, found_core, one_reference}
 use Rattle.proof_prune.proofs.Marks.{if_ok_then}
 use Rattle.proof_prune.proofs.used.core.Goals as goal
@@ -27,14 +27,13 @@ returns-clause-core c =
     let s = c.args.symbols.now in
     let v = c.args.terms.now in
     let refs = c.args.proof.now in
-    let all = c.args.assertions.now in
     let list = c.in_ok-list.list.items in
     let marks = c.in_ok-marks.marks.items in
-    let firsts = subst (λ ws. AreFirsts (IsLikeOneAt s v all ws) (AreLikeAt s v all) marks) c.deref.ensures.value c.in_ok-marks.ensures.firsts in
     if_ok_then c.numbers_of.result c.numbers_of.ensures
     (λ numbers are of ts stand refer asserted.
     found_core s v refs of stand (λ i. c.commands_correspond.ensures.rule s v refs of i stand) (λ i. c.commands_correspond.ensures.scope s v refs of i stand)
-    (λ i. c.terms_correspond.ensures.clause s v refs of i stand) c.args.kept.now all ts refer
+    (λ i. c.terms_correspond.ensures.clause s v refs of i stand) c.args.kept.now ts
     (one_reference s v c.one_to_one.ensures (λ a t u. c.trees_of_terms.ensures.one_term s a t u c.leaves_differ.ensures.table))
-    list c.in_ok-list.ensures marks firsts asserted numbers.items
+    list c.in_ok-list.ensures marks (subst (λ ws. AreFirsts s v ts ws marks) c.deref.ensures.value (c.in_ok-marks.ensures.firsts ts refer))
+    asserted numbers.items
     (subst (λ ms. AreNumbersTo ms (length ms) numbers.items) c.deref-2.ensures.value are))

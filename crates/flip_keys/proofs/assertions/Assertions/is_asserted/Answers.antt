@@ -1,7 +1,8 @@
 use Rattle.std.proofs.Common.{refl}
-use Rattle.term_model.proofs.Lists.{has_number}
 use Rattle.flip_keys.specs.Assertions.{references_of}
+use Rattle.flip_keys.specs.FirstPlaces.{firsts_of}
 use Rattle.flip_keys.proofs.Finding.{found_later, asserted_is, stands_there}
+use Rattle.flip_keys.proofs.FirstPlaces.{firsts_later}
 use Rattle.flip_keys.proofs.Walking.{same_grows}
 use Rattle.flip_keys.proofs.assertions.Assertions.is_asserted.Goals as goal
 
@@ -21,11 +22,10 @@ returns-clause-asserted c ts t refer right =
     let now = c.number_once.ensures.same in
     let of_these = c.number_once.ensures.references in
     let earlier = rw of_these at c.in_ok-number_once.ensures.ready.found c.in_ok-number_once.ensures.numbered in
-    let found = found_later pass pass numbered.keys c.number.new.self (same_grows pass) c.in_ok-number.ensures.more references numbered.numbers.keys earlier in
+    let found = found_later pass pass numbered.keys c.number.new.self (same_grows pass) c.in_ok-number.ensures.more references numbered.found.numbers.keys earlier in
     let keys = rw now at c.in_ok-number.ensures.keys in
     let number = rw now at c.in_ok-number.ensures.number in
-    asserted_is c.args.symbols.now c.args.terms.now c.leaves_differ.ensures.table c.one_to_one.ensures c.number.new.self keys references numbered.numbers.keys found c.args.r c.in_ok-number.number number c.contains.result
-    (rw c.contains.ensures (has_number numbered.numbers.keys c.in_ok-number.number)) ts t refer right
+    asserted_is c.args.symbols.now c.args.terms.now c.leaves_differ.ensures.table c.one_to_one.ensures c.number.new.self keys references numbered.found.numbers.keys found c.args.r c.in_ok-number.number number c.has.result c.has.ensures ts t refer right
 
 pub returns-clause-ready : goal.returns-clause-ready
 returns-clause-ready c =
@@ -38,5 +38,8 @@ returns-clause-ready c =
       known = ready.known;
       placed = ready.placed;
       keys = rw c.number_once.ensures.same at c.in_ok-number.ensures.keys;
-      found = λ yes. found_later pass pass numbered.keys c.number.new.self (same_grows pass) c.in_ok-number.ensures.more (references_of numbered) numbered.numbers.keys found;
+      found = λ yes. found_later pass pass numbered.keys c.number.new.self (same_grows pass) c.in_ok-number.ensures.more (references_of numbered) numbered.found.numbers.keys found;
+      firsts = λ yes.
+          firsts_later pass pass numbered.keys c.number.new.self (same_grows pass) c.in_ok-number.ensures.more (references_of numbered) numbered.found.numbers.keys
+          (firsts_of numbered.found) (ready.firsts c.in_ok-number_once.ensures.numbered);
     })

@@ -12,4 +12,5 @@ returns-clause-ready c =
       placed = subst (λ rs. HasJust rs c.in_ok-placed.placed.keys) (sym owned) c.in_ok-placed.ensures;
       keys = c.new.ensures pass;
       found = λ yes. absurd (cc);
+      firsts = λ yes. absurd (cc);
     }
