@@ -1,11 +1,10 @@
 -- Private. Commands by eq_congruent and eq_congruent_pred: what they meet in check mode, and what steps in their place begin with.
-use Rattle.std.proofs.Common.{◌≡◌, ◌≢◌, ◌⊎◌, inl, inr, ◌≤◌, ◌+◌, ◌*◌, ℕ, List, [], ◌∷◌, ◌++◌, length, flat_map}
+use Rattle.std.proofs.Common.{◌≡◌, ◌≢◌, inl, inr, ◌≤◌, ◌+◌, ℕ, List, [], ◌∷◌, ◌++◌, length, flat_map}
 use Rattle.std.proofs.Common.{Option, Some, None, Contains, refl, sym, ◌∙◌, ap, subst, arith}
-use Rattle.std.specs.List.{AllZip}
 use Rattle.std.proofs.lemmas.List.Elements.{Contains-append_left}
 use Rattle.pair_pool.specs.Trees.{Tree}
 use Rattle.term_model.proofs.Lists.{contains_cases, contains_head, contains_later, contains_none}
-use Rattle.term_model.specs.Flips.{equality, EqualUpToFlips}
+use Rattle.term_model.specs.Flips.{equality}
 use Rattle.term_model.specs.Terms.{Term, not_of}
 use Rattle.term_pool.proofs.References.{AreOne}
 use Rattle.term_pool.specs.CellCounts.{CountsCells}
@@ -16,16 +15,13 @@ use Rattle.rule_model.specs.declared.kinds.Family.{Family}
 use Rattle.rule_model.specs.declared.rules.Mode.{Mode}
 use Rattle.rule_model.specs.declared.rules.Rule.{Rule}
 use Rattle.rule_model.specs.Clausal.{as_it_stands}
-use Rattle.rule_model.specs.Congruence.{AreCongruent, Denies, Equates, HangTogetherDenied, IsLinked, denials, units}
-use Rattle.rule_model.specs.Congruence.{AreSides as AreSidesOfPremise}
+use Rattle.rule_model.specs.Congruence.{AreCongruent, Denies, Equates, HangTogetherDenied, denials, units}
 use Rattle.rule_model.specs.Reading.{clause_at, closes_at, premises_at, premise_clauses}
 use Rattle.elaboration_laws.proofs.Reading.{clause_stands}
 use Rattle.equality_steps.specs.declared.site.Site.{Site}
 use Rattle.equality_steps.specs.Sites.{AreLiteralsAt}
 use Rattle.equality_ways.specs.declared.table.Table.{Table}
 use Rattle.equality_ways.specs.Sides.{AreSidesOfDenial, AreSidesOfDenials}
-use Rattle.equality_ways.specs.Tables.{IsTableOf}
-use Rattle.equality_ways.specs.Ways.{AreEnds}
 use Rattle.equality_ways.proofs.Places.{zip_contained}
 use Rattle.flip_steps.specs.Memory.{IsCellWithinAny, IsRemembered, count_of}
 use Rattle.equality_blocks.specs.Commands.{IsToElaborate, clause_of_command, literals_of_command, rule_of_command}
@@ -36,10 +32,9 @@ use Rattle.elab_denials.specs.declared.work.Work.{Work}
 use Rattle.elab_denials.specs.Matching.{AreLinkedTerms, HasGivenTable, IsGivenTable, IsMatchOf, Links}
 use Rattle.elab_denials.specs.Owing.{IsGiven}
 use Rattle.elab_denials.specs.Stating.{AreFewSteps, IsBegun, IsByCongruence, IsNarrow}
-use Rattle.elab_denials.specs.Walking.{AreGivenDenials}
 use Rattle.elab_denials.specs.Working.{IsWork}
 use Rattle.elab_denials.proofs.ConditionLemmas.{closes_nothing, met_rule}
-use Rattle.elab_denials.proofs.OwnLemmas.{few_work, own_literals}
+use Rattle.elab_denials.proofs.OwnLemmas.{few_work}
 use Rattle.elab_denials.proofs.ReadyLemmas.{joined_here, narrow_here, ready_here, repairable_here}
 use Rattle.elab_denials.proofs.WorkLemmas.{later, refer_among}
 

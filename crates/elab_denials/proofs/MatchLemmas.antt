@@ -1,5 +1,5 @@
 -- Private. When two applications of one head are matched.
-use Rattle.std.proofs.Common.{◌≡◌, ◌≢◌, ◌⊎◌, ◌↔◌, inl, inr, ◌+◌, ◌<◌, ℕ, zero, suc, Bool, true, false, List, [], ◌∷◌, ◌++◌, length, take, get_or, map, zip, slice_get}
+use Rattle.std.proofs.Common.{◌≡◌, ◌≢◌, ◌↔◌, inl, inr, ◌+◌, ◌<◌, ℕ, zero, suc, Bool, true, false, List, [], ◌∷◌, ◌++◌, length, take, get_or, zip, slice_get}
 use Rattle.std.proofs.Common.{Option, Some, None, Result, Ok, Err, IfOk, IfSome, IfNone, All, Contains, IsTrue, refl, sym, ◌∙◌, ap, subst, arith, add-one}
 use Rattle.std.specs.List.{AllZip}
 use Rattle.std.proofs.lemmas.List.Elements.{All-nil, All-cons}
@@ -12,7 +12,7 @@ use Rattle.term_model.specs.Terms.{Term}
 use Rattle.term_pool.proofs.References.{AreOne}
 use Rattle.term_pool.specs.Reading.{arguments_of}
 use Rattle.term_pool.specs.Views.{TermsView, IsTerm, RefersTo, ReferToAll}
-use Rattle.rule_model.specs.Congruence.{AreCongruent, AreCrossed, Head, applied, operator, IsLinked, HangTogetherDenied}
+use Rattle.rule_model.specs.Congruence.{AreCongruent, Head, applied, operator, IsLinked, HangTogetherDenied}
 use Rattle.rule_model.specs.declared.rules.Mode.{Mode}
 use Rattle.rule_model.specs.Clausal.{as_it_stands}
 use Rattle.term_model.specs.declared.symbols.Op.{Op}
@@ -22,9 +22,8 @@ use Rattle.equality_ways.specs.Sides.{ReferToBoth}
 use Rattle.equality_ways.specs.declared.pairs.Used.{Used}
 use Rattle.equality_ways.specs.Ways.{AreEnds, LeadsTo, turned_if}
 use Rattle.equality_ways.proofs.Places.{contains_of_get}
-use Rattle.elab_denials.specs.Matching.{AreAppliedTo, AreCrosswise, AreCrossedApart, AreLinkedAt, AreLinkedPairs, AreLinkedTerms, AreStraight, HasHead, Links, left_of, right_of}
-use Rattle.elab_denials.specs.Working.{AreFlipsAt}
-use Rattle.elab_denials.proofs.HeadLemmas.{arguments_are, has_applied, head_is_no_let, no_let, same_head}
+use Rattle.elab_denials.specs.Matching.{AreCrosswise, AreCrossedApart, AreLinkedAt, AreLinkedTerms, AreStraight, HasHead, Links}
+use Rattle.elab_denials.proofs.HeadLemmas.{arguments_are, has_applied, same_head}
 
 -- what holds of an answer, where it says more
 pub ok_some : {X E : Type 0} (P Q : X → Type 0) (r : Result (Option X) E) → ((x : X) → P x → Q x) → IfOk r (λ o. IfSome o P) → IfOk r (λ o. IfSome o Q)

@@ -1,7 +1,6 @@
 -- Private. Two predicates of which the command's clause denies one and has the other: what is stated of them, and what that owes.
-use Rattle.std.proofs.Common.{◌≡◌, ◌≢◌, ◌⊎◌, inl, inr, ◌≤◌, ◌+◌, ℕ, Bool, true, false, List, [], ◌∷◌, ◌++◌, length, map}
-use Rattle.std.proofs.Common.{Option, Some, None, Contains, refl, sym, ◌∙◌, ap, subst, arith}
-use Rattle.std.specs.List.{AllZip}
+use Rattle.std.proofs.Common.{◌≡◌, ◌≢◌, ◌⊎◌, inl, inr, ℕ, Bool, true, false, List, [], ◌∷◌, ◌++◌, length, map}
+use Rattle.std.proofs.Common.{Option, Contains, refl, sym, ◌∙◌, ap, subst, arith}
 use Rattle.std.proofs.lemmas.List.Elements.{Contains-append_cases, Contains-append_left, Contains-append_right}
 use Rattle.term_model.proofs.Lists.{contains_cases, contains_head, contains_later, contains_none}
 use Rattle.term_model.specs.declared.symbols.Sort.{Sort}
@@ -18,11 +17,11 @@ use Rattle.rule_model.specs.declared.rules.Mode.{Mode}
 use Rattle.rule_model.specs.Congruence.{AreCongruent, Denies, Equates, GivesPredicates, HangTogetherDenied, denials, units}
 use Rattle.rule_model.specs.Reading.{clause_at, premise_clauses}
 use Rattle.equality_steps.specs.declared.site.Site.{Site}
-use Rattle.equality_steps.specs.Denied.{AreApplied, ArePredicates, implied_clause}
+use Rattle.equality_steps.specs.Denied.{ArePredicates, implied_clause}
 use Rattle.equality_steps.specs.Links.{LinkSays}
-use Rattle.equality_steps.specs.Sites.{AreLiteralsAt, AreSides, IsSideAt}
+use Rattle.equality_steps.specs.Sites.{AreLiteralsAt}
 use Rattle.equality_ways.specs.declared.table.Table.{Table}
-use Rattle.equality_ways.specs.Sides.{AreSidesOfDenials, ReferToBoth}
+use Rattle.equality_ways.specs.Sides.{AreSidesOfDenials}
 use Rattle.equality_ways.specs.Tables.{IsTableOf}
 use Rattle.equality_ways.specs.Ways.{AreEnds}
 use Rattle.flip_steps.specs.Subterms.{whole, argument}

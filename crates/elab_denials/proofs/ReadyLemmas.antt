@@ -1,7 +1,6 @@
 -- Private. Two applications that the command links, and whose arguments are linked, may be stated; and what that owes may be repaired.
-use Rattle.std.proofs.Common.{◌≡◌, ◌≢◌, ◌⊎◌, inl, inr, ◌≤◌, ◌+◌, ℕ, zero, suc, Bool, true, false, List, [], ◌∷◌, ◌++◌, length, map, slice_get, ◌&&◌, nat_le}
-use Rattle.std.proofs.Common.{Option, Some, None, Contains, refl, sym, ◌∙◌, ap, subst, arith}
-use Rattle.std.specs.List.{AllZip}
+use Rattle.std.proofs.Common.{◌≡◌, ◌≢◌, ◌⊎◌, inl, inr, ℕ, zero, suc, Bool, true, false, List, [], ◌∷◌, length, map, slice_get, ◌&&◌, nat_le}
+use Rattle.std.proofs.Common.{Option, Some, Contains, refl, sym, ap, subst, arith}
 use Rattle.std.proofs.lemmas.List.{length-map}
 use Rattle.std.proofs.lemmas.List.Elements.{Contains-append_left}
 use Rattle.term_model.proofs.Lists.{contains_cases, contains_head, contains_later, contains_none}
@@ -10,12 +9,11 @@ use Rattle.term_model.proofs.Zips.{zip_length}
 use Rattle.term_model.specs.declared.symbols.Op.{Op}
 use Rattle.term_model.specs.declared.symbols.Sort.{Sort}
 use Rattle.term_model.specs.Flips.{equality, EqualUpToFlips, AllEqualUpToFlips, same, operations, calls, flipped, none, each}
-use Rattle.term_model.specs.Sorts.{IsOf, AreOf, IsWellSorted, application_sort, of_one_sort}
-use Rattle.term_model.specs.Terms.{Term, Terms, no_terms, term, not_of}
+use Rattle.term_model.specs.Sorts.{IsOf, AreOf, application_sort, of_one_sort}
+use Rattle.term_model.specs.Terms.{Term, Terms, no_terms, term}
 use Rattle.term_pool.proofs.References.{AreOne}
 use Rattle.term_pool.specs.Reading.{arguments_of}
 use Rattle.term_pool.specs.Views.{TermsView, RefersTo}
-use Rattle.rule_model.specs.Congruence.{Head}
 use Rattle.equality_steps.specs.declared.site.Site.{Site}
 use Rattle.equality_steps.specs.Sites.{AreLiteralsAt, AreSides, IsSideAt}
 use Rattle.equality_steps.proofs.SiteLemmas.{sides_fit}
@@ -27,14 +25,14 @@ use Rattle.flip_steps.specs.Subterms.{IsWithin, whole, argument}
 use Rattle.flip_steps.proofs.FormLemmas.{turned_sort}
 use Rattle.flip_steps.proofs.SubtermLemmas.{argument_free, argument_sorted}
 use Rattle.equality_blocks.specs.Commands.{clause_of_command}
-use Rattle.equality_blocks.specs.Counts.{IsRootOf, literal}
-use Rattle.equality_blocks.specs.Pairs.{AreAtOnePlace, AreLinkedEitherWay, ArePaired, arguments, linked, outer, inner}
+use Rattle.equality_blocks.specs.Counts.{literal}
+use Rattle.equality_blocks.specs.Pairs.{AreLinkedEitherWay, ArePaired, arguments, linked, outer, inner}
 use Rattle.equality_blocks.specs.Pairs.{equated as linked_equated}
-use Rattle.elab_denials.specs.Matching.{AreAppliedTo, AreCrosswise, AreCrossedApart, AreLinkedAt, AreLinkedPairs, AreMatchedBy, AreStraight, left_of, right_of}
+use Rattle.elab_denials.specs.Matching.{AreCrosswise, AreLinkedAt, AreLinkedPairs, AreMatchedBy, AreStraight, left_of, right_of}
 use Rattle.elab_denials.specs.Owing.{AreRepairable, IsGiven}
 use Rattle.elab_denials.specs.Stating.{AreReadyBy, AreStated, AreTurnable, IsNarrow}
 use Rattle.elab_denials.specs.Walking.{AreGivenDenials}
-use Rattle.elab_denials.specs.Working.{AreFlipsAt, IsPlaceAt, IsRootedAt}
+use Rattle.elab_denials.specs.Working.{IsPlaceAt, IsRootedAt}
 use Rattle.elab_denials.proofs.HeadLemmas.{arguments_are}
 use Rattle.elab_denials.proofs.WalkLemmas.{ends_place, given_fits, literal_given}
 

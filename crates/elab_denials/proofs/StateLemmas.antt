@@ -1,5 +1,5 @@
 -- Private. Clauses that applications of one head give: that they may be added, and what they owe.
-use Rattle.std.proofs.Common.{◌≡◌, ◌≢◌, ◌⊎◌, inl, inr, ℕ, Bool, true, false, List, [], ◌∷◌, ◌++◌, map, zip, Contains, refl, sym, ◌∙◌, ap, subst}
+use Rattle.std.proofs.Common.{◌≡◌, ◌≢◌, inl, inr, ℕ, false, List, [], ◌∷◌, ◌++◌, map, zip, Contains, refl, sym, ◌∙◌, ap, subst}
 use Rattle.std.specs.List.{AllZip}
 use Rattle.std.proofs.lemmas.List.Elements.{All-nil, All-cons, Contains-append_cases, Contains-append_left}
 use Rattle.term_model.proofs.Lists.{contains_cases, contains_head, contains_later, contains_none}
@@ -9,10 +9,10 @@ use Rattle.term_model.specs.declared.symbols.Sort.{Sort}
 use Rattle.term_model.specs.Flips.{equality}
 use Rattle.term_model.specs.Terms.{Term, not_of}
 use Rattle.term_pool.proofs.References.{AreOne}
-use Rattle.term_pool.specs.Views.{TermsView, KeepsTerms, RefersTo, ReferToAll}
+use Rattle.term_pool.specs.Views.{TermsView, KeepsTerms, RefersTo}
 use Rattle.proof_store.specs.AddedSteps.{AddedStep}
 use Rattle.proof_store.specs.declared.added.Link.{Link}
-use Rattle.rule_model.specs.Congruence.{Head, applied, denials, operator}
+use Rattle.rule_model.specs.Congruence.{denials, operator}
 use Rattle.equality_steps.specs.declared.site.Site.{Site}
 use Rattle.equality_steps.specs.Blocks.{Extends}
 use Rattle.equality_steps.specs.Denied.{AreApplied, ArePredicates, AreWay, congruent_clause}
@@ -23,9 +23,9 @@ use Rattle.equality_steps.proofs.SiteLemmas.{equality_fits, sides_turned}
 use Rattle.equality_ways.specs.Sides.{ReferToBoth}
 use Rattle.equality_blocks.specs.Made.{IsMadeFor, IsStatedFor, denied, paired, stated}
 use Rattle.equality_blocks.specs.Made.{equated as pair_equated, exchanged as pair_exchanged, turned as pair_turned}
-use Rattle.equality_blocks.specs.Pairs.{ArePaired, linked, sides, turned}
+use Rattle.equality_blocks.specs.Pairs.{linked, sides, turned}
 use Rattle.equality_blocks.proofs.StayLemmas.{made_later, paired_later}
-use Rattle.elab_denials.specs.Matching.{AreAppliedTo, left_of, right_of}
+use Rattle.elab_denials.specs.Matching.{left_of, right_of}
 use Rattle.elab_denials.specs.Owing.{AreOpposedOn, HasDenial, IsGiven, IsOwed, IsOwing, SaysResolvent}
 use Rattle.elab_denials.specs.Stating.{AreStated, AreTurnable, IsExchangeable, IsMadeWay, SaysLed, SaysWith}
 use Rattle.elab_denials.specs.Walking.{IsEqualityGiven}

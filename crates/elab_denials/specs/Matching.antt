@@ -1,8 +1,8 @@
 -- Private. Two applications of one head whose arguments are linked by equalities that a clause denies, by their references.
-use Rattle.std.specs.Prelude.{◌≡◌, ◌≢◌, ◌⊎◌, ◌≤◌, ◌+◌, ℕ, Bool, true, false, List, [], ◌∷◌, map, length, Contains, Option}
+use Rattle.std.specs.Prelude.{◌≡◌, ◌≢◌, ◌⊎◌, ℕ, Bool, true, false, List, [], ◌∷◌, map, Contains, Option}
 use Rattle.std.specs.List.{AllZip}
 use Rattle.sym_table.specs.Leaf.{Leaf}
-use Rattle.sym_table.specs.Table.{Table, IsLeaf}
+use Rattle.sym_table.specs.Table.{Table}
 use Rattle.term_model.specs.Flips.{equality}
 use Rattle.term_model.specs.Terms.{Term}
 use Rattle.term_pool.specs.Building.{IsAppliedLeaf}

@@ -1,5 +1,5 @@
 -- Private. Clauses that applications of one head give, and what they owe.
-use Rattle.std.specs.Prelude.{◌≡◌, ◌≢◌, ◌⊎◌, ◌≤◌, ◌+◌, ◌*◌, ◌++◌, ℕ, Bool, true, false, List, [], ◌∷◌, length, Contains, Option}
+use Rattle.std.specs.Prelude.{◌≡◌, ◌≢◌, ◌⊎◌, ◌≤◌, ◌+◌, ◌*◌, ◌++◌, ℕ, Bool, true, false, List, [], ◌∷◌, length, Contains}
 use Rattle.std.specs.List.{AllZip}
 use Rattle.term_model.specs.declared.symbols.Sort.{Sort}
 use Rattle.term_model.specs.Flips.{equality}
@@ -17,13 +17,13 @@ use Rattle.equality_ways.specs.Sides.{ReferToBoth}
 use Rattle.flip_steps.specs.Memory.{count_of}
 use Rattle.flip_steps.specs.Subterms.{IsWithin}
 use Rattle.equality_blocks.specs.Commands.{clause_of_command, rule_of_command}
-use Rattle.equality_blocks.specs.Made.{IsMadeFor, IsStatedFor}
+use Rattle.equality_blocks.specs.Made.{IsStatedFor}
 use Rattle.equality_blocks.specs.Pairs.{AreLinkedEitherWay, ArePaired}
 use Rattle.equality_ways.specs.declared.table.Table.{Table}
 use Rattle.elab_denials.specs.declared.matching.Match.{Match}
 use Rattle.elab_denials.specs.declared.work.Work.{Work}
 use Rattle.elab_denials.specs.Matching.{AreAppliedTo, left_of, right_of}
-use Rattle.elab_denials.specs.Owing.{AreRepairable, IsGiven}
+use Rattle.elab_denials.specs.Owing.{AreRepairable}
 use Rattle.elab_denials.specs.Walking.{IsEqualityGiven}
 use Rattle.elab_denials.specs.Working.{IsPlaceAt}
 

@@ -1,7 +1,8 @@
 //! Steps by eq_congruent_pred.
 
 ghost use Rattle.std.specs.Prelude.{◌≡◌, ◌≢◌, ◌+◌, ◌*◌, ◌++◌, ◌∷◌, [], ℕ, List, Option, length, IfOk, IfErr, IfSome, IfNone, OnOk};
-ghost use Rattle.elab_denials.specs.Implying.{AreLastTwo, AreStatedTruths, AreTwo, EndsInTwo, GivesOther, HaveStatedTruths, IsBegunImplied, IsPlanned, IsToImply};
+ghost use Rattle.elab_denials.specs.Implying.{AreLastTwo, AreStatedTruths, AreTwo, EndsInTwo};
+ghost use Rattle.elab_denials.specs.Implying.{GivesOther, HaveStatedTruths, IsBegunImplied, IsPlanned, IsToImply};
 ghost use Rattle.elab_denials.specs.Matching.{HasGivenTable, Links};
 ghost use Rattle.elab_denials.specs.Owing.{IsOwing, SaysGiven};
 ghost use Rattle.elab_denials.specs.Stating.{SaysWith};

@@ -1,20 +1,18 @@
 -- Private. The two sides of the clause of a cong: their arguments are pairs of the command.
-use Rattle.std.proofs.Common.{◌≡◌, ◌≢◌, ◌<◌, ◌+◌, ◌⊎◌, inl, inr, ℕ, zero, suc, List, [], ◌∷◌, ◌++◌, map, flat_map, slice_get, length, nat_le, ◌&&◌, Some, All, Contains, refl, sym, ◌∙◌, ap, subst}
+use Rattle.std.proofs.Common.{◌≡◌, ◌≢◌, inl, inr, ℕ, zero, suc, List, [], ◌∷◌, map, slice_get, length, nat_le, ◌&&◌, Some, All, Contains, refl, sym, subst}
 use Rattle.std.proofs.lemmas.List.Elements.{All-head}
 use Rattle.std.specs.List.{AllZip}
 use Rattle.pair_pool.specs.Views.{IsOneToOne}
 use Rattle.sym_table.specs.Table.{IsTable}
-use Rattle.term_model.specs.declared.symbols.Op.{Op}
 use Rattle.term_model.specs.declared.symbols.Sort.{Sort}
-use Rattle.term_model.specs.Flips.{equality, EqualUpToFlips}
-use Rattle.term_model.specs.Sorts.{IsOf, IsWellSorted, of_one_sort}
-use Rattle.term_model.specs.Terms.{Term, terms_of}
+use Rattle.term_model.specs.Flips.{equality}
+use Rattle.term_model.specs.Sorts.{IsOf, of_one_sort}
+use Rattle.term_model.specs.Terms.{Term}
 use Rattle.term_model.proofs.Lists.{contains_cases, contains_head, contains_later, contains_none, list_of-terms_of}
 use Rattle.term_model.proofs.Sorting.{when-same}
 use Rattle.term_pool.specs.Reading.{arguments_of}
 use Rattle.term_pool.specs.Views.{TermsView, RefersTo, ReferToAll}
-use Rattle.rule_model.specs.Congruence.{AreCrossed, Head, applied, function, operator, IsLinked}
-use Rattle.rule_model.specs.Congruence.{AreSides as AreSidesOfPremise}
+use Rattle.rule_model.specs.Congruence.{Head, applied, function, operator, IsLinked}
 use Rattle.rule_model.specs.Reading.{clause_at, premises_at, premise_clauses}
 use Rattle.equality_steps.specs.declared.site.Site.{Site}
 use Rattle.equality_steps.specs.Sites.{AreSides, IsLiteralAt, IsSideAt, IsSite}
@@ -25,7 +23,7 @@ use Rattle.flip_steps.proofs.SubtermLemmas.{argument_sorted, within_free}
 use Rattle.equality_blocks.specs.Commands.{IsLiteralOfCommand, IsToElaborate, clause_of_command, literals_of_command}
 use Rattle.equality_blocks.specs.Counts.{literal}
 use Rattle.equality_blocks.specs.Made.{IsMadeFor, left, equated, exchanged, paired, stated}
-use Rattle.equality_blocks.specs.Pairs.{AreAtOnePlace, AreLinkedEitherWay, ArePaired, arguments, inner, linked, outer, sides, turned}
+use Rattle.equality_blocks.specs.Pairs.{AreLinkedEitherWay, ArePaired, arguments, inner, linked, outer, sides, turned}
 use Rattle.equality_blocks.specs.Pairs.{equated as linked_equated}
 use Rattle.elab_equality.specs.declared.matching.Crossed.{Crossed}
 use Rattle.elab_equality.specs.declared.matching.Matched.{Matched}

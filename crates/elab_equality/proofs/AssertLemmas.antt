@@ -1,5 +1,5 @@
 -- Private. Steps of one literal or more, with pivots or without, are added for a command.
-use Rattle.std.proofs.Common.{◌≡◌, ◌≤◌, ◌+◌, ◌*◌, ◌⊎◌, inl, inr, ℕ, zero, suc, Bool, false, List, [], ◌∷◌, ◌++◌, length, slice_get, Some, None, Contains}
+use Rattle.std.proofs.Common.{◌≡◌, ◌⊎◌, inl, inr, ℕ, zero, suc, Bool, false, List, [], ◌∷◌, ◌++◌, length, slice_get, Some, Contains}
 use Rattle.std.proofs.Common.{Result, Ok, Err, IsErrAnd, refl, sym, ◌∙◌, ap, subst, arith, length-append}
 use Rattle.term_model.proofs.Lists.{contains_cases, contains_head, contains_later, contains_none}
 use Rattle.term_model.specs.Terms.{Term}
@@ -11,7 +11,7 @@ use Rattle.term_pool.proofs.ReadingLemmas.{keeps-same}
 use Rattle.proof_store.specs.AddedSteps.{AddedStep}
 use Rattle.proof_store.specs.declared.added.Link.{Link}
 use Rattle.equality_steps.specs.declared.site.Site.{Site}
-use Rattle.equality_steps.specs.Blocks.{Adds, AddsStep, Extends, IsBlockAt}
+use Rattle.equality_steps.specs.Blocks.{AddsStep, Extends, IsBlockAt}
 use Rattle.flip_steps.specs.Memory.{AreForms, IsRemembered, count_of}
 use Rattle.flip_steps.proofs.MemoryLemmas.{forms_later}
 use Rattle.equality_blocks.specs.Made.{AreMadeSteps, IsMadeFor, IsMadeStep, IsPlacedFor, StandsForMade}

@@ -1,10 +1,9 @@
 -- Private. The steps in the place of an assume, whole.
-use Rattle.std.proofs.Common.{◌≡◌, ◌≤◌, ◌+◌, ◌*◌, ◌⊎◌, inl, inr, ℕ, Bool, false, not, List, [], ◌∷◌, ◌++◌, flat_map, length, Contains, Option, None, Some, Result, Ok, refl, sym, ◌∙◌, ap, subst, arith, length-append}
+use Rattle.std.proofs.Common.{◌≡◌, ◌+◌, ◌⊎◌, inl, inr, ℕ, Bool, false, not, List, [], ◌∷◌, flat_map, length, Contains, Option, None, Some, refl, sym, ◌∙◌, ap, subst, length-append}
 use Rattle.std.proofs.lemmas.List.Elements.{All-cons, All-nil, Contains-append_left}
-use Rattle.term_model.proofs.Lists.{contains_cases, contains_head, contains_later, contains_none}
-use Rattle.term_model.specs.Flips.{equality}
+use Rattle.term_model.proofs.Lists.{contains_cases, contains_head, contains_none}
 use Rattle.term_model.specs.Terms.{Term, not_of}
-use Rattle.term_pool.specs.Views.{TermsView, KeepsTerms, RefersTo, ReferToAll}
+use Rattle.term_pool.specs.Views.{TermsView, KeepsTerms, RefersTo}
 use Rattle.term_pool.proofs.TermLemmas.{equal_where}
 use Rattle.pair_pool.specs.Views.{IsOneToOne}
 use Rattle.sym_table.specs.Table.{IsTable}
@@ -16,13 +15,12 @@ use Rattle.rule_model.specs.Resolution.{IsResolvent, with_sign}
 use Rattle.equality_steps.specs.declared.site.Site.{Site}
 use Rattle.equality_steps.specs.Blocks.{Adds, EndsBy, Extends, IsBlockAt}
 use Rattle.equality_steps.specs.Given.{AreOpposed, HasEachLiteral}
-use Rattle.equality_steps.specs.Links.{LinkEquates, LinkSays}
+use Rattle.equality_steps.specs.Links.{LinkEquates}
 use Rattle.equality_steps.specs.Sites.{AreLiteralsAt, IsLiteralAt}
 use Rattle.flip_steps.specs.Memory.{IsEquatedBy}
 use Rattle.flip_steps.proofs.OrderLemmas.{refers_later}
-use Rattle.flip_steps.proofs.UnitLemmas.{extends_itself}
 use Rattle.equality_blocks.specs.Blocks.{IsBlockFor}
-use Rattle.equality_blocks.specs.Commands.{IsLiteralOfCommand, IsToElaborate, clause_of_command, literals_of_command}
+use Rattle.equality_blocks.specs.Commands.{IsLiteralOfCommand, IsToElaborate, clause_of_command}
 use Rattle.equality_blocks.specs.Counts.{IsFew}
 use Rattle.equality_blocks.specs.Made.{IsMadeFor, StandsForMade, literal, stated}
 use Rattle.equality_blocks.proofs.EndLemmas.{block_for, ends_in_literal}
@@ -30,7 +28,7 @@ use Rattle.term_pool.proofs.ReadingLemmas.{keeps-same}
 use Rattle.elab_equality.specs.declared.work.Work.{Work}
 use Rattle.elab_equality.specs.Assuming.{AreMadeLiterals, IsNegation, SaysImplied, SaysNoOther, SaysUnit}
 use Rattle.elab_equality.specs.Work.{IsWork}
-use Rattle.elab_equality.proofs.AssertLemmas.{made_both, made_one, no_pivots, step_move}
+use Rattle.elab_equality.proofs.AssertLemmas.{made_one, no_pivots, step_move}
 use Rattle.elab_equality.proofs.LiteralsHere.{literal_fits}
 use Rattle.elab_equality.proofs.WorkLemmas.{links_stay}
 

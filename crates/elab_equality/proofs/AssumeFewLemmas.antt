@@ -1,20 +1,19 @@
 -- Private. How many steps there are in the place of an assume.
-use Rattle.std.proofs.Common.{◌≡◌, ◌≤◌, ◌+◌, ◌*◌, ◌⊎◌, inl, inr, ℕ, List, [], ◌∷◌, ◌++◌, length, Contains, Result, Ok, refl, sym, ◌∙◌, ap, subst, arith}
+use Rattle.std.proofs.Common.{◌≡◌, ◌≤◌, ◌+◌, ◌*◌, inl, inr, ℕ, List, [], ◌∷◌, ◌++◌, length, Contains, Ok, refl, sym, ◌∙◌, ap, subst, arith}
 use Rattle.std.proofs.lemmas.List.Elements.{Contains-append_cases, Contains-append_left, Contains-append_right}
 use Rattle.pair_pool.specs.Trees.{Tree}
 use Rattle.term_model.proofs.Lists.{contains_cases, contains_head, contains_later, contains_none, same_one}
 use Rattle.term_model.specs.Flips.{EqualUpToFlips}
 use Rattle.term_model.specs.Terms.{Term}
-use Rattle.term_parts.specs.declared.answers.RuleStop.{RuleStop}
 use Rattle.term_pool.specs.CellCounts.{CountsCells}
-use Rattle.term_pool.specs.Views.{TermsView, IsTerm, KnowsAll, RefersTo}
+use Rattle.term_pool.specs.Views.{TermsView, IsTerm, KnowsAll}
 use Rattle.term_pool.proofs.TermLemmas.{equal_where}
 use Rattle.rule_model.specs.declared.rules.Rule.{Rule}
 use Rattle.equality_steps.specs.declared.site.Site.{Site}
 use Rattle.flip_steps.specs.Memory.{IsCellWithinAny, IsRemembered, count_of}
-use Rattle.equality_blocks.specs.Commands.{IsToElaborate, clause_of_command, literals_of_command, rule_of_command}
+use Rattle.equality_blocks.specs.Commands.{IsToElaborate, literals_of_command, rule_of_command}
 use Rattle.equality_blocks.specs.Counts.{IsFew, IsRootOf, asserted, literal, side}
-use Rattle.equality_blocks.specs.Pairs.{IsFirstAsserted, IsOther}
+use Rattle.equality_blocks.specs.Pairs.{IsFirstAsserted}
 use Rattle.equality_blocks.proofs.FewLemmas.{few_of}
 use Rattle.elab_equality.specs.declared.work.Work.{Work}
 use Rattle.elab_equality.specs.Assuming.{IsAssumedBy}

@@ -1,18 +1,21 @@
 -- Private. What an assume takes from the assertions.
-use Rattle.std.proofs.Common.{◌≡◌, ◌<◌, ◌≤◌, ◌+◌, ◌⊎◌, ◌↔◌, inl, inr, ℕ, Bool, true, false, List, [], ◌∷◌, ◌++◌, take, drop, get_or, length, flat_map, slice_get, Option, Some, None, Contains, IsTrue}
+use Rattle.std.proofs.Common.{◌≡◌, ◌<◌, ◌+◌, inl, inr, ℕ, zero, suc, false, List, [], ◌∷◌, ◌++◌, take, drop, get_or, length, flat_map, slice_get, Option, Some, None, IfSome, IfNone, Any, Contains}
 use Rattle.std.proofs.Common.{refl, sym, ◌∙◌, ap, subst, arith}
 use Rattle.std.proofs.lemmas.Bool.{true≢false}
-use Rattle.std.proofs.lemmas.List.{drop_more, take-append-drop, take_all, take_more}
-use Rattle.std.proofs.lemmas.List.Elements.{All-contains, Contains-append_cases, Contains-append_left, Contains-append_right}
+use Rattle.std.proofs.lemmas.List.{drop_more, take-append-drop}
+use Rattle.std.proofs.lemmas.List.Elements.{All-contains, Contains-append_left, Contains-append_right}
+use Rattle.std.proofs.lemmas.Option.{slice_get_read}
+use Rattle.term_model.proofs.Basics.{same_some}
 use Rattle.term_model.proofs.Lists.{contains_cases, contains_head, contains_none, nth_there}
-use Rattle.term_model.specs.Flips.{equality, EqualUpToFlips}
+use Rattle.term_model.specs.Flips.{EqualUpToFlips}
 use Rattle.term_model.specs.Terms.{Term, not_of}
 use Rattle.term_pool.specs.Views.{TermsView, IsTerm, KeepsTerms, RefersTo, ReferToAll}
-use Rattle.term_pool.proofs.TermLemmas.{equal_where}
+use Rattle.flip_keys.specs.Assertions.{IsFirstLike}
+use Rattle.flip_keys.proofs.FirstPlaces.{term_there}
 use Rattle.rule_model.specs.declared.rules.Mode.{Mode}
 use Rattle.rule_model.specs.declared.rules.Rule.{Rule}
 use Rattle.rule_model.specs.declared.statuses.Status.{Status}
-use Rattle.rule_model.specs.Commands.{IndexedCommand, assume, step, closing, Line, lines_in, closed_scope}
+use Rattle.rule_model.specs.Commands.{IndexedCommand, assume, step, closing, lines_in, closed_scope}
 use Rattle.rule_model.specs.Proofs.{ProofItems}
 use Rattle.rule_model.specs.Reading.{clause_at, clause_of, closes_at, is_assume, premises_at, rule_at, rule_of}
 use Rattle.rule_model.specs.Scopes.{Nesting, outermost, inside, Scope, at}
@@ -27,23 +30,35 @@ use Rattle.equality_steps.specs.declared.site.Site.{Site}
 use Rattle.equality_steps.specs.Sites.{IsLiteralAt}
 use Rattle.flip_steps.specs.Subterms.{whole}
 use Rattle.flip_steps.proofs.OrderLemmas.{refers_later}
-use Rattle.equality_ways.proofs.Places.{zip_contained}
 use Rattle.equality_blocks.specs.Commands.{IsToElaborate, IsClosedTruth, IsLiteralOfCommand, clause_of_command, in_check_mode, literals_of_command, rule_of_command}
 use Rattle.equality_blocks.specs.Counts.{asserted as root_asserted, literal as root_literal}
 use Rattle.equality_blocks.specs.Made.{denied as made_denied, left as pair_left, literal as made_literal, paired as made_paired, stated as made_stated}
-use Rattle.equality_blocks.specs.Pairs.{ArePaired, IsFirstAsserted, IsOther, assumed as linked_assumed, linked as pair_linked}
+use Rattle.equality_blocks.specs.Pairs.{ArePaired, IsFirstAsserted, assumed as linked_assumed, linked as pair_linked}
 use Rattle.equality_blocks.proofs.LiteralLemmas.{referred_among}
 use Rattle.equality_blocks.proofs.StayLemmas.{made_later}
-use Rattle.elab_equality.specs.Assuming.{AreMadeLiterals, AreOthers, IsAssumedBy, MayBeAsserted}
+use Rattle.elab_equality.specs.Assuming.{AreMadeLiterals, IsAssumedBy, IsDeniable, MayBeAsserted}
 use Rattle.elab_equality.specs.Linked.{AreFlips}
 use Rattle.elab_equality.specs.Walking.{HasOneLiteral}
 use Rattle.elab_equality.proofs.LiteralTerms.{literal_term, refers_there}
 use Rattle.elab_equality.proofs.LiteralsHere.{literal_fits}
 
--- whether the term of q is equal up to flips to the one that is assumed
-abbrev pub IsLikeWhere : Site → TermsView → ℕ → Bool → ℕ → Type 0
-IsLikeWhere p v assumed is q =
-    (t u : Term) → RefersTo p.symbols.now v q t → RefersTo p.symbols.now v assumed u → IsTrue is ↔ EqualUpToFlips t u
+-- what is told of a place that is found, and of none
+pub told_some : (P : ℕ → Type 0) (found : Option ℕ) (place : ℕ) → found ≡ Some place → IfSome found P → P place
+told_some P None place e h = absurd (cc)
+told_some P (Some n) place e h = subst P (same_some e) h
+
+pub told_none : (A : Type 0) (found : Option ℕ) → found ≡ None → IfNone found A → A
+told_none A None e h = h
+told_none A (Some n) e h = absurd (cc)
+
+-- an item before a place
+before_there : (xs : List ℕ) (k q : ℕ) → Contains (take k xs) q → (n : ℕ) × (n < k) × (slice_get xs n ≡ Some q)
+before_there xs zero q has = absurd (contains_none q has)
+before_there [] (suc k) q has = absurd (contains_none q has)
+before_there (x ∷ xs) (suc k) q has = elim (contains_cases x q (take k xs) has) [
+  | inl same ↦ (0, omega arith, ap Some same)
+  | inr later ↦ (let n = before_there xs k q later in let below = n.1 in (suc n.0, omega arith, n.2))
+]
 
 -- an assume has one literal, and closes nothing
 pub record IsAssume (p : Site) : Type 0 where
@@ -98,33 +113,13 @@ module _ (p : Site) (v : TermsView) (h : IsToElaborate p v) (rule : rule_of_comm
         (Contains-append_left (clause_of_command p) (flat_map (clause_at p.proof.now) (premises_at p.proof.now p.command)) assumed
         (subst (λ rs. Contains rs assumed) (sym clause) (contains_head assumed [])))
 
-    pub asserted_term : (r : ℕ) → Contains p.asserted.now r → IsTerm p.symbols.now v r
-    asserted_term r has = refers_there p v p.asserted.now h.assertions r h.asserted has
-
-    pub others_none : AreOthers p v assumed []
-    others_none u q refers has = absurd (contains_none q has)
-
-    pub others_more : (k q : ℕ) → k < length p.asserted.now → q ≡ get_or p.asserted.now k q → AreOthers p v assumed (take k p.asserted.now) → IsTerm p.symbols.now v q
-        → IsLikeWhere p v assumed false q → AreOthers p v assumed (take (k + 1) p.asserted.now)
-    others_more k q below is before term like =
-        subst (AreOthers p v assumed) (sym (take_more p.asserted.now k q below ∙ ap (λ x. take k p.asserted.now ++ x ∷ []) (sym is))) go
-      where
-        last : (u : Term) → RefersTo p.symbols.now v assumed u → IsOther p v u q
-        last u refers = record { term = term.means; refers = term.refers; differs = λ e. true≢false (sym ((like term.means u term.refers refers).1 e)) }
-
-        go : AreOthers p v assumed (take k p.asserted.now ++ q ∷ [])
-        go u r refers has = elim (Contains-append_cases (take k p.asserted.now) (q ∷ []) r has) [
-          | inl early ↦ before u r refers early
-          | inr late ↦ elim (contains_cases q r [] late) [
-            | inl same ↦ subst (IsOther p v u) same (last u refers)
-            | inr none ↦ absurd (contains_none r none)
-          ]
-        ]
-
-    pub first_found : (k q : ℕ) → k < length p.asserted.now → q ≡ get_or p.asserted.now k q → AreOthers p v assumed (take k p.asserted.now) → IsTerm p.symbols.now v q
-        → IsLikeWhere p v assumed true q → IsAssumedBy p v q assumed
-    first_found k q below is before term like =
+    pub first_found : (place q : ℕ) → place < length p.asserted.now → q ≡ get_or p.asserted.now place q
+        → ((u : Term) → RefersTo p.symbols.now v assumed u → IsFirstLike h.assertions u place) → IsAssumedBy p v q assumed
+    first_found place q below is first =
         let t = assumed_term in
+        let found = first t.means t.refers in
+        let there = slice_get_read p.asserted.now (length p.asserted.now) place q refl below is in
+        let a = term_there p.symbols.now v p.asserted.now h.assertions place q h.asserted there in
         record {
           term = t.means;
           clause = clause;
@@ -134,33 +129,28 @@ module _ (p : Site) (v : TermsView) (h : IsToElaborate p v) (rule : rule_of_comm
             assumed = assumed;
             clause = clause;
             assumed_refers = t.refers;
-            before = take k p.asserted.now;
-            after = drop (k + 1) p.asserted.now;
-            asserted = sym (take-append-drop k p.asserted.now)
-                ∙ ap (λ xs. take k p.asserted.now ++ xs) (drop_more p.asserted.now k q below ∙ ap (λ x. x ∷ drop (k + 1) p.asserted.now) (sym is));
-            others = λ r has. before t.means r t.refers has;
-            term = term.means;
-            refers = term.refers;
-            equal = (like term.means t.means term.refers t.refers).0 refl;
+            before = take place p.asserted.now;
+            after = drop (place + 1) p.asserted.now;
+            asserted = sym (take-append-drop place p.asserted.now)
+                ∙ ap (λ xs. take place p.asserted.now ++ xs)
+                (drop_more p.asserted.now place q below ∙ ap (λ x. x ∷ drop (place + 1) p.asserted.now) (sym is));
+            others = λ r has.
+                let n = before_there p.asserted.now place r has in
+                let o = term_there p.symbols.now v p.asserted.now h.assertions n.0 r h.asserted n.2 in
+                record { term = o.0; refers = o.2; differs = found.others n.0 o.0 n.1 o.1 };
+            term = a.0;
+            refers = a.2;
+            equal = subst (λ x. EqualUpToFlips x t.means) (same_some (sym found.there ∙ a.1)) found.equal;
           };
         }
 
-    pub not_all : AreOthers p v assumed p.asserted.now → ⊥
-    not_all others =
+    -- some assertion is equal to the term
+    pub some_alike : ((u : Term) → RefersTo p.symbols.now v assumed u → ¬ Any (λ a. EqualUpToFlips a u) h.assertions) → ⊥
+    some_alike none =
         let k = asserted_alike assumed clause (clause_at h.proof p.command) refl
         (subst (λ rs. ReferToAll p.symbols.now v rs (clause_at h.proof p.command)) clause
         (clause_stands p.symbols.now v p.proof.now h.proof h.stand p.command)) in
-        go k.0 k.1 k.2
-      where
-        go : (u : Term) → RefersTo p.symbols.now v assumed u → IsAsserted Mode.Check h.assertions u → ⊥
-        go u refers (k, a, below, same, flips) =
-            let found = zip_contained (RefersTo p.symbols.now v) p.asserted.now h.assertions a h.asserted (k, below, same) in
-            let other = others u found.0 refers found.1 in
-            other.differs (subst (λ x. EqualUpToFlips x u)
-            ((equal_where p.symbols.now v h.table h.known found.0 found.0 a other.term found.2 other.refers).0 refl) flips)
-
-    pub not_past : (k : ℕ) → length p.asserted.now ≤ k → AreOthers p v assumed (take k p.asserted.now) → ⊥
-    not_past k past others = not_all (subst (AreOthers p v assumed) (take_all k p.asserted.now past) others)
+        none k.0 k.1 k.2
 
 -- the first one and the term may be joined
 module _ (p : Site) (v : TermsView) (h : IsToElaborate p v) (rule : rule_of_command p ≡ Rule.Assume) (first assumed : ℕ) (k : IsAssumedBy p v first assumed) where
@@ -235,6 +225,10 @@ module _ (p : Site) (v : TermsView) (h : IsToElaborate p v) (rule : rule_of_comm
     denied_made = made_denied k.first_is.term (made_paired k.first_is.term k.term k.first_is.term paired_here pair_left);
     right_made = made_stated k.term (made_literal k.term assumed_literal);
   }
+
+-- the negation of the first one is made, too
+pub deniable : (p : Site) (v : TermsView) (a b : ℕ) → AreMadeLiterals p v a b → IsDeniable p v a
+deniable p v a b h = record { term = h.left; refers = h.left_refers; made = h.denied_made }
 
 -- these go on being so as more terms are known
 module _ (p : Site) (v w : TermsView) (keeps : KeepsTerms v w) where

@@ -1,20 +1,19 @@
 -- Private. A let binds no more variables than its command has cells, so the steps in the place of a step by let are few.
-use Rattle.std.proofs.Common.{◌≡◌, ◌<◌, ◌≤◌, ◌+◌, ◌*◌, ◌⊎◌, inl, inr, ℕ, zero, suc, List, [], ◌∷◌, ◌++◌, length, map, flat_map, slice_get, Some, Contains}
+use Rattle.std.proofs.Common.{◌≡◌, ◌≤◌, ◌+◌, ◌*◌, ◌⊎◌, inl, inr, ℕ, zero, suc, List, [], ◌∷◌, ◌++◌, length, flat_map, slice_get, Some, Contains}
 use Rattle.std.proofs.Common.{refl, sym, ◌∙◌, ap, subst, arith}
 use Rattle.std.proofs.lemmas.List.{length-append}
-use Rattle.std.proofs.lemmas.List.Elements.{Contains-append_cases, Contains-append_left}
-use Rattle.std.specs.List.{AllZip}
+use Rattle.std.proofs.lemmas.List.Elements.{Contains-append_left}
 use Rattle.pair_pool.specs.Trees.{Tree, leaf, cell}
 use Rattle.pair_pool.specs.Views.{HasPartsOfTrees, IsOneToOne, Knows, PassView}
 use Rattle.sym_table.specs.Table.{Table, IsTable}
 use Rattle.term_model.proofs.Lists.{contains_cases, contains_head, contains_none}
 use Rattle.term_model.specs.Flips.{equality}
 use Rattle.term_model.specs.FreeVariables.{bound_terms}
-use Rattle.term_model.specs.Terms.{Var, Term, Bindings, no_bindings, binding, let_in}
+use Rattle.term_model.specs.Terms.{Term, Bindings, no_bindings, binding, let_in}
 use Rattle.term_pool.specs.CellCounts.{Has, AreApart, CountsCells, IsPartOfAny}
 use Rattle.term_pool.specs.StandsFor.{StandsFor, StandsForBindings}
 use Rattle.term_pool.specs.Trees.{IsCellTree, IsPartOf}
-use Rattle.term_pool.specs.Views.{TermsView, IsTerm, KeepsTerms, KnowsAll, RefersTo, ReferToAll}
+use Rattle.term_pool.specs.Views.{TermsView, KeepsTerms, KnowsAll, ReferToAll}
 use Rattle.term_pool.proofs.Keeping.{part-refl, part-trans}
 use Rattle.proof_store.specs.AddedSteps.{AddedStep}
 use Rattle.proof_store.specs.declared.added.Link.{Link}

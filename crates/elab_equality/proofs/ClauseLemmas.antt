@@ -1,12 +1,10 @@
 -- Private. What a command by trans or refl states, and that its premises lead from side to side.
-use Rattle.std.proofs.Common.{◌≡◌, ◌≤◌, ◌+◌, ◌*◌, ◌⊎◌, inl, inr, ℕ, List, [], ◌∷◌, ◌++◌, length, map, flat_map, Contains, None, refl, sym, ◌∙◌, ap, subst, arith}
-use Rattle.std.specs.List.{AllZip}
+use Rattle.std.proofs.Common.{◌≡◌, ◌≤◌, ◌+◌, ℕ, List, [], ◌∷◌, length, flat_map, Contains, None, refl, sym, ◌∙◌, subst, arith}
 use Rattle.std.proofs.lemmas.List.{length-append}
 use Rattle.std.proofs.lemmas.List.Elements.{Contains-append_left}
 use Rattle.term_model.proofs.Lists.{contains_head, contains_none, same_one}
-use Rattle.term_model.specs.Flips.{equality, EqualUpToFlips}
+use Rattle.term_model.specs.Flips.{equality}
 use Rattle.term_model.specs.Terms.{Term}
-use Rattle.term_pool.specs.CellCounts.{CountsCells}
 use Rattle.term_pool.specs.Views.{TermsView, RefersTo, ReferToAll}
 use Rattle.term_pool.proofs.OneTerm.{one_term}
 use Rattle.term_pool.proofs.TermLemmas.{equal_where}
@@ -14,22 +12,17 @@ use Rattle.rule_model.specs.declared.kinds.Family.{Family}
 use Rattle.rule_model.specs.declared.rules.Mode.{Mode}
 use Rattle.rule_model.specs.declared.rules.Rule.{Rule}
 use Rattle.rule_model.specs.Congruence.{AreSides, Equates, IsConnected, IsWay}
-use Rattle.rule_model.specs.Contexts.{images}
-use Rattle.rule_model.specs.Judged.{anchors_at}
 use Rattle.rule_model.specs.Reading.{clause_at, closes_at, premises_at, premise_clauses}
-use Rattle.rule_model.specs.Refl.{MeetsRefl}
-use Rattle.rule_model.specs.Substitution.{put_in}
 use Rattle.elaboration_laws.proofs.Ones.{one_list}
 use Rattle.elaboration_laws.proofs.Reading.{clause_stands}
 use Rattle.equality_steps.specs.declared.site.Site.{Site}
-use Rattle.equality_steps.specs.Sites.{AreSides as MayBeEquated, IsLiteralAt}
+use Rattle.equality_steps.specs.Sites.{AreSides as MayBeEquated}
 use Rattle.equality_steps.proofs.SiteLemmas.{sides_fit}
-use Rattle.equality_blocks.specs.Commands.{IsToElaborate, IsLiteralOfCommand, clause_of_command, literals_of_command, rule_of_command}
+use Rattle.equality_blocks.specs.Commands.{IsToElaborate, IsLiteralOfCommand, clause_of_command, rule_of_command}
 use Rattle.equality_blocks.specs.Counts.{IsFew}
-use Rattle.equality_blocks.specs.Pairs.{AreEquated}
 use Rattle.equality_blocks.proofs.ConditionLemmas.{closes_nothing, met_rule}
 use Rattle.elab_equality.specs.Linked.{ArePremises}
-use Rattle.elab_equality.specs.Walking.{AreSidesGiven, IsClauseOfSides, StatesEquality}
+use Rattle.elab_equality.specs.Walking.{IsClauseOfSides, StatesEquality}
 use Rattle.elab_equality.proofs.GivenLemmas.{premises_stand}
 use Rattle.elab_equality.proofs.LiteralsHere.{literal_fits}
 

@@ -1,34 +1,27 @@
 -- Private. A step by let in check mode: what it binds is linked by premises, so it is a closing step in strict mode over links.
-use Rattle.std.proofs.Common.{◌≡◌, ◌≢◌, ◌<◌, ◌≤◌, ◌+◌, ◌*◌, ◌⊎◌, inl, inr, ℕ, zero, suc, false, List, [], ◌∷◌, ◌++◌, length, map, flat_map}
-use Rattle.std.proofs.Common.{get_or, take, slice_get, Option, Some, None, IsSome, All, Contains, Result, Ok, refl, sym, ◌∙◌, ap, subst, arith}
-use Rattle.std.proofs.lemmas.List.{take_all, take_more, length-append, map-append}
+use Rattle.std.proofs.Common.{◌≡◌, ◌<◌, ◌≤◌, ◌+◌, ◌*◌, ◌⊎◌, inl, inr, ℕ, false, List, [], ◌∷◌, ◌++◌, length, map, flat_map}
+use Rattle.std.proofs.Common.{get_or, take, Option, Some, None, IsSome, All, Contains, Ok, refl, sym, ◌∙◌, ap, subst, arith}
+use Rattle.std.proofs.lemmas.List.{take_all, take_more, map-append}
 use Rattle.std.proofs.lemmas.List.Elements.{All-cons, All-nil, Contains-append_left, Contains-append_right}
 use Rattle.std.specs.List.{AllZip}
 use Rattle.std.specs.Option.{option_to_list}
-use Rattle.pair_pool.specs.Views.{IsOneToOne}
-use Rattle.sym_table.specs.Table.{Table, IsTable}
+use Rattle.sym_table.specs.Table.{Table}
 use Rattle.term_model.proofs.Basics.{same_some}
 use Rattle.term_model.proofs.Lists.{contains_cases, contains_head, contains_later, contains_none}
 use Rattle.term_model.proofs.Zips.{zip_at, zip_length}
 use Rattle.term_model.specs.Flips.{equality}
 use Rattle.term_model.specs.FreeVariables.{bound_terms}
 use Rattle.term_model.specs.Terms.{Var, Term, Bindings, no_bindings, binding, let_in}
-use Rattle.term_parts.specs.declared.answers.RuleStop.{RuleStop}
 use Rattle.term_pool.specs.Bindings.{IsBindingOf}
 use Rattle.term_pool.specs.Building.{AreBindings}
-use Rattle.term_pool.specs.Reading.{arguments_of}
 use Rattle.term_pool.specs.Views.{TermsView, KeepsTerms, RefersTo, ReferToAll}
 use Rattle.term_pool.proofs.TermLemmas.{equal_where}
 use Rattle.proof_store.specs.AddedSteps.{AddedStep}
 use Rattle.proof_store.specs.declared.added.Link.{Link}
-use Rattle.proof_store.specs.Meaning.{StandForItems}
-use Rattle.rule_model.specs.declared.kinds.Family.{Family}
-use Rattle.rule_model.specs.declared.kinds.Kind.{Kind}
 use Rattle.rule_model.specs.declared.rules.Mode.{Mode}
 use Rattle.rule_model.specs.declared.rules.Rule.{Rule}
 use Rattle.rule_model.specs.declared.statuses.Status.{Status}
 use Rattle.rule_model.specs.Conditions.{MeetsClosing, MeetsRule, MeetsWhere}
-use Rattle.rule_model.specs.Congruence.{AreDifferences}
 use Rattle.rule_model.specs.Congruence.{AreSides as AreSidesOfPremise}
 use Rattle.rule_model.specs.Judged.{judged_at}
 use Rattle.rule_model.specs.Proofs.{ProofItems}
@@ -45,9 +38,9 @@ use Rattle.equality_steps.proofs.SiteLemmas.{sides_fit, sides_turned}
 use Rattle.equality_steps.proofs.StepLemmas.{refer_later}
 use Rattle.equality_ways.proofs.Places.{zip_contained}
 use Rattle.flip_steps.specs.Memory.{IsEquatedBy}
-use Rattle.flip_steps.specs.Subterms.{IsWithin, whole, argument}
+use Rattle.flip_steps.specs.Subterms.{whole, argument}
 use Rattle.equality_blocks.specs.Blocks.{IsClosingStep}
-use Rattle.equality_blocks.specs.Commands.{IsToElaborate, IsLiteralOfCommand, clause_of_command, in_check_mode, literals_of_command, rule_of_command}
+use Rattle.equality_blocks.specs.Commands.{IsToElaborate, IsLiteralOfCommand, clause_of_command, in_check_mode, rule_of_command}
 use Rattle.equality_blocks.specs.Counts.{literal}
 use Rattle.equality_blocks.specs.Pairs.{ArePaired, linked}
 use Rattle.equality_blocks.specs.Pairs as pairs
@@ -58,7 +51,7 @@ use Rattle.elab_equality.specs.declared.work.Work.{Work}
 use Rattle.elab_equality.specs.Linked.{AreLinkedBy, IsInCommand, IsPair}
 use Rattle.elab_equality.specs.Work.{IsDone, IsWork}
 use Rattle.elab_equality.proofs.GivenLemmas.{premises_stand}
-use Rattle.elab_equality.proofs.LinkLemmas.{AreSaid, linked_later, linked_more, linked_said, pair_later}
+use Rattle.elab_equality.proofs.LinkLemmas.{linked_later, linked_more, linked_said, pair_later}
 use Rattle.elab_equality.proofs.LiteralsHere.{literal_fits}
 use Rattle.elab_equality.proofs.ReadLemmas.{IsEquation}
 use Rattle.elab_equality.proofs.WorkLemmas.{done_none, done_then}

@@ -1,16 +1,11 @@
 -- Private. The steps in the place of a cong.
-use Rattle.std.proofs.Common.{◌≡◌, ◌≢◌, ◌≤◌, ◌+◌, ◌*◌, ℕ, List, [], ◌∷◌, length, refl, sym, ◌∙◌, ap, subst, arith}
-use Rattle.std.specs.List.{AllZip}
+use Rattle.std.proofs.Common.{◌≡◌, ◌≤◌, ◌+◌, ◌*◌, ℕ, List, [], ◌∷◌, length, refl, sym, ◌∙◌, ap, subst, arith}
 use Rattle.pair_pool.specs.Trees.{Tree}
-use Rattle.pair_pool.specs.Views.{IsOneToOne}
-use Rattle.sym_table.specs.Table.{IsTable}
 use Rattle.term_model.specs.Flips.{equality}
-use Rattle.term_model.specs.Terms.{Term}
 use Rattle.term_model.proofs.Zips.{zip_length, zip_weaken}
 use Rattle.term_pool.specs.CellCounts.{CountsCells}
 use Rattle.term_pool.specs.Views.{TermsView, KeepsTerms, KnowsAll, RefersTo, ReferToAll}
 use Rattle.term_pool.proofs.TermLemmas.{equal_where}
-use Rattle.proof_store.specs.AddedSteps.{AddedStep}
 use Rattle.rule_model.specs.declared.rules.Rule.{Rule}
 use Rattle.rule_model.specs.Congruence.{applied}
 use Rattle.rule_model.specs.Reading.{premise_clauses}
@@ -19,9 +14,8 @@ use Rattle.equality_steps.proofs.StepLemmas.{refer_later}
 use Rattle.flip_steps.specs.Memory.{IsCellWithinAny, IsRemembered, count_of}
 use Rattle.flip_steps.proofs.OrderLemmas.{refers_later}
 use Rattle.equality_blocks.specs.Blocks.{EndsInClause, IsBlockFor}
-use Rattle.equality_blocks.specs.Commands.{IsToElaborate, clause_of_command, rule_of_command}
+use Rattle.equality_blocks.specs.Commands.{IsToElaborate, rule_of_command}
 use Rattle.equality_blocks.proofs.EndLemmas.{block_for}
-use Rattle.equality_blocks.proofs.StayLemmas.{command_later}
 use Rattle.elab_equality.specs.declared.matching.Applications.{Applications}
 use Rattle.elab_equality.specs.declared.work.Work.{Work}
 use Rattle.elab_equality.specs.Linked.{EndsIn}

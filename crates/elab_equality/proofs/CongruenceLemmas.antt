@@ -1,17 +1,13 @@
 -- Private. What a cong that is Ok in check mode is, and the steps in its place.
-use Rattle.std.proofs.Common.{◌≡◌, ◌≢◌, ◌<◌, ◌≤◌, ◌+◌, ◌*◌, ◌⊎◌, inl, inr, ℕ, Bool, true, false, List, [], ◌∷◌, ◌++◌, length, Option, Some, None, Contains, flat_map, map, refl, sym, ◌∙◌, ap, subst, arith, length-append}
-use Rattle.std.specs.List.{AllZip}
+use Rattle.std.proofs.Common.{◌≡◌, ◌≢◌, ◌≤◌, ◌+◌, ◌*◌, ℕ, List, [], ◌∷◌, length, None, Contains, flat_map, refl, sym, ◌∙◌, ap, subst, arith}
 use Rattle.pair_pool.specs.Trees.{Tree}
-use Rattle.pair_pool.specs.Views.{HasPartsOfTrees, IsOneToOne}
+use Rattle.pair_pool.specs.Views.{IsOneToOne}
 use Rattle.sym_table.specs.Table.{IsTable}
-use Rattle.term_model.proofs.Lists.{contains_cases, contains_head, contains_later, contains_none}
-use Rattle.term_model.proofs.Zips.{zip_length}
+use Rattle.term_model.proofs.Lists.{contains_head}
 use Rattle.term_model.specs.Flips.{equality}
 use Rattle.term_model.specs.Terms.{Term}
 use Rattle.term_pool.specs.CellCounts.{CountsCells}
-use Rattle.term_pool.specs.Reading.{arguments_of}
-use Rattle.term_pool.specs.Views.{TermsView, IsTerm, KnowsAll, RefersTo, ReferToAll}
-use Rattle.proof_store.specs.AddedSteps.{AddedStep}
+use Rattle.term_pool.specs.Views.{TermsView, KnowsAll, RefersTo, ReferToAll}
 use Rattle.rule_model.specs.declared.kinds.Family.{Family}
 use Rattle.rule_model.specs.declared.rules.Mode.{Mode}
 use Rattle.rule_model.specs.declared.rules.Rule.{Rule}
@@ -19,19 +15,15 @@ use Rattle.rule_model.specs.Congruence.{AreCongruent, AreLinked, Equates, HangTo
 use Rattle.rule_model.specs.Reading.{clause_at, premises_at, premise_clauses, closes_at}
 use Rattle.elaboration_laws.proofs.Reading.{clause_stands}
 use Rattle.equality_steps.specs.declared.site.Site.{Site}
-use Rattle.equality_steps.specs.Sites.{IsSite}
-use Rattle.flip_steps.specs.declared.forms.Forms.{Forms}
 use Rattle.flip_steps.specs.Memory.{IsCellWithinAny, IsRemembered, count_of}
 use Rattle.flip_steps.specs.Subterms.{IsWithin, whole, argument}
 use Rattle.equality_blocks.specs.Commands.{IsToElaborate, clause_of_command, literals_of_command, rule_of_command}
-use Rattle.equality_blocks.specs.Counts.{IsCellOf, IsFew, IsRootOf, asserted, literal, side}
+use Rattle.equality_blocks.specs.Counts.{IsFew, IsRootOf, asserted, literal, side}
 use Rattle.equality_blocks.proofs.ConditionLemmas.{closes_nothing, met_rule}
 use Rattle.equality_blocks.proofs.FewLemmas.{few_of, few_places}
-use Rattle.equality_ways.proofs.Places.{contains_in_either, contains_of_left}
-use Rattle.elab_equality.specs.declared.matching.Applications.{Applications}
+use Rattle.equality_ways.proofs.Places.{contains_of_left}
 use Rattle.elab_equality.specs.declared.work.Work.{Work}
 use Rattle.elab_equality.specs.Linked.{ArePremises}
-use Rattle.elab_equality.specs.Matching.{AreApplications}
 use Rattle.elab_equality.specs.Work.{IsWork}
 use Rattle.elab_equality.proofs.ApplicationLemmas.{arguments_are}
 use Rattle.elab_equality.proofs.GivenLemmas.{premises_stand}

@@ -1,5 +1,5 @@
 -- Private. Whether arguments are linked place by place or crosswise, by tests of their places.
-use Rattle.std.proofs.Common.{◌≡◌, ◌≢◌, ◌⊎◌, ◌↔◌, inl, inr, ℕ, Bool, true, false, IsTrue, List, [], ◌∷◌, Result, Ok, Err, IfOk, refl, sym, ◌∙◌, ap, subst}
+use Rattle.std.proofs.Common.{◌≡◌, ◌≢◌, ◌⊎◌, ◌↔◌, inl, inr, ℕ, Bool, true, false, IsTrue, List, [], ◌∷◌, Result, Ok, Err, IfOk, refl, subst}
 use Rattle.std.specs.Bool.{OnFalse, OnTrue}
 use Rattle.std.specs.List.{AllZip}
 use Rattle.pair_pool.specs.Views.{IsOneToOne}
@@ -7,14 +7,14 @@ use Rattle.sym_table.specs.Table.{IsTable}
 use Rattle.term_model.specs.Flips.{EqualUpToFlips}
 use Rattle.term_model.specs.Terms.{Term}
 use Rattle.term_pool.specs.Views.{TermsView, IsTerm, RefersTo, ReferToAll}
-use Rattle.rule_model.specs.Congruence.{AreCrossed, AreLinked, IsLinked}
+use Rattle.rule_model.specs.Congruence.{AreCrossed, IsLinked}
 use Rattle.rule_model.specs.Congruence.{AreSides as AreSidesOfPremise}
 use Rattle.equality_steps.specs.declared.site.Site.{Site}
 use Rattle.equality_ways.specs.declared.pairs.Used.{Used}
 use Rattle.equality_ways.specs.declared.table.Table.{Table as WayTable}
 use Rattle.equality_ways.specs.Ways.{AreEnds, LeadsTo}
 use Rattle.elab_equality.specs.Linked.{ArePremises, IsGiven}
-use Rattle.elab_equality.specs.Matching.{AreCrossedArguments, AreLinkedArguments, AreMatchedArguments}
+use Rattle.elab_equality.specs.Matching.{AreCrossedArguments, AreMatchedArguments}
 use Rattle.elab_equality.proofs.GivenLemmas.{found_sides, none_sides}
 
 -- as many references as terms

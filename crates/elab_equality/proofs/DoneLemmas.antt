@@ -1,5 +1,5 @@
 -- Private. What calls do: more steps may be allowed for, and a call that reads places nothing.
-use Rattle.std.proofs.Common.{◌≡◌, ◌≤◌, ◌+◌, ◌*◌, ℕ, List, length, Result, Ok, Err, IfErr, IsErrAnd, sym, ◌∙◌, ap, arith}
+use Rattle.std.proofs.Common.{◌≡◌, ◌≤◌, ℕ, Result, Ok, Err, IfErr, IsErrAnd, sym, ◌∙◌, ap}
 use Rattle.term_model.specs.Terms.{Term}
 use Rattle.term_parts.specs.declared.answers.RuleStop.{RuleStop}
 use Rattle.term_pool.specs.Placing.{PlacesCellsOf}

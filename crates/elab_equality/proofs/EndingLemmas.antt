@@ -1,11 +1,8 @@
 -- Private. Work whose last step says what the clause does is in the place of the command.
-use Rattle.std.proofs.Common.{◌≡◌, ◌≤◌, ◌+◌, ◌*◌, ◌⊎◌, inl, inr, ℕ, List, [], ◌∷◌, ◌++◌, length, None, Result, Ok, Err, OnOk, refl, sym, ◌∙◌, ap, subst, arith}
-use Rattle.pair_pool.specs.Views.{IsOneToOne}
-use Rattle.sym_table.specs.Table.{IsTable}
+use Rattle.std.proofs.Common.{◌≡◌, inl, inr, ℕ, List, [], ◌∷◌, length, None, Result, Ok, Err, OnOk, refl, sym, ◌∙◌, ap, subst}
 use Rattle.term_model.specs.Flips.{equality}
-use Rattle.term_model.specs.Terms.{Term}
 use Rattle.term_parts.specs.declared.answers.RuleStop.{RuleStop}
-use Rattle.term_pool.specs.Views.{TermsView, KeepsTerms, RefersTo, ReferToAll}
+use Rattle.term_pool.specs.Views.{TermsView, KeepsTerms, ReferToAll}
 use Rattle.term_pool.proofs.TermLemmas.{equal_where}
 use Rattle.proof_store.specs.AddedSteps.{AddedStep}
 use Rattle.rule_model.specs.declared.rules.Rule.{Rule}

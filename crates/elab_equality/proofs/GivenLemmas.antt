@@ -1,5 +1,5 @@
 -- Private. The premises of a command, and when two arguments are linked by them.
-use Rattle.std.proofs.Common.{◌≡◌, ◌⊎◌, inl, inr, ℕ, Bool, true, false, List, [], ◌∷◌, map, slice_get, Option, Some, None, Contains, Result, Ok, Err, IfOk, refl, sym, ◌∙◌, ap, subst}
+use Rattle.std.proofs.Common.{◌≡◌, inl, inr, ℕ, Bool, true, false, List, [], ◌∷◌, map, Option, Some, Contains, Result, Ok, Err, IfOk, refl, ap, subst}
 use Rattle.std.specs.Bool.{OnFalse, OnTrue}
 use Rattle.std.specs.List.{AllZip}
 use Rattle.pair_pool.specs.Views.{IsOneToOne}
@@ -8,7 +8,6 @@ use Rattle.term_model.specs.Flips.{equality}
 use Rattle.term_model.specs.Terms.{Term}
 use Rattle.term_pool.specs.Views.{TermsView, RefersTo, ReferToAll}
 use Rattle.term_pool.proofs.TermLemmas.{equal_where}
-use Rattle.proof_store.specs.Meaning.{StandForItems}
 use Rattle.rule_model.specs.Congruence.{AreSides as AreSidesOfPremise}
 use Rattle.rule_model.specs.Reading.{clause_at, premises_at, premise_clauses}
 use Rattle.elaboration_laws.proofs.Reading.{clause_stands, premises_same}

@@ -1,15 +1,13 @@
 -- Private. What open anchors put in where a command belongs is closed and has the sorts of its variables, so a side with the images put
 -- in may stand there, and putting them in again changes nothing.
-use Rattle.std.proofs.Common.{◌≡◌, ◌⊎◌, inl, inr, ℕ, List, [], ◌∷◌, ◌++◌, slice_get, Option, Some, None, refl, sym, ◌∙◌, ap, subst, arith}
+use Rattle.std.proofs.Common.{◌≡◌, ℕ, List, [], ◌∷◌, ◌++◌, Option, Some, None, sym, ◌∙◌, subst, arith}
 use Rattle.std.specs.List.{AllByRecursion}
-use Rattle.pair_pool.specs.Views.{IsOneToOne}
 use Rattle.term_model.proofs.Lists.{all_joined, nth_there}
 use Rattle.term_model.specs.declared.symbols.Sort.{Sort}
-use Rattle.term_model.specs.Flips.{equality}
-use Rattle.term_model.specs.FreeVariables.{IsFree, IsClosed}
+use Rattle.term_model.specs.FreeVariables.{IsClosed}
 use Rattle.term_model.specs.Sorts.{IsOf}
 use Rattle.term_model.specs.Terms.{Var, Term}
-use Rattle.term_pool.specs.Views.{TermsView, RefersTo}
+use Rattle.term_pool.specs.Views.{TermsView}
 use Rattle.term_pool.proofs.OneTerm.{one_term}
 use Rattle.rule_model.specs.Commands.{Line, lines_in}
 use Rattle.rule_model.specs.Contexts.{AreAnchorsNested, IsBoundBy, IsClosedUnder, images}
@@ -17,9 +15,9 @@ use Rattle.rule_model.specs.Judged.{anchors_at, open_anchors}
 use Rattle.rule_model.specs.Proofs.{ProofItems, no_items, with_assume, with_step, with_subproof}
 use Rattle.rule_model.specs.Reading.{closes_at}
 use Rattle.rule_model.specs.Replacement.{Replacement}
-use Rattle.rule_model.specs.Scopes.{Nesting, outermost, inside, inner, commands_in}
-use Rattle.rule_model.specs.Substitution.{put_in, AreClosed, HaveTheirSorts, Replaces}
-use Rattle.rule_model.specs.Truth.{AreWellSorted, IsBindingIn, IsWellSortedProof}
+use Rattle.rule_model.specs.Scopes.{Nesting, outermost, inner}
+use Rattle.rule_model.specs.Substitution.{put_in, HaveTheirSorts, Replaces}
+use Rattle.rule_model.specs.Truth.{AreWellSorted, IsBindingIn}
 use Rattle.rule_model.proofs.ContextLaws.{images_closed}
 use Rattle.rule_model.proofs.LineReading.{anchors_are}
 use Rattle.rule_model.proofs.Numbers.{lines_in_count}

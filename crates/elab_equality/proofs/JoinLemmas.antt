@@ -1,5 +1,5 @@
 -- Private. Two terms of a command are joined.
-use Rattle.std.proofs.Common.{◌≡◌, ◌≤◌, ◌+◌, ◌*◌, ◌⊎◌, inl, inr, ℕ, List, length, Option, Result, Ok, Err, IfErr, OnOk, refl, sym, ap, subst, ◌∙◌}
+use Rattle.std.proofs.Common.{◌≡◌, ◌≤◌, ◌+◌, ◌*◌, ◌⊎◌, inl, inr, ℕ, length, Option, Result, Ok, Err, IfErr, OnOk, refl, subst}
 use Rattle.pair_pool.specs.Views.{IsOneToOne}
 use Rattle.sym_table.specs.Table.{IsTable}
 use Rattle.term_model.specs.Flips.{EqualUpToFlips}
@@ -24,7 +24,7 @@ use Rattle.equality_blocks.specs.Made.{IsMadeFor, IsPlacedFor, joined, paired, s
 use Rattle.equality_blocks.proofs.StayLemmas.{paired_later}
 use Rattle.elab_equality.specs.declared.work.Work.{Work}
 use Rattle.elab_equality.specs.Linked.{AreFlips, IsInCommand}
-use Rattle.elab_equality.specs.Work.{IsDone, IsMove, IsWork}
+use Rattle.elab_equality.specs.Work.{IsDone, IsWork}
 use Rattle.elab_equality.proofs.LinkLemmas.{in_command_later}
 use Rattle.elab_equality.proofs.WorkLemmas.{work_grown}
 

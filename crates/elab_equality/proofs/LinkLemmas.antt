@@ -1,12 +1,12 @@
 -- Private. Links to premises, and links that say that arguments are equal.
-use Rattle.std.proofs.Common.{◌≡◌, ◌≢◌, ◌<◌, ◌≤◌, ◌+◌, ◌⊎◌, inl, inr, ℕ, zero, suc, Bool, true, false, List, [], ◌∷◌, ◌++◌, length, map, slice_get, Option, Some, None, Contains}
+use Rattle.std.proofs.Common.{◌≡◌, ◌<◌, ◌⊎◌, inl, inr, ℕ, zero, suc, List, [], ◌∷◌, ◌++◌, length, map, slice_get, Option, Some, None, Contains}
 use Rattle.std.proofs.Common.{append_assoc, refl, sym, ◌∙◌, ap, subst, arith}
 use Rattle.std.proofs.lemmas.List.{append-nil, length-map}
 use Rattle.std.proofs.lemmas.Option.{slice_get_within}
 use Rattle.std.specs.List.{AllZip}
 use Rattle.std.specs.Option.{option_to_list}
 use Rattle.pair_pool.specs.Views.{IsOneToOne}
-use Rattle.sym_table.specs.Table.{Table, IsTable}
+use Rattle.sym_table.specs.Table.{IsTable}
 use Rattle.term_model.specs.declared.symbols.Op.{Op}
 use Rattle.term_model.specs.declared.symbols.Sort.{Sort}
 use Rattle.term_model.specs.Flips.{equality, EqualUpToFlips, same, operations, calls, flipped, AllEqualUpToFlips, none, each}
@@ -19,12 +19,11 @@ use Rattle.proof_store.specs.AddedSteps.{AddedStep}
 use Rattle.proof_store.specs.declared.added.Link.{Link}
 use Rattle.rule_model.specs.Congruence.{AreDifferences, IsLinked}
 use Rattle.rule_model.specs.Congruence.{AreSides as AreSidesOfPremise}
-use Rattle.rule_model.specs.Proofs.{ProofItems}
 use Rattle.rule_model.specs.Reading.{clause_at, premises_at, premise_clauses}
 use Rattle.equality_steps.specs.declared.site.Site.{Site}
 use Rattle.equality_steps.specs.Blocks.{Extends}
 use Rattle.equality_steps.specs.Links.{LinkEquates, LinkSays, LinksSay}
-use Rattle.equality_steps.specs.Sites.{AreSides, AreSidesAt, IsSideAt}
+use Rattle.equality_steps.specs.Sites.{AreSidesAt}
 use Rattle.equality_steps.proofs.StepLemmas.{refer_later}
 use Rattle.equality_ways.specs.declared.pairs.Used.{Used}
 use Rattle.equality_ways.specs.declared.table.Table.{Table as WayTable}
@@ -35,7 +34,7 @@ use Rattle.flip_steps.specs.Memory.{IsEquatedBy}
 use Rattle.flip_steps.proofs.FormLemmas.{turned_sort}
 use Rattle.flip_steps.proofs.MemoryLemmas.{equated_later}
 use Rattle.flip_steps.proofs.OrderLemmas.{refers_later, stands_later}
-use Rattle.equality_blocks.specs.Made.{IsMadeFor, stated, paired, equated}
+use Rattle.equality_blocks.specs.Made.{stated, paired, equated}
 use Rattle.elab_equality.specs.Linked.{AreFlips, AreLinkedBy, ArePremises, IsGiven, IsInCommand, IsPair, IsPremiseLink}
 use Rattle.elab_equality.specs.Work.{AreMadeEqual}
 use Rattle.equality_blocks.proofs.StayLemmas.{paired_later, root_later}

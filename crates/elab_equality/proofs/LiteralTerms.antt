@@ -1,5 +1,5 @@
 -- Private. The literals of a command and of its premises' clauses stand for terms.
-use Rattle.std.proofs.Common.{◌≡◌, ◌⊎◌, inl, inr, ℕ, List, [], ◌∷◌, ◌++◌, Contains, flat_map, subst}
+use Rattle.std.proofs.Common.{◌⊎◌, inl, inr, ℕ, List, [], ◌∷◌, Contains, flat_map, subst}
 use Rattle.term_model.proofs.Lists.{contains_cases, contains_head, contains_later, contains_none}
 use Rattle.term_model.specs.Terms.{Term}
 use Rattle.term_pool.specs.Views.{TermsView, IsTerm, RefersTo, ReferToAll}

@@ -1,8 +1,7 @@
 -- Private. The literals of a command may stand where it belongs.
-use Rattle.std.proofs.Common.{◌≡◌, ◌⊎◌, inl, inr, ℕ, List, [], ◌∷◌, Contains, None, Some, Option, refl, sym, ◌∙◌, ap, subst}
-use Rattle.term_model.proofs.Lists.{contains_head}
-use Rattle.term_model.specs.Terms.{Var, Term}
-use Rattle.term_pool.specs.Views.{TermsView, RefersTo, ReferToAll}
+use Rattle.std.proofs.Common.{◌⊎◌, inl, inr, ℕ, Contains, sym, subst}
+use Rattle.term_model.specs.Terms.{Term}
+use Rattle.term_pool.specs.Views.{TermsView}
 use Rattle.rule_model.specs.Contexts.{IsClosedUnder}
 use Rattle.rule_model.specs.Judged.{anchors_at}
 use Rattle.rule_model.specs.Reading.{clause_at, closes_at, premises_at}

@@ -1,28 +1,24 @@
 -- Private. Two applications whose arguments are linked, place by place or crosswise.
-use Rattle.std.proofs.Common.{◌≡◌, ◌≢◌, ◌<◌, ◌≤◌, ◌+◌, ◌*◌, ◌⊎◌, inl, inr, ℕ, zero, suc, List, [], ◌∷◌, length, slice_get, Some, Contains, Result, Ok, Err, IfErr, OnErr, IsErrAnd, refl, sym, ◌∙◌, ap, subst, arith}
+use Rattle.std.proofs.Common.{◌≡◌, inl, ℕ, List, [], ◌∷◌, Result, Ok, Err, IsErrAnd, sym, subst, arith}
 use Rattle.std.specs.List.{AllZip}
 use Rattle.pair_pool.specs.Views.{IsOneToOne}
 use Rattle.sym_table.specs.Table.{IsTable}
 use Rattle.term_model.specs.declared.symbols.Op.{Op}
 use Rattle.term_model.specs.declared.symbols.Sort.{Sort}
-use Rattle.term_model.specs.Flips.{equality, EqualUpToFlips}
-use Rattle.term_model.specs.Sorts.{IsOf, IsWellSorted}
-use Rattle.term_model.specs.Terms.{Term, list_of, terms_of}
-use Rattle.term_model.proofs.Lists.{contains_head, contains_later, list_of-terms_of}
+use Rattle.term_model.specs.Flips.{equality}
+use Rattle.term_model.specs.Terms.{Term}
 use Rattle.term_pool.specs.Placing.{LacksRoomFor, PlacesTerm}
-use Rattle.term_pool.specs.Reading.{arguments_of}
 use Rattle.term_pool.specs.Views.{TermsView, KeepsTerms, RefersTo, ReferToAll}
 use Rattle.term_pool.proofs.PlacedCells.{lacks_for_term, places_of_term}
 use Rattle.term_parts.specs.declared.answers.RuleStop.{RuleStop}
 use Rattle.proof_store.specs.AddedSteps.{AddedStep}
 use Rattle.proof_store.specs.declared.added.Link.{Link}
-use Rattle.rule_model.specs.Congruence.{AreCrossed, AreLinked, Head, applied, function, operator, IsChain, IsLinked}
-use Rattle.rule_model.specs.Congruence.{AreSides as AreSidesOfPremise}
+use Rattle.rule_model.specs.Congruence.{applied, operator}
 use Rattle.equality_steps.specs.declared.site.Site.{Site}
 use Rattle.equality_steps.specs.Given.{AreChained, AreLinkedArguments, AreTurned}
-use Rattle.equality_steps.specs.Links.{LinkEquates, LinkSays}
-use Rattle.equality_steps.specs.Sites.{AreSides, AreSidesAt, IsLiteralAt, IsSideAt}
-use Rattle.equality_steps.proofs.SiteLemmas.{equality_fits, sides_fit}
+use Rattle.equality_steps.specs.Links.{LinkEquates}
+use Rattle.equality_steps.specs.Sites.{AreSides, AreSidesAt}
+use Rattle.equality_steps.proofs.SiteLemmas.{equality_fits}
 use Rattle.equality_steps.proofs.StepLemmas.{refer_later}
 use Rattle.flip_steps.proofs.EquateLemmas.{chained_two}
 use Rattle.flip_steps.proofs.OrderLemmas.{refers_later}

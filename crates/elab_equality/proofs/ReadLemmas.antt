@@ -5,7 +5,7 @@ use Rattle.term_model.specs.Flips.{equality}
 use Rattle.term_model.specs.Terms.{Term}
 use Rattle.term_parts.specs.Parts.{AreSidesOf}
 use Rattle.term_pool.specs.Reading.{IsLet, arguments_of}
-use Rattle.term_pool.specs.Views.{TermsView, IsTerm, RefersTo, ReferToAll}
+use Rattle.term_pool.specs.Views.{TermsView, RefersTo, ReferToAll}
 use Rattle.rule_model.specs.Clausal.{as_it_stands}
 use Rattle.rule_model.specs.Congruence.{Head, applied, function, operator}
 use Rattle.equality_steps.specs.declared.site.Site.{Site}

@@ -1,11 +1,9 @@
 -- Private. What is read of a command by trans or refl: the sides of its clause, and a way over its premises.
-use Rattle.std.proofs.Common.{◌≡◌, ◌≢◌, ◌<◌, ◌≤◌, ◌+◌, ◌*◌, ◌^◌, ◌⊎◌, inl, inr, ℕ, List, [], ◌∷◌, ◌++◌, length, map, flat_map, Option, Some, None, IsSome, IfNone, IfSome, IfOk, Contains}
-use Rattle.std.proofs.Common.{Result, Ok, Err, IfErr, IsErrAnd, refl, sym, ◌∙◌, ap, subst, arith, length-append}
+use Rattle.std.proofs.Common.{◌≡◌, ◌≢◌, ◌≤◌, ◌+◌, ◌*◌, ℕ, List, [], ◌∷◌, length, flat_map, Option, Some, None, IsSome, IfNone, IfSome, Contains}
+use Rattle.std.proofs.Common.{Result, Ok, Err, IfErr, IsErrAnd, refl, sym, ◌∙◌, subst, arith, length-append}
 use Rattle.std.proofs.lemmas.List.{length-map}
-use Rattle.std.specs.List.{AllZip}
 use Rattle.pair_pool.specs.Trees.{Tree}
-use Rattle.pair_pool.specs.Views.{IsOneToOne}
-use Rattle.sym_table.specs.Table.{Table, IsTable}
+use Rattle.sym_table.specs.Table.{Table}
 use Rattle.term_model.specs.Flips.{equality}
 use Rattle.term_model.specs.Terms.{Term}
 use Rattle.term_model.proofs.Zips.{zip_length}
@@ -31,7 +29,6 @@ use Rattle.elab_equality.specs.Linked.{ArePremises}
 use Rattle.elab_equality.specs.Walking.{AreSidesGiven, IsClauseOfSides, StatesEquality}
 use Rattle.elab_equality.specs.Work.{IsWork}
 use Rattle.elab_equality.proofs.ClauseLemmas.{connected_here}
-use Rattle.elab_equality.proofs.GivenLemmas.{premises_stand}
 use Rattle.elab_equality.proofs.LiteralTerms.{literal_term}
 
 pub some_where : {X : Type 0} (o : Option X) (P : Type 0) → IfNone o P → (P → ⊥) → IsSome o

@@ -1,18 +1,16 @@
 -- Private. How many steps there are in the place of a refl.
-use Rattle.std.proofs.Common.{◌≡◌, ◌≤◌, ◌+◌, ◌*◌, ◌⊎◌, inl, inr, ℕ, List, [], ◌∷◌, ◌++◌, length, map, Contains, Result, Ok, refl, sym, ◌∙◌, ap, subst, arith}
+use Rattle.std.proofs.Common.{◌≡◌, ◌≤◌, ◌+◌, ◌*◌, ◌⊎◌, inl, inr, ℕ, List, [], ◌∷◌, ◌++◌, length, map, Contains, Ok, refl, sym, ◌∙◌, ap, subst, arith}
 use Rattle.std.proofs.lemmas.List.Elements.{Contains-append_cases, Contains-append_left, Contains-append_right}
 use Rattle.pair_pool.specs.Trees.{Tree}
 use Rattle.pair_pool.specs.Views.{IsOneToOne}
 use Rattle.term_model.proofs.Lists.{contains_cases, contains_head, contains_later, contains_none}
 use Rattle.term_model.specs.Flips.{equality}
-use Rattle.term_model.specs.Terms.{Var, Term, not_of}
+use Rattle.term_model.specs.Terms.{Term, not_of}
 use Rattle.term_pool.specs.CellCounts.{CountsCells}
-use Rattle.term_parts.specs.declared.answers.RuleStop.{RuleStop}
 use Rattle.term_pool.specs.Views.{TermsView, IsTerm, KeepsTerms, KnowsAll, RefersTo}
 use Rattle.term_pool.proofs.TermLemmas.{equal_where}
 use Rattle.rule_model.specs.declared.rules.Rule.{Rule}
 use Rattle.rule_model.specs.Contexts.{images}
-use Rattle.rule_model.specs.Judged.{anchors_at}
 use Rattle.rule_model.specs.Reading.{clause_at, premises_at}
 use Rattle.rule_model.specs.Substitution.{put_in}
 use Rattle.equality_steps.specs.declared.site.Site.{Site}

@@ -1,12 +1,11 @@
 -- Private. The steps of a refl: each side is what it becomes, and what the two become is equal up to flips.
-use Rattle.std.proofs.Common.{◌≡◌, ◌⊎◌, inl, inr, ℕ, List, [], ◌∷◌, ◌++◌, Option, Some, None, refl, sym, ◌∙◌, ap, subst}
+use Rattle.std.proofs.Common.{◌≡◌, inl, inr, ℕ, List, ◌++◌, Option, Some, None, refl, sym, ◌∙◌, ap, subst}
 use Rattle.std.proofs.lemmas.List.{append-nil}
 use Rattle.std.specs.Option.{option_to_list}
-use Rattle.term_model.specs.declared.symbols.Sort.{Sort}
 use Rattle.term_model.specs.Flips.{equality, EqualUpToFlips}
 use Rattle.term_model.specs.Sorts.{IsOf}
 use Rattle.term_model.specs.Terms.{Var, Term}
-use Rattle.term_pool.specs.Views.{TermsView, KeepsTerms, RefersTo}
+use Rattle.term_pool.specs.Views.{TermsView}
 use Rattle.term_pool.proofs.OneTerm.{one_term}
 use Rattle.term_pool.proofs.TermLemmas.{equal_where}
 use Rattle.proof_store.specs.AddedSteps.{AddedStep}
@@ -33,7 +32,7 @@ use Rattle.flip_steps.specs.Subterms.{whole}
 use Rattle.equality_blocks.specs.Commands.{IsToElaborate, rule_of_command}
 use Rattle.equality_blocks.specs.Counts.{side}
 use Rattle.equality_blocks.specs.Made.{stated, paired, equated}
-use Rattle.equality_blocks.specs.Pairs.{AreEquated, IsPutIn, linked, put_in_one, put_in_both}
+use Rattle.equality_blocks.specs.Pairs.{AreEquated, linked, put_in_one, put_in_both}
 use Rattle.equality_blocks.proofs.ConditionLemmas.{closes_nothing, met_rule}
 use Rattle.elab_equality.specs.Linked.{AreFlips, IsInCommand}
 use Rattle.elab_equality.specs.Reflecting.{IsImageOf, IsReflected}

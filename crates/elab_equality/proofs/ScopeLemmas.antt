@@ -1,12 +1,11 @@
 -- Private. The images of what open anchors bind are put into the sides of a refl.
-use Rattle.std.proofs.Common.{◌≡◌, ◌⊎◌, inl, inr, ℕ, List, None, refl, sym, ◌∙◌, ap, subst}
+use Rattle.std.proofs.Common.{◌≡◌, inl, inr, ℕ, List, None, refl, sym, ◌∙◌, subst}
 use Rattle.term_model.specs.Flips.{equality}
 use Rattle.term_model.specs.Terms.{Var, Term, not_of}
-use Rattle.term_parts.specs.declared.answers.RuleStop.{RuleStop}
 use Rattle.term_pool.specs.Placing.{LacksCellOf, LacksRoomFor, PlacesCellsOf, PlacesTerm}
-use Rattle.term_pool.specs.Views.{TermsView, IsTerm, KeepsTerms, RefersTo}
+use Rattle.term_pool.specs.Views.{TermsView, KeepsTerms, RefersTo}
 use Rattle.term_pool.proofs.PlacedCells.{lacks_for_term, lacks_more, places_more, places_more_then, places_of_term}
-use Rattle.proof_contexts.specs.OpenAnchors.{AreKept, AreOpenIn, IsAnchorImage, scope_of}
+use Rattle.proof_contexts.specs.OpenAnchors.{AreOpenIn, IsAnchorImage, scope_of}
 use Rattle.proof_contexts.specs.declared.scopes.OpenScopes.{OpenScopes}
 use Rattle.rule_model.specs.declared.rules.Rule.{Rule}
 use Rattle.rule_model.specs.Contexts.{images}
@@ -19,8 +18,8 @@ use Rattle.elaboration_laws.specs.StrictBlocks.{AnchorsStand}
 use Rattle.elaboration_laws.proofs.Reading.{anchors_stand, closes_same, scope_same}
 use Rattle.equality_steps.specs.declared.site.Site.{Site}
 use Rattle.equality_steps.proofs.LawLemmas.{own_same}
-use Rattle.flip_steps.proofs.OrderLemmas.{keeps_then, refers_later}
-use Rattle.equality_blocks.specs.Commands.{IsLiteralOfCommand, IsToElaborate, rule_of_command}
+use Rattle.flip_steps.proofs.OrderLemmas.{refers_later}
+use Rattle.equality_blocks.specs.Commands.{IsToElaborate, rule_of_command}
 use Rattle.equality_blocks.specs.Made.{IsPlacedFor, paired, right, stated}
 use Rattle.equality_blocks.specs.Pairs.{AreEquated, IsPutIn, linked, put_in_one}
 use Rattle.equality_blocks.proofs.Growing.{anchors_more, items_more}

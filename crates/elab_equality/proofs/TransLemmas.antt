@@ -1,8 +1,7 @@
 -- Private. The steps in the place of a trans, whole.
-use Rattle.std.proofs.Common.{◌≡◌, ◌≤◌, ◌+◌, ◌*◌, ℕ, List, [], length, Result, Ok, ap, arith}
+use Rattle.std.proofs.Common.{◌≡◌, ◌≤◌, ◌+◌, ◌*◌, ℕ, List, [], length, Ok, ap, arith}
 use Rattle.pair_pool.specs.Trees.{Tree}
 use Rattle.pair_pool.specs.Views.{IsOneToOne}
-use Rattle.term_parts.specs.declared.answers.RuleStop.{RuleStop}
 use Rattle.term_pool.specs.CellCounts.{CountsCells}
 use Rattle.term_pool.specs.Views.{TermsView, KnowsAll}
 use Rattle.rule_model.specs.declared.rules.Rule.{Rule}

@@ -1,19 +1,17 @@
 -- Private. Ways over the equalities of premises, and the links that say that they lead on.
-use Rattle.std.proofs.Common.{◌≡◌, ◌≢◌, ◌<◌, ◌≤◌, ◌+◌, ◌⊎◌, inl, inr, ℕ, zero, suc, Bool, true, false, not, List, [], ◌∷◌, ◌++◌, length, get_or, drop, flat_map, slice_get, Option, Some, None, Contains}
-use Rattle.std.proofs.Common.{Result, Ok, Err, refl, sym, ◌∙◌, ap, subst, arith}
+use Rattle.std.proofs.Common.{◌≡◌, ◌≢◌, ◌<◌, ◌+◌, inl, inr, ℕ, Bool, true, false, not, List, [], ◌∷◌, ◌++◌, length, get_or, drop, flat_map, slice_get, Option, Some, Contains}
+use Rattle.std.proofs.Common.{Ok, refl, sym, ◌∙◌, ap, subst, arith}
 use Rattle.std.proofs.lemmas.List.{drop_all, drop_more, length-map, nil_from_length}
 use Rattle.std.proofs.lemmas.Bool.{eq-eqb, eqb-true, true≢false}
 use Rattle.std.specs.Bool.{◌==◌}
 use Rattle.std.proofs.lemmas.List.Elements.{Contains-append_left, Contains-append_right}
 use Rattle.std.proofs.lemmas.Option.{slice_get_within}
-use Rattle.std.specs.List.{AllZip}
 use Rattle.pair_pool.specs.Views.{IsOneToOne}
 use Rattle.sym_table.specs.Table.{IsTable}
 use Rattle.term_model.specs.Flips.{equality}
 use Rattle.term_model.specs.Terms.{Term}
 use Rattle.term_model.proofs.Lists.{contains_cases, contains_head, contains_none}
 use Rattle.term_model.proofs.Zips.{zip_length, zip_weaken}
-use Rattle.term_parts.specs.declared.answers.RuleStop.{RuleStop}
 use Rattle.term_pool.specs.Views.{TermsView, KeepsTerms, RefersTo, ReferToAll}
 use Rattle.term_pool.proofs.TermLemmas.{equal_where}
 use Rattle.proof_store.specs.AddedSteps.{AddedStep}
@@ -22,14 +20,13 @@ use Rattle.rule_model.specs.Congruence.{IsChain}
 use Rattle.rule_model.specs.Reading.{clause_at, premises_at, premise_clauses}
 use Rattle.equality_steps.specs.Blocks.{Extends}
 use Rattle.equality_steps.specs.Given.{AreChained}
-use Rattle.equality_steps.specs.Links.{LinkEquates, LinkSays, LinksSay}
+use Rattle.equality_steps.specs.Links.{LinkEquates, LinksSay}
 use Rattle.equality_steps.specs.declared.site.Site.{Site}
 use Rattle.equality_ways.specs.declared.pairs.Used.{Used}
 use Rattle.equality_ways.specs.Sides.{AreSidesOfUnit}
 use Rattle.equality_ways.specs.Ways.{IsWayOver, LeadsTo, turned_if}
 use Rattle.equality_ways.proofs.Places.{contains_of_get, zip_get}
 use Rattle.flip_steps.proofs.MemoryLemmas.{equates_later}
-use Rattle.flip_steps.proofs.OrderLemmas.{refers_later}
 use Rattle.elab_equality.specs.declared.work.Work.{Work}
 use Rattle.elab_equality.specs.Linked.{IsPremiseLink}
 use Rattle.elab_equality.specs.Walking.{AreSidesGiven, LeadOn}

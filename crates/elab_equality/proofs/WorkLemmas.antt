@@ -1,17 +1,15 @@
 -- Private. What is under way for a command: it stays as more terms are known, and one call comes behind another.
-use Rattle.std.proofs.Common.{◌≡◌, ◌≤◌, ◌+◌, ◌*◌, ◌⊎◌, inl, inr, ℕ, zero, suc, List, [], ◌∷◌, ◌++◌, length, slice_get, Some, None, nat_eq, Contains, append_assoc}
+use Rattle.std.proofs.Common.{◌≡◌, ◌≤◌, ◌+◌, ◌⊎◌, inl, inr, ℕ, zero, suc, List, [], ◌∷◌, ◌++◌, length, slice_get, Some, None, nat_eq, Contains, append_assoc}
 use Rattle.std.proofs.Common.{Result, Ok, Err, IfOk, IfErr, OnOk, IsErrAnd, refl, sym, ◌∙◌, ap, subst, arith}
-use Rattle.std.specs.HashMap.{get, hash_map_len}
 use Rattle.std.specs.Map.{lookup}
 use Rattle.std.specs.List.{AllByRecursion}
-use Rattle.sym_table.specs.Table.{Table}
 use Rattle.term_model.specs.Flips.{equality}
 use Rattle.term_model.specs.Terms.{Term}
 use Rattle.term_model.proofs.Lists.{contains_cases, contains_none}
 use Rattle.term_parts.specs.declared.answers.RuleStop.{RuleStop}
-use Rattle.term_pool.specs.Placing.{LacksCellOf, LacksRoomFor, PlacesCellsOf, PlacesTerm}
+use Rattle.term_pool.specs.Placing.{LacksRoomFor, PlacesTerm}
 use Rattle.term_pool.specs.Views.{TermsView, KeepsTerms, RefersTo, ReferToAll}
-use Rattle.term_pool.proofs.PlacedCells.{lacks_for_term, lacks_more, places_more, places_more_then, places_none, places_of_term}
+use Rattle.term_pool.proofs.PlacedCells.{lacks_for_term, places_more, places_more_then, places_none, places_of_term}
 use Rattle.term_pool.proofs.ReadingLemmas.{keeps-same}
 use Rattle.proof_store.specs.AddedSteps.{AddedStep}
 use Rattle.proof_store.specs.declared.added.Link.{Link}
@@ -20,7 +18,6 @@ use Rattle.equality_steps.specs.Blocks.{Adds, EndsBy, Extends, IsBlockAt}
 use Rattle.rule_model.specs.declared.rules.Rule.{Rule}
 use Rattle.rule_model.specs.RuleNames.{IsJudged, kind_of}
 use Rattle.equality_steps.specs.Links.{LinkEquates, LinkSays}
-use Rattle.equality_steps.specs.Sites.{IsSite}
 use Rattle.equality_steps.proofs.StepLemmas.{block_later, says_later, says_more}
 use Rattle.flip_steps.specs.declared.forms.Formed.{Formed}
 use Rattle.flip_steps.specs.declared.forms.Forms.{Forms}
@@ -33,7 +30,7 @@ use Rattle.equality_blocks.specs.Counts.{IsCellOf}
 use Rattle.equality_blocks.specs.Made.{AreMadeSteps, StandsForMade, IsMadeFor, IsMadeStep, IsPlacedFor}
 use Rattle.elab_equality.specs.declared.work.Work.{Work}
 use Rattle.elab_equality.specs.Linked.{EndsIn}
-use Rattle.elab_equality.specs.Work.{AreMadeEqual, IsDone, IsMove, IsWork}
+use Rattle.elab_equality.specs.Work.{IsDone, IsMove, IsWork}
 use Rattle.equality_blocks.proofs.StayLemmas.{made_later, made_steps_later, placed_later}
 use Rattle.elab_equality.proofs.CommandStays.{cell_stays}
 

@@ -2,16 +2,15 @@
 use Rattle.std.specs.Prelude.{◌≡◌, ℕ, List, [], ◌∷◌, Contains}
 use Rattle.proof_store.specs.AddedSteps.{AddedStep}
 use Rattle.proof_store.specs.declared.added.Link.{Link}
-use Rattle.rule_model.specs.declared.rules.Rule.{Rule}
 use Rattle.rule_model.specs.Reading.{scope_at}
 use Rattle.term_model.specs.Terms.{Term, not_of}
 use Rattle.term_pool.specs.Views.{TermsView, RefersTo}
 use Rattle.equality_steps.specs.declared.site.Site.{Site}
 use Rattle.equality_steps.specs.Links.{LinkSays}
 use Rattle.equality_steps.specs.Sites.{IsLiteralAt}
-use Rattle.equality_blocks.specs.Commands.{clause_of_command, rule_of_command}
+use Rattle.equality_blocks.specs.Commands.{clause_of_command}
 use Rattle.equality_blocks.specs.Made.{IsMadeFor}
-use Rattle.equality_blocks.specs.Pairs.{IsFirstAsserted, IsOther}
+use Rattle.equality_blocks.specs.Pairs.{IsFirstAsserted}
 
 -- the command assumes the term of the one reference, and the other is that of the first assertion which is equal to it up to flips
 pub record IsAssumedBy (p : Site) (v : TermsView) (first assumed : ℕ) : Type 0 where
@@ -19,10 +18,6 @@ pub record IsAssumedBy (p : Site) (v : TermsView) (first assumed : ℕ) : Type 0
   pub clause : clause_of_command p ≡ assumed ∷ []
   pub refers : RefersTo p.symbols.now v assumed term
   pub first_is : IsFirstAsserted p v term first
-
--- none of these assertions is equal up to flips to the term of the reference
-abbrev pub AreOthers : Site → TermsView → ℕ → List ℕ → Type 0
-AreOthers p v assumed before = (u : Term) (q : ℕ) → RefersTo p.symbols.now v assumed u → Contains before q → IsOther p v u q
 
 -- the reference stands for an assertion that may be assumed for the command, and is made for it
 pub record MayBeAsserted (p : Site) (v : TermsView) (a : ℕ) : Type 0 where
@@ -32,6 +27,12 @@ pub record MayBeAsserted (p : Site) (v : TermsView) (a : ℕ) : Type 0 where
   pub refers : RefersTo p.symbols.now v a term
   pub fits : IsLiteralAt p term
   pub made : IsMadeFor p v term
+
+-- the reference stands for a term whose negation is made for the command
+pub record IsDeniable (p : Site) (v : TermsView) (a : ℕ) : Type 0 where
+  pub term : Term
+  pub refers : RefersTo p.symbols.now v a term
+  pub made : IsMadeFor p v (not_of term)
 
 -- the one reference stands for a term, and the other for its negation
 pub record IsNegation (p : Site) (v : TermsView) (a negation : ℕ) : Type 0 where

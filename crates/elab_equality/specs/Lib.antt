@@ -3,6 +3,7 @@ pub mod Work
 pub mod Linked
 pub mod Walking
 pub mod Reflecting
+pub mod Asked
 pub mod Assuming
 pub mod Matching
 pub mod Closing

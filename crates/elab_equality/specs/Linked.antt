@@ -1,10 +1,10 @@
 -- Private. Arguments that are equal up to flips or the sides of a premise, and the links that say so.
-use Rattle.std.specs.Prelude.{◌≡◌, ◌≢◌, ◌<◌, ◌⊎◌, ◌++◌, ℕ, List, [], ◌∷◌, map, Option, option_to_list, slice_get, Some}
+use Rattle.std.specs.Prelude.{◌≡◌, ◌<◌, ◌++◌, ℕ, List, [], ◌∷◌, Option, option_to_list, slice_get, Some}
 use Rattle.std.specs.List.{AllZip}
 use Rattle.proof_store.specs.AddedSteps.{AddedStep}
 use Rattle.proof_store.specs.declared.added.Link.{Link}
 use Rattle.rule_model.specs.Congruence.{IsLinked}
-use Rattle.rule_model.specs.Reading.{clause_at, premises_at, premise_clauses}
+use Rattle.rule_model.specs.Reading.{premises_at, premise_clauses}
 use Rattle.rule_model.specs.RuleNames.{IsJudged, kind_of}
 use Rattle.rule_model.specs.Scopes.{commands_in}
 use Rattle.term_model.specs.Flips.{equality, EqualUpToFlips}

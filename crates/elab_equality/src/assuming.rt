@@ -1,7 +1,8 @@
 //! Assumes of the outermost scope.
 
-ghost use Rattle.std.specs.Prelude.{◌≡◌, ◌↔◌, ◌+◌, [], ◌∷◌, length, IfOk, IfErr, IsTrue};
-ghost use Rattle.elab_equality.specs.Assuming.{AreMadeLiterals, IsAssumedBy, IsNegation, MayBeAsserted, SaysImplied, SaysNoOther, SaysUnit};
+ghost use Rattle.std.specs.Prelude.{◌≡◌, ◌+◌, [], ◌∷◌, length, IfOk, IfErr, OnOk};
+ghost use Rattle.elab_equality.specs.Asked.{CanBeAsked};
+ghost use Rattle.elab_equality.specs.Assuming.{AreMadeLiterals, IsAssumedBy, IsDeniable, IsNegation, MayBeAsserted, SaysImplied, SaysNoOther, SaysUnit};
 ghost use Rattle.elab_equality.specs.Work.{IsDone, IsWork};
 ghost use Rattle.equality_blocks.specs.Blocks.{IsBlockFor};
 ghost use Rattle.equality_blocks.specs.Commands.{IsToElaborate, clause_of_command, rule_of_command};
@@ -9,11 +10,9 @@ ghost use Rattle.equality_blocks.specs.Counts.{IsFew};
 ghost use Rattle.equality_blocks.specs.Made.{IsPlacedFor};
 ghost use Rattle.equality_steps.specs.Links.{LinkEquates};
 ghost use Rattle.rule_model.specs.declared.rules.Rule.TheVariants as Rule;
-ghost use Rattle.term_model.specs.Flips.{EqualUpToFlips};
-ghost use Rattle.term_model.specs.Terms.{Term};
 ghost use Rattle.term_parts.specs.declared.answers.RuleStop.TheVariants as RuleStop;
 ghost use Rattle.term_pool.specs.Placing.{LacksCellOf, PlacesCellsOf};
-ghost use Rattle.term_pool.specs.Views.{IsTerm, KeepsTerms, RefersTo};
+ghost use Rattle.term_pool.specs.Views.{KeepsTerms};
 
 use crate::linking::only_literal;
 use crate::work::Work;
@@ -22,6 +21,7 @@ use equality_steps::{
     Block, Pivot, Site, assume as assume_assertion, blocks_stay, equiv1, negation_of, resolution,
     weakening,
 };
+use flip_keys::Assertions;
 use flip_steps::forms_stay;
 use pair_pool::{Memory, Ref};
 use proof_store::Link;
@@ -29,37 +29,26 @@ use rule_model::laws::chains::resolvents_have_other_literals;
 use term_parts::RuleStop;
 use term_pool::{Terms, references_stay};
 
-/// Whether an assertion is equal to a term up to flips.
-fn is_like(
-    at: &Site<'_>,
-    terms: &mut Terms<'_>,
-    assertion: Ref,
-    assumed: Ref,
-) -> Result<bool, Memory>
-    requires one { IsTerm at.now.symbols.now terms.old assertion }
-    requires other { IsTerm at.now.symbols.now terms.old assumed }
-    ensures like { IfOk result (λ yes. (t u : Term) → RefersTo at.now.symbols.now terms.old assertion t → RefersTo at.now.symbols.now terms.old assumed u →
-        IsTrue yes ↔ EqualUpToFlips t u) }
-    ensures same { terms.new ≡ terms.old }
-{
-    terms.same_up_to_flips(at.alloc, at.symbols, assertion, assumed)
-}
-
 /// The first assertion that is equal up to flips to the term that the command assumes.
-fn first_asserted(at: &Site<'_>, terms: &mut Terms<'_>, assumed: Ref) -> Result<Ref, Memory>
+fn first_asserted(
+    at: &Site<'_>,
+    asserted: &mut Assertions,
+    terms: &mut Terms<'_>,
+    assumed: Ref,
+) -> Result<Ref, Memory>
     requires job { IsToElaborate at.now terms.old }
     requires rule { rule_of_command at.now ≡ Rule.Assume }
     requires clause { clause_of_command at.now ≡ assumed ∷ [] }
+    requires asserted { CanBeAsked at.now.asserted.now terms.old asserted.old }
     ensures first { IfOk result (λ first. IsAssumedBy at.now terms.old first assumed) }
+    ensures asserted { OnOk result (CanBeAsked at.now.asserted.now terms.old asserted.new) }
     ensures same { terms.new ≡ terms.old }
 {
-    'assertions: for assertion in at.asserted {
-        let alike = is_like(at, terms, *assertion, assumed)?;
-        if alike {
-            return Ok(*assertion);
-        }
+    let found = asserted.first_asserted(at.symbols, terms, assumed)?;
+    match found {
+        Some(place) => Ok(at.asserted[place]),
+        None => unreachable!(),
     }
-    unreachable!()
 }
 
 /// The steps, with one more that has the command's clause.
@@ -121,16 +110,15 @@ impl Work {
     }
 
     /// `(not a)`.
-    fn negated(&self, at: &Site<'_>, terms: &mut Terms<'_>, a: Ref, b: Ref) -> Result<Ref, RuleStop>
+    fn negated(&self, at: &Site<'_>, terms: &mut Terms<'_>, a: Ref) -> Result<Ref, RuleStop>
         requires work { IsWork at.now terms.old self.now }
-        requires made { AreMadeLiterals at.now terms.old a b }
+        requires made { IsDeniable at.now terms.old a }
         ensures negation { IfOk result (λ q. IsNegation at.now terms.new a q) }
         ensures done { IsDone at.now terms.old terms.new self.now self.now 0 result }
     {
         commands_stay();
         blocks_stay();
         forms_stay();
-        let _ = b;
         let negation = negation_of(at.symbols, terms, a)?;
         Ok(negation)
     }
@@ -159,7 +147,7 @@ impl Work {
         forms_stay();
         commands_stay();
         resolvents_have_other_literals();
-        let negation = self.negated(at, terms, a, b)?;
+        let negation = self.negated(at, terms, a)?;
         let pivot = Pivot { atom: a, negation };
         terms.one_to_one();
         let new = resolution(at, terms, &mut self.block, left, right, pivot)?;
@@ -195,10 +183,16 @@ impl Work {
 
 /// The steps in the place of an assume: the first assertion that is equal to its term up to flips is assumed, and where it is another
 /// term, joined to that one.
-pub(crate) fn assume(at: &Site<'_>, terms: &mut Terms<'_>) -> Result<Block, RuleStop>
+pub(crate) fn assume(
+    at: &Site<'_>,
+    asserted: &mut Assertions,
+    terms: &mut Terms<'_>,
+) -> Result<Block, RuleStop>
     requires job { IsToElaborate at.now terms.old }
     requires rule { rule_of_command at.now ≡ Rule.Assume }
+    requires asserted { CanBeAsked at.now.asserted.now terms.old asserted.old }
     ensures made { IfOk result (λ block. IsBlockFor at.now terms.new block) }
+    ensures asserted { OnOk result (CanBeAsked at.now.asserted.now terms.old asserted.new) }
     ensures placed { PlacesCellsOf at.now.symbols.now terms.old.pass terms.new.pass (IsPlacedFor at.now terms.new) }
     ensures full { IfErr result (λ e. e ≡ RuleStop.PoolFull → LacksCellOf at.now.symbols.now terms.new.pass (IsPlacedFor at.now terms.new)) }
     ensures keeps { KeepsTerms terms.old terms.new }
@@ -206,7 +200,7 @@ pub(crate) fn assume(at: &Site<'_>, terms: &mut Terms<'_>) -> Result<Block, Rule
     commands_stay();
     sites_of_commands();
     let assumed = only_literal(at);
-    let first = first_asserted(at, terms, assumed)?;
+    let first = first_asserted(at, asserted, terms, assumed)?;
     let mut work = Work::new(at.alloc);
     let given = work.asserted(at, terms, first)?;
     let link = work.lead(at, terms, given, first, assumed)?;

@@ -18,3 +18,4 @@ mod OverNear
 mod OverMade
 mod OverBlocks
 mod OverSteps
+mod Asking

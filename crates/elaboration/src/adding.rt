@@ -27,6 +27,8 @@ pub(crate) fn added_by<E: Elaborate + Sync, R: Threads + Sync, G: Gate>(
     workers: u32,
     gate: &G,
 ) -> Result<Vec<Vec<Vec<Added>>>, RuleStop>
+where
+    E::Kept: Send,
     requires workers { (1 ≤ workers) × (workers ≤ 64) }
     requires for_many { 1 < workers → IsForMany terms.old.pool }
     requires shares { terms.old.pass.shares ≡ 65 }

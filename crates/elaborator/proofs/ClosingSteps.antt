@@ -26,7 +26,7 @@ use Rattle.elaborator.specs.declared.putting.Opened.{Opened}
 use Rattle.elaborator.specs.Blocks.{IsLink, IsAddedStep, IsBlockOf}
 use Rattle.elaborator.specs.Links.{IsWithin, target}
 use Rattle.elaborator.specs.Names.{name_of}
-use Rattle.elaborator.specs.Reached.{State, one_more, placed, IsPlacedIn, Job, IsJob, IsOpened, AreAround, IsReached, IsAtLine, closer_of, ahead, needed_to, written_to, IsLevel}
+use Rattle.elaborator.specs.Reached.{State, one_more, placed, IsPlacedIn, Job, IsJob, IsOpened, AreAround, IsReached, IsAtLine, written_to, IsLevel}
 use Rattle.elaborator.specs.Reached.{IsTold, LooksAs, IsLineFrom, IsLineInPlace, LineSource, line_of_proof, line_of_last}
 use Rattle.elaborator.specs.Sources.{Looked, looked_at, looked_of, IsAt, AreAt}
 use Rattle.elaborator.specs.Steps.{added_step, kept_step, front, block_at, last_of, step_in_place, IsInPlace}

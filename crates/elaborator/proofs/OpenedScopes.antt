@@ -16,7 +16,7 @@ use Rattle.rule_model.proofs.LineReading.{bindings_are}
 use Rattle.rule_model.proofs.Writing.{lines_open}
 use Rattle.elaborator.specs.declared.putting.Opened.{Opened}
 use Rattle.elaborator.specs.Names.{name_of}
-use Rattle.elaborator.specs.Reached.{State, seen_in, new_name, IsTidy, MayAddHere, IsPlacedIn, IsExtended, Job, IsJob, AreAround, IsReached, Opens, ahead, needed_to, IsOnWay, closer_of, IsLevel, IsSeenAs}
+use Rattle.elaborator.specs.Reached.{State, seen_in, new_name, IsPlacedIn, IsExtended, Job, IsJob, AreAround, IsReached, Opens, needed_to, IsOnWay, closer_of, IsLevel, IsSeenAs}
 use Rattle.elaborator.specs.Steps.{front, block_at}
 use Rattle.elaborator.proofs.AddedSources.{sources_front}
 use Rattle.elaborator.proofs.Levels.{Grows, grows_then, extended_grows, all_placed, level_more, around_more, same_open, seen_as_more}

@@ -10,7 +10,7 @@ use Rattle.rule_model.specs.Commands.{IndexedCommand, assume, step, closing, Lin
 use Rattle.rule_model.specs.Elaboration.{Keeps, Adds, assume_kept, assume_derived, step_kept, TakesPlace}
 use Rattle.rule_model.specs.Judged.{open_anchors, anchors_at}
 use Rattle.rule_model.specs.Proofs.{Step, ProofItems, with_assume, with_step}
-use Rattle.rule_model.specs.Reading.{is_assume, rule_at, clause_at, premises_at, discharged_at, scope_at, closes_at, step_of}
+use Rattle.rule_model.specs.Reading.{is_assume, rule_at, clause_at, discharged_at, scope_at, closes_at, step_of}
 use Rattle.rule_model.specs.RuleNames.{kind_of, IsJudged, rule_named}
 use Rattle.rule_model.specs.Scopes.{Nesting, outermost, Scope, at, commands_in, first_index, scope_number, last_index, next_index, next_scope, inside}
 use Rattle.rule_model.specs.Statuses.{Checking}

@@ -56,13 +56,16 @@ fn range_of(commands: u32, k: u64) -> (u32, u32)
     (first, first + CHUNK.min(commands - first))
 }
 
-impl<'a, E: Elaborate + Sync> Job for ElabJob<'a, E> {
+impl<'a, E: Elaborate + Sync> Job for ElabJob<'a, E>
+where
+    E::Kept: Send,
+{
     ghost use Rattle.elaborator.specs.Pieces.{chunks_of, IsPieceOf};
     ghost use Rattle.rule_model.specs.Scopes.{commands_in};
 
     type Piece = Vec<Vec<Added>>;
 
-    type Kept = ();
+    type Kept = E::Kept;
 
     ghost symbols = { λ job. E.symbols job.elaborate.now };
 
@@ -70,7 +73,7 @@ impl<'a, E: Elaborate + Sync> Job for ElabJob<'a, E> {
 
     ghost fits = { λ job v. E.fits job.elaborate.now job.proof.now v };
 
-    ghost is_kept = { λ job v kept. Unit {0} };
+    ghost is_kept = { λ job v kept. E.is_kept job.elaborate.now job.proof.now v kept };
 
     ghost says = { λ job v k piece. IsPieceOf (E.says job.elaborate.now job.proof.now v) (commands_in job.proof.now) k piece };
 
@@ -80,19 +83,19 @@ impl<'a, E: Elaborate + Sync> Job for ElabJob<'a, E> {
         chunks_of(self.proof.count())
     }
 
-    fn begin(&self, _alloc: Global, _terms: &mut Terms<'_>) -> Result<(), Memory> {
-        Ok(())
+    fn begin(&self, alloc: Global, terms: &mut Terms<'_>) -> Result<E::Kept, Memory> {
+        self.elaborate.begin(alloc, self.proof, terms)
     }
 
     fn chunk(
         &self,
         alloc: Global,
         k: u64,
-        _kept: &mut (),
+        kept: &mut E::Kept,
         terms: &mut Terms<'_>,
     ) -> Result<Vec<Vec<Added>>, RuleStop> {
         let (first, end) = range_of(self.proof.count(), k);
-        match blocks_by(alloc, self.elaborate, self.proof, first, end, terms) {
+        match blocks_by(alloc, self, first, end, kept, terms) {
             Ok(blocks) => Ok(blocks),
             Err(stop) => Err(stop),
         }

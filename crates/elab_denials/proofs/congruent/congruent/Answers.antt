@@ -1,8 +1,8 @@
-use Rattle.std.proofs.Common.{◌≡◌, inl, sym, subst, length, arith}
+use Rattle.std.proofs.Common.{inl, length, arith}
 use Rattle.elab_denials.proofs.CongruentLemmas.{narrow_later}
 use Rattle.elab_denials.proofs.PlacedLemmas.{lacks_placed, went_placed}
 use Rattle.elab_denials.proofs.Results.{handed_on}
-use Rattle.elab_denials.proofs.WorkLemmas.{went_none, went_then}
+use Rattle.elab_denials.proofs.WorkLemmas.{went_none}
 use Rattle.elab_denials.proofs.congruent.congruent.Goals as goal
 
 pub returns-in_err-plan-clause-placed : goal.returns-in_err-plan-clause-placed

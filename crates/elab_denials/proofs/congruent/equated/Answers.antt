@@ -1,4 +1,4 @@
-use Rattle.std.proofs.Common.{◌∙◌, List, sym}
+use Rattle.std.proofs.Common.{◌∙◌, sym}
 use Rattle.rule_model.specs.declared.rules.Mode.{Mode}
 use Rattle.rule_model.specs.Congruence.{AreCongruent, Denies, Equates, HangTogetherDenied}
 use Rattle.elab_denials.specs.Matching.{IsMatchOf}

@@ -1,6 +1,5 @@
 use Rattle.rule_model.specs.Reading.{clause_at, premise_clauses}
 use Rattle.elab_denials.proofs.CongruentLemmas.{congruent_met, own_clause}
-use Rattle.elab_denials.proofs.MatchLemmas.{none_here}
 use Rattle.elab_denials.proofs.congruent.planned.Goals as goal
 
 pub unreachable-requires : goal.unreachable-requires

@@ -1,4 +1,4 @@
-use Rattle.elab_denials.proofs.MatchLemmas.{found_ends, linked_told}
+use Rattle.elab_denials.proofs.MatchLemmas.{linked_told}
 use Rattle.elab_denials.proofs.matching.is_linked.Goals as goal
 
 pub returns-in_ok-equal-in-None-clause-linked : goal.returns-in_ok-equal-in-None-clause-linked

@@ -1,4 +1,4 @@
-use Rattle.std.proofs.Common.{◌≡◌, ◌≢◌, [], ◌∷◌, ◌+◌, ◌<◌, ◌∙◌, ◌++◌, take, length, get_or, refl, sym, ap, subst, arith}
+use Rattle.std.proofs.Common.{[], ◌∷◌, ◌∙◌, ◌++◌, refl, sym, ap, subst, arith}
 use Rattle.term_model.proofs.Zips.{zip_length}
 use Rattle.term_pool.specs.Views.{IsTerm}
 use Rattle.elab_denials.specs.Matching.{AreLinkedAt}

@@ -1,4 +1,4 @@
-use Rattle.std.proofs.Common.{◌≡◌, refl}
+use Rattle.std.proofs.Common.{refl}
 use Rattle.elab_denials.specs.Matching.{AreCrosswise, AreStraight}
 use Rattle.elab_denials.proofs.MatchLemmas.{are_apart, not_congruent, some_here}
 use Rattle.elab_denials.proofs.matching.matched.Goals as goal

@@ -1,4 +1,4 @@
-use Rattle.std.proofs.Common.{◌≡◌, ◌≢◌, ◌∙◌, [], ℕ, List, arith, length, refl, rules, zip}
+use Rattle.std.proofs.Common.{◌≡◌, ◌≢◌, ◌∙◌, [], List, arith, length, refl, rules, zip}
 use Rattle.std.specs.List.{AllZip}
 use Rattle.rule_model.specs.Congruence.{Head, applied}
 use Rattle.term_model.specs.Terms.{Term}

@@ -1,9 +1,9 @@
-use Rattle.std.proofs.Common.{◌≡◌, inr, sym, subst, length, arith}
+use Rattle.std.proofs.Common.{inr, length, arith}
 use Rattle.elab_denials.proofs.CongruentLemmas.{narrow_later}
 use Rattle.elab_denials.proofs.PredicateLemmas.{planned_narrow}
 use Rattle.elab_denials.proofs.PlacedLemmas.{lacks_placed, went_placed}
 use Rattle.elab_denials.proofs.Results.{handed_on}
-use Rattle.elab_denials.proofs.WorkLemmas.{went_none, went_then}
+use Rattle.elab_denials.proofs.WorkLemmas.{went_none}
 use Rattle.elab_denials.proofs.predicates.congruent_pred.Goals as goal
 
 pub returns-in_err-plan-clause-placed : goal.returns-in_err-plan-clause-placed

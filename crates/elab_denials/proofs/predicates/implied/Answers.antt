@@ -1,9 +1,9 @@
-use Rattle.std.proofs.Common.{◌≡◌, inl, inr, refl, subst, sym, true, false}
+use Rattle.std.proofs.Common.{inl, inr, refl, subst}
 use Rattle.term_model.proofs.Sorting.{one_sort}
 use Rattle.term_model.specs.Terms.{not_of}
 use Rattle.term_pool.specs.Views.{RefersTo}
 use Rattle.rule_model.specs.Reading.{clause_at}
-use Rattle.elab_denials.specs.Matching.{AreMatchedBy, IsMatchOf}
+use Rattle.elab_denials.specs.Matching.{IsMatchOf}
 use Rattle.elab_denials.proofs.CongruentLemmas.{own_clause}
 use Rattle.elab_denials.proofs.MatchLemmas.{some_here}
 use Rattle.elab_denials.proofs.OwnLemmas.{own_literals}

@@ -1,4 +1,4 @@
-use Rattle.std.proofs.Common.{[], ◌∷◌, ◌≡◌, ℕ, refl, subst, sym, true, false}
+use Rattle.std.proofs.Common.{[], ◌∷◌, ℕ, refl, subst, sym}
 use Rattle.term_model.specs.Flips.{equality}
 use Rattle.term_model.specs.Terms.{not_of}
 use Rattle.term_pool.specs.Views.{RefersTo}

@@ -1,4 +1,4 @@
-use Rattle.std.proofs.Common.{◌≡◌, ◌∷◌, ◌++◌, [], ◌∙◌, append_assoc, sym}
+use Rattle.std.proofs.Common.{◌∷◌, ◌++◌, [], ◌∙◌, append_assoc, sym}
 use Rattle.elab_denials.proofs.PredicateLemmas.{front_same}
 use Rattle.elab_denials.proofs.predicates.last_two.Goals as goal
 

@@ -1,6 +1,5 @@
 use Rattle.rule_model.specs.Reading.{clause_at, premise_clauses}
 use Rattle.elab_denials.proofs.CongruentLemmas.{own_clause}
-use Rattle.elab_denials.proofs.MatchLemmas.{none_here, some_here}
 use Rattle.elab_denials.proofs.PredicateLemmas.{gives_other, predicates_met}
 use Rattle.elab_denials.proofs.predicates.planned.Goals as goal
 

@@ -1,8 +1,7 @@
-use Rattle.std.proofs.Common.{[], Contains, map}
+use Rattle.std.proofs.Common.{[], map}
 use Rattle.term_model.specs.Terms.{Term}
 use Rattle.equality_steps.specs.Denied.{implied_clause}
 use Rattle.equality_blocks.proofs.StayLemmas.{made_later}
-use Rattle.elab_denials.specs.Implying.{AreStatedTruths}
 use Rattle.elab_denials.proofs.Results.{handed_on}
 use Rattle.elab_denials.proofs.PredicateLemmas.{implied_made, implied_says, predicates_here}
 use Rattle.elab_denials.proofs.WalkLemmas.{lacks_clause, went_clause}

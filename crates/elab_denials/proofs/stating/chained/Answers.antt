@@ -1,7 +1,6 @@
 use Rattle.std.proofs.Common.{[], ◌∷◌}
 use Rattle.term_model.specs.Flips.{equality}
-use Rattle.term_model.specs.Terms.{Term, not_of}
-use Rattle.equality_steps.specs.Links.{LinkSays}
+use Rattle.term_model.specs.Terms.{not_of}
 use Rattle.equality_blocks.proofs.StayLemmas.{made_later}
 use Rattle.elab_denials.proofs.Results.{handed_on}
 use Rattle.elab_denials.proofs.StateLemmas.{way_here, way_made}

@@ -1,4 +1,4 @@
-use Rattle.std.proofs.Common.{[], ◌∷◌, ◌++◌, ◌≡◌, ℕ, subst, sym}
+use Rattle.std.proofs.Common.{[], ◌∷◌, ◌++◌, ℕ, subst, sym}
 use Rattle.term_model.specs.Flips.{equality}
 use Rattle.term_pool.specs.Views.{RefersTo}
 use Rattle.rule_model.specs.Congruence.{denials}
@@ -84,7 +84,9 @@ led-requires-clause-way c =
 
 pub returns-in_err-half-clause-went : goal.returns-in_err-half-clause-went
 returns-in_err-half-clause-went c =
-    went_then c.args.at.now c.args.terms.now c.stated.new.terms c.led.new.terms (went_then c.args.at.now c.args.terms.now c.exchanged.new.terms c.stated.new.terms c.in_ok-first.ensures.went c.in_ok-second.ensures.went) c.in_err-half.ensures.went
+    went_then c.args.at.now c.args.terms.now c.stated.new.terms c.led.new.terms
+    (went_then c.args.at.now c.args.terms.now c.exchanged.new.terms c.stated.new.terms c.in_ok-first.ensures.went c.in_ok-second.ensures.went)
+    c.in_err-half.ensures.went
 
 pub resolved-requires-clause-opposed : goal.resolved-requires-clause-opposed
 resolved-requires-clause-opposed c =
@@ -124,7 +126,10 @@ resolved-requires-clause-opposed c =
 
 pub returns-in_err-link-clause-went : goal.returns-in_err-link-clause-went
 returns-in_err-link-clause-went c =
-    went_then c.args.at.now c.args.terms.now c.led.new.terms c.resolved.new.terms (went_then c.args.at.now c.args.terms.now c.stated.new.terms c.led.new.terms (went_then c.args.at.now c.args.terms.now c.exchanged.new.terms c.stated.new.terms c.in_ok-first.ensures.went c.in_ok-second.ensures.went) c.in_ok-half.ensures.went) c.in_err-link.ensures.went
+    went_then c.args.at.now c.args.terms.now c.led.new.terms c.resolved.new.terms
+    (went_then c.args.at.now c.args.terms.now c.stated.new.terms c.led.new.terms
+    (went_then c.args.at.now c.args.terms.now c.exchanged.new.terms c.stated.new.terms c.in_ok-first.ensures.went c.in_ok-second.ensures.went)
+    c.in_ok-half.ensures.went) c.in_err-link.ensures.went
 
 pub returns-clause-owing : goal.returns-clause-owing
 returns-clause-owing c =
@@ -170,4 +175,7 @@ returns-clause-owing c =
 
 pub returns-clause-went : goal.returns-clause-went
 returns-clause-went c =
-    went_then c.args.at.now c.args.terms.now c.led.new.terms c.resolved.new.terms (went_then c.args.at.now c.args.terms.now c.stated.new.terms c.led.new.terms (went_then c.args.at.now c.args.terms.now c.exchanged.new.terms c.stated.new.terms c.in_ok-first.ensures.went c.in_ok-second.ensures.went) c.in_ok-half.ensures.went) c.in_ok-link.ensures.went
+    went_then c.args.at.now c.args.terms.now c.led.new.terms c.resolved.new.terms
+    (went_then c.args.at.now c.args.terms.now c.stated.new.terms c.led.new.terms
+    (went_then c.args.at.now c.args.terms.now c.exchanged.new.terms c.stated.new.terms c.in_ok-first.ensures.went c.in_ok-second.ensures.went)
+    c.in_ok-half.ensures.went) c.in_ok-link.ensures.went

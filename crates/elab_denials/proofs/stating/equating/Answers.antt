@@ -1,9 +1,9 @@
-use Rattle.std.proofs.Common.{[], ◌∷◌, ◌≤◌, arith, subst, true, false}
+use Rattle.std.proofs.Common.{[], ◌∷◌, subst}
 use Rattle.term_model.specs.Flips.{equality}
 use Rattle.elab_denials.specs.Stating.{AreReadyBy, AreStated}
 use Rattle.elab_denials.proofs.OwingLemmas.{given_later}
 use Rattle.elab_denials.proofs.StateLemmas.{only_given, owing_with}
-use Rattle.elab_denials.proofs.WorkLemmas.{done_more, place_later}
+use Rattle.elab_denials.proofs.WorkLemmas.{place_later}
 use Rattle.elab_denials.proofs.stating.equating.Goals as goal
 
 pub crossed-requires-clause-turnable : goal.crossed-requires-clause-turnable

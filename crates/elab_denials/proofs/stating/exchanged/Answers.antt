@@ -1,6 +1,4 @@
-use Rattle.std.proofs.Common.{[], ◌∷◌, ◌+◌, ◌≤◌, arith, refl, subst, sym}
-use Rattle.term_pool.specs.Views.{RefersTo}
-use Rattle.elab_denials.specs.Working.{IsMadeEquality}
+use Rattle.std.proofs.Common.{refl}
 use Rattle.elab_denials.proofs.Results.{handed_on}
 use Rattle.elab_denials.proofs.StateLemmas.{exchangeable_given, exchangeable_made, exchangeable_turned}
 use Rattle.elab_denials.proofs.WorkLemmas.{went_then, work_later}

@@ -1,7 +1,4 @@
-use Rattle.std.proofs.Common.{[], ◌∷◌, ◌+◌, ◌≤◌, arith, refl, subst, sym}
-use Rattle.term_model.specs.Flips.{equality}
-use Rattle.term_model.specs.Terms.{Term, not_of}
-use Rattle.elab_denials.specs.Owing.{AreOpposedOn}
+use Rattle.std.proofs.Common.{◌+◌, ◌≤◌, arith, subst}
 use Rattle.elab_denials.specs.Stating.{SaysLed}
 use Rattle.elab_denials.proofs.Results.{handed_on}
 use Rattle.elab_denials.proofs.StateLemmas.{led_opposed, led_says, way_same}

@@ -1,8 +1,7 @@
-use Rattle.std.proofs.Common.{[], Contains, map}
+use Rattle.std.proofs.Common.{[], map}
 use Rattle.term_model.specs.Terms.{Term}
 use Rattle.equality_steps.specs.Denied.{congruent_clause}
 use Rattle.equality_blocks.proofs.StayLemmas.{made_later}
-use Rattle.elab_denials.specs.Stating.{AreStated}
 use Rattle.elab_denials.proofs.Results.{handed_on}
 use Rattle.elab_denials.proofs.StateLemmas.{stated_applied, stated_made, stated_says}
 use Rattle.elab_denials.proofs.WalkLemmas.{lacks_clause, went_clause}

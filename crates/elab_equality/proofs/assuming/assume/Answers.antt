@@ -1,4 +1,4 @@
-use Rattle.std.proofs.Common.{sym, subst, arith}
+use Rattle.std.proofs.Common.{sym, subst}
 use Rattle.term_pool.specs.Placing.{PlacesCellsOf}
 use Rattle.term_pool.specs.Views.{TermsView, KeepsTerms}
 use Rattle.term_pool.proofs.ReadingLemmas.{keeps-same}
@@ -8,7 +8,7 @@ use Rattle.elab_equality.specs.Assuming.{IsAssumedBy}
 use Rattle.elab_equality.proofs.AssumeFewLemmas.{assume_count, assume_few}
 use Rattle.elab_equality.proofs.AssumeLemmas.{assume_is, assumed_later, may_be_asserted}
 use Rattle.elab_equality.proofs.ReadingLemmas.{memory_full, none_placed}
-use Rattle.elab_equality.proofs.WorkLemmas.{done_then, handed_on}
+use Rattle.elab_equality.proofs.WorkLemmas.{handed_on}
 use Rattle.elab_equality.proofs.assuming.assume.Goals as goal
 
 pub only_literal-assumed-requires-clause-one : goal.only_literal-assumed-requires-clause-one

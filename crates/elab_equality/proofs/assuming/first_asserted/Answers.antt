@@ -1,46 +1,36 @@
-use Rattle.std.proofs.Common.{◌≡◌, ◌∙◌, false, sym, subst, true}
-use Rattle.term_pool.specs.Views.{IsTerm}
-use Rattle.elab_equality.proofs.AssumeLemmas.{IsLikeWhere, asserted_term, assumed_term, first_found, not_past, others_more, others_none}
+use Rattle.std.proofs.Common.{◌<◌, Any, length, sym, subst}
+use Rattle.term_model.specs.Flips.{EqualUpToFlips}
+use Rattle.term_pool.specs.Views.{ReferToAll}
+use Rattle.flip_keys.specs.Assertions.{references_of, IsFirstLike}
+use Rattle.elab_equality.specs.Assuming.{IsAssumedBy}
+use Rattle.elab_equality.proofs.AssumeLemmas.{assumed_term, first_found, some_alike, told_none, told_some}
 use Rattle.elab_equality.proofs.assuming.first_asserted.Goals as goal
 
-pub is_like-requires-clause-one : goal.is_like-requires-clause-one
-is_like-requires-clause-one c =
-    subst (λ x. IsTerm c.args.at.now.symbols.now x c.assertion-item.result) (sym c.assertions.invariant.0)
-    (asserted_term c.args.at.now c.args.terms.now c.requires.job c.requires.rule c.args.assumed c.requires.clause c.assertion-item.result
-    (c.assertions.assertion-index, c.assertions-test.true, sym c.assertion-item.is))
+pub first_asserted-requires-clause-known : goal.first_asserted-requires-clause-known
+first_asserted-requires-clause-known c =
+    let t = assumed_term c.args.at.now c.args.terms.now c.requires.job c.requires.rule c.args.assumed c.requires.clause in
+    record { tree = t.refers.tree; stands = t.refers.known }
 
-pub is_like-requires-clause-other : goal.is_like-requires-clause-other
-is_like-requires-clause-other c =
-    subst (λ x. IsTerm c.args.at.now.symbols.now x c.args.assumed) (sym c.assertions.invariant.0)
-    (assumed_term c.args.at.now c.args.terms.now c.requires.job c.requires.rule c.args.assumed c.requires.clause)
-
-pub returns-then-alike-clause-first : goal.returns-then-alike-clause-first
-returns-then-alike-clause-first c =
+pub returns-clause-first : goal.returns-clause-first
+returns-clause-first c =
     let p = c.args.at.now in
     let v = c.args.terms.now in
-    let q = c.assertion-item.result in
-    first_found p v c.requires.job c.requires.rule c.args.assumed c.requires.clause c.assertions.assertion-index q c.assertions-test.true c.assertion-item.is
-    c.assertions.invariant.1
-    (asserted_term p v c.requires.job c.requires.rule c.args.assumed c.requires.clause q
-    (c.assertions.assertion-index, c.assertions-test.true, sym c.assertion-item.is))
-    (subst (λ x. IsLikeWhere p x c.args.assumed true q) c.assertions.invariant.0
-    (subst (λ b. IsLikeWhere p c.assertions.terms c.args.assumed b q) c.if-alike.true c.in_ok-alike.ensures.like))
-
-pub assertions-preserved : goal.assertions-preserved
-assertions-preserved c =
-    let p = c.args.at.now in
-    let v = c.args.terms.now in
-    let q = c.assertion-item.result in (
-      c.is_like.ensures.same ∙ c.assertions.invariant.0,
-      others_more p v c.requires.job c.requires.rule c.args.assumed c.requires.clause c.assertions.assertion-index q c.assertions-test.true c.assertion-item.is
-          c.assertions.invariant.1
-          (asserted_term p v c.requires.job c.requires.rule c.args.assumed c.requires.clause q
-          (c.assertions.assertion-index, c.assertions-test.true, sym c.assertion-item.is))
-          (subst (λ x. IsLikeWhere p x c.args.assumed false q) c.assertions.invariant.0
-          (subst (λ b. IsLikeWhere p c.assertions.terms c.args.assumed b q) c.if-alike.false c.in_ok-alike.ensures.like)),
-    )
+    let h = c.requires.job in
+    let place = c.in-Some.place in
+    let q = c.index-at-place.result in
+    let below = subst (λ rs. place < length rs) c.requires.asserted.are
+    (told_some (λ n. n < length (references_of c.args.asserted.now)) c.in_ok-found.found place c.in-Some.is c.in_ok-found.ensures.within) in
+    let refer = subst (λ rs. ReferToAll p.symbols.now v rs h.assertions) (sym c.requires.asserted.are) h.asserted in
+    subst (λ x. IsAssumedBy p v x c.args.assumed) c.index-at-place.is
+    (first_found p v h c.requires.rule c.args.assumed c.requires.clause place q below c.index-at-place.is
+    (λ u refers. told_some (IsFirstLike h.assertions u) c.in_ok-found.found place c.in-Some.is (c.in_ok-found.ensures.first h.assertions u refer refers)))
 
 pub unreachable-requires : goal.unreachable-requires
 unreachable-requires c =
-    not_past c.args.at.now c.args.terms.now c.requires.job c.requires.rule c.args.assumed c.requires.clause c.assertions.assertion-index c.assertions-test.false
-    c.assertions.invariant.1
+    let p = c.args.at.now in
+    let v = c.args.terms.now in
+    let h = c.requires.job in
+    let refer = subst (λ rs. ReferToAll p.symbols.now v rs h.assertions) (sym c.requires.asserted.are) h.asserted in
+    some_alike p v h c.requires.rule c.args.assumed c.requires.clause
+    (λ u refers.
+    told_none (¬ Any (λ a. EqualUpToFlips a u) h.assertions) c.in_ok-found.found c.in-None.is (c.in_ok-found.ensures.none h.assertions u refer refers))

@@ -1,4 +1,4 @@
-use Rattle.std.proofs.Common.{sym, ◌∙◌}
+use Rattle.std.proofs.Common.{◌∙◌}
 use Rattle.equality_blocks.specs.Made.{IsPlacedFor}
 use Rattle.term_pool.proofs.ReadingLemmas.{keeps-same}
 use Rattle.elab_equality.proofs.BindingLemmas.{closing_made}

@@ -1,4 +1,4 @@
-use Rattle.std.proofs.Common.{◌≡◌, ◌∙◌, ◌∷◌, [], ◌++◌, ap, sym}
+use Rattle.std.proofs.Common.{◌∙◌, ◌∷◌, [], ◌++◌, ap, sym}
 use Rattle.elab_equality.proofs.ClosingLemmas.{images_more}
 use Rattle.elab_equality.proofs.closing.images_of.Goals as goal
 

@@ -1,5 +1,4 @@
-use Rattle.std.proofs.Common.{◌≡◌, ◌∙◌, ap, subst, sym}
-use Rattle.proof_store.specs.Meaning.{StandForItems}
+use Rattle.std.proofs.Common.{◌∙◌, ap, sym}
 use Rattle.rule_model.specs.Reading.{bindings_at}
 use Rattle.term_model.specs.Terms.{let_in}
 use Rattle.elaborator.proofs.ClosedOnce.{closed_within}

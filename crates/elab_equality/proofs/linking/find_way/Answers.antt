@@ -1,5 +1,4 @@
 use Rattle.std.proofs.Common.{◌∙◌, subst}
-use Rattle.equality_ways.specs.Tables.{IsTableOf}
 use Rattle.equality_ways.specs.Ways.{IsNeverTwice, IsWayOver}
 use Rattle.elab_equality.specs.Walking.{AreSidesGiven}
 use Rattle.elab_equality.proofs.ReadingLemmas.{ConnectedAlike, connected_ends, found_used, some_where}

@@ -1,5 +1,3 @@
-use Rattle.std.proofs.Common.{subst}
-use Rattle.term_pool.specs.Views.{ReferToAll}
 use Rattle.elab_equality.proofs.CrossLemmas.{LinkBoth, LinkNone, first_crossed, first_term, second_matched, second_other, second_term, short_left, short_right}
 use Rattle.elab_equality.proofs.GivenLemmas.{false_then, true_then}
 use Rattle.elab_equality.proofs.matching.are_matched.Goals as goal

@@ -1,4 +1,4 @@
-use Rattle.std.proofs.Common.{List, length, drop, subst}
+use Rattle.std.proofs.Common.{length, drop, subst}
 use Rattle.term_pool.specs.Reading.{arguments_of}
 use Rattle.term_pool.specs.Views.{ReferToAll}
 use Rattle.term_pool.proofs.Keeping.{same_terms}

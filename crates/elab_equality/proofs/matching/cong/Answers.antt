@@ -3,7 +3,7 @@ use Rattle.elab_equality.proofs.DoneLemmas.{memory_full, still_placed}
 use Rattle.elab_equality.proofs.WorkLemmas.{done_err}
 use Rattle.equality_blocks.specs.Made.{IsPlacedFor}
 use Rattle.term_pool.proofs.ReadingLemmas.{keeps-same}
-use Rattle.std.proofs.Common.{sym, ◌∙◌}
+use Rattle.std.proofs.Common.{◌∙◌}
 use Rattle.elab_equality.proofs.matching.cong.Goals as goal
 
 pub returns-in_err-given-clause-placed : goal.returns-in_err-given-clause-placed

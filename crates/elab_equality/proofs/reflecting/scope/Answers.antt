@@ -1,5 +1,4 @@
 use Rattle.std.proofs.Common.{◌∙◌}
-use Rattle.elab_equality.proofs.ReadingLemmas.{memory_full, none_placed}
 use Rattle.elab_equality.proofs.ScopeLemmas.{scope_lacks, scope_placed}
 use Rattle.elab_equality.proofs.reflecting.scope.Goals as goal
 

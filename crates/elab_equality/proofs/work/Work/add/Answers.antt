@@ -1,4 +1,4 @@
-use Rattle.std.proofs.Common.{◌+◌, ◌*◌, length, arith, ap, refl}
+use Rattle.std.proofs.Common.{length, arith, ap, refl}
 use Rattle.elab_equality.proofs.AddLemmas.{add_crossed, add_matched, crossed_as, crossed_twos, linked_as, matched_as, twos_are, twos_long}
 use Rattle.elab_equality.proofs.DoneLemmas.{done_more}
 use Rattle.elab_equality.proofs.GivenLemmas.{false_then, true_then}

@@ -1,5 +1,3 @@
-use Rattle.std.proofs.Common.{refl, subst, sym}
-use Rattle.elab_equality.specs.Walking.{LeadOn}
 use Rattle.elab_equality.proofs.EndingLemmas.{by_reflexive, by_trans, ends_other, may_equal_itself, sides_made}
 use Rattle.elab_equality.proofs.WalkLemmas.{chained, ends_met, some_list}
 use Rattle.elab_equality.proofs.work.Work.arrive.Goals as goal

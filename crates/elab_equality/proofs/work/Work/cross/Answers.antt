@@ -1,4 +1,4 @@
-use Rattle.std.proofs.Common.{◌∷◌, [], arith, refl}
+use Rattle.std.proofs.Common.{arith, refl}
 use Rattle.flip_steps.proofs.MemoryLemmas.{equates_later}
 use Rattle.flip_steps.proofs.OrderLemmas.{keeps_then}
 use Rattle.elab_equality.proofs.LinkLemmas.{given_later}

@@ -1,5 +1,4 @@
 use Rattle.std.proofs.Common.{arith}
-use Rattle.flip_steps.proofs.OrderLemmas.{keeps_then}
 use Rattle.elab_equality.proofs.AssumeEndLemmas.{equated_none, equated_some, unit_alone, unit_later}
 use Rattle.elab_equality.proofs.AssumeLemmas.{assumed_flips, literals_later, made_literals}
 use Rattle.elab_equality.proofs.WorkLemmas.{done_err, done_ok, done_then}

@@ -1,4 +1,4 @@
-use Rattle.std.proofs.Common.{◌≡◌, ◌≢◌, ℕ, arith, sym, subst}
+use Rattle.std.proofs.Common.{◌≡◌, ℕ, arith, subst}
 use Rattle.equality_ways.specs.Ways.{turned_if}
 use Rattle.equality_steps.specs.Links.{LinkEquates}
 use Rattle.elab_equality.proofs.LinkLemmas.{pair_flips, pair_made, place_within, premise_says}

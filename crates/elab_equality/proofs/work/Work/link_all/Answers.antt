@@ -1,4 +1,4 @@
-use Rattle.std.proofs.Common.{◌*◌, ◌≤◌, ◌<◌, arith, length, take}
+use Rattle.std.proofs.Common.{◌*◌, ◌≤◌, arith, length}
 use Rattle.elab_equality.proofs.LinkLemmas.{given_later}
 use Rattle.elab_equality.proofs.LoopLemmas.{linking_end, linking_more, linking_none, pair_at, right_below}
 use Rattle.elab_equality.proofs.WorkLemmas.{done_err, done_memory, done_ok, done_then}

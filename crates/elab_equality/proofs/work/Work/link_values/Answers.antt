@@ -1,7 +1,6 @@
 use Rattle.std.proofs.Common.{◌*◌, length, arith}
 use Rattle.elab_equality.proofs.LinkLemmas.{given_later}
 use Rattle.elab_equality.proofs.ClosingLemmas.{binding_more, binding_none, binding_whole, bound_at, image_below}
-use Rattle.elab_equality.proofs.DoneLemmas.{done_more}
 use Rattle.elab_equality.proofs.WorkLemmas.{done_err, done_memory, done_ok, done_then}
 use Rattle.elab_equality.proofs.work.Work.link_values.Goals as goal
 

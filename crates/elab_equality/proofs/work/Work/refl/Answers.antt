@@ -1,4 +1,4 @@
-use Rattle.std.proofs.Common.{◌≡◌, ◌≢◌, ℕ, arith, refl}
+use Rattle.std.proofs.Common.{◌≡◌, arith}
 use Rattle.elab_equality.proofs.WorkLemmas.{done_err, done_none, done_ok}
 use Rattle.elab_equality.proofs.work.Work.refl.Goals as goal
 

@@ -5,9 +5,12 @@ use Rattle.flip_steps.proofs.UnitLemmas.{extends_itself}
 use Rattle.elab_equality.specs.declared.work.Work.{Work}
 use Rattle.elab_equality.proofs.AssertLemmas.{move_done, one_pivot, step_move}
 use Rattle.elab_equality.proofs.AssumeEndLemmas.{atom_made, implied_later, left_alone, opposed, others_made, unit_later}
-use Rattle.elab_equality.proofs.AssumeLemmas.{literals_later}
+use Rattle.elab_equality.proofs.AssumeLemmas.{deniable, literals_later}
 use Rattle.elab_equality.proofs.WorkLemmas.{done_err, done_memory, done_then}
 use Rattle.elab_equality.proofs.work.Work.resolved.Goals as goal
+
+pub negated-requires-clause-made : goal.negated-requires-clause-made
+negated-requires-clause-made c = deniable c.args.at.now c.args.terms.now c.args.a c.args.b c.requires.made
 
 pub returns-in_err-negation-clause-done : goal.returns-in_err-negation-clause-done
 returns-in_err-negation-clause-done c = done_err c.args.self.now 1 c.from_residual.result c.in_err-negation.ensures.done c.from_residual.ensures.1
