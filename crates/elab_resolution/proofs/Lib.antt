@@ -1,3 +1,5 @@
+pub mod PlacedLemmas
+pub mod NearCells
 pub mod CountLemmas
 pub mod TopLemmas
 pub mod LevelLemmas
@@ -8,3 +10,5 @@ pub mod RootLemmas
 pub mod LoadLemmas
 pub mod AddLemmas
 pub mod StepLemmas
+pub mod RootCells
+pub mod DirectLemmas

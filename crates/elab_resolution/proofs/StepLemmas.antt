@@ -87,7 +87,7 @@ truth_is_root ps ts =
     Contains-append_right (flat_map (λ (c : List Term). c) ps) (ts ++ truth_term ∷ falsity_term ∷ []) truth_term
     (Contains-append_right ts (truth_term ∷ falsity_term ∷ []) truth_term (contains_head truth_term (falsity_term ∷ [])))
 
-in_some : (ps : List (List Term)) (t : Term) → Contains (flat_map (λ (c : List Term). c) ps) t → (c : List Term) × Contains ps c × Contains c t
+pub in_some : (ps : List (List Term)) (t : Term) → Contains (flat_map (λ (c : List Term). c) ps) t → (c : List Term) × Contains ps c × Contains c t
 in_some [] t h = absurd (contains_none t h)
 in_some (p ∷ ps) t h = elim (Contains-append_cases p (flat_map (λ (c : List Term). c) ps) t h) [
   | inl here ↦ (p, contains_head p ps, here)

@@ -1,6 +1,6 @@
 -- Public. Steps that are added for a command: what they rest on, and when they meet the conditions of their rules.
 use Rattle.std.specs.Prelude.{◌≡◌, ◌<◌, ◌+◌, ◌⊎◌, ℕ, List, [], ◌∷◌, ◌++◌, map, take, length, slice_get, Some, None, All, Contains}
-use Rattle.std.specs.List.{AllZip}
+use Rattle.std.specs.List.{AllZip, sum_by}
 use Rattle.std.specs.Option.{option_map_or}
 use Rattle.sym_table.specs.Table.{Table}
 use Rattle.term_parts.specs.Judging.{StandForTruths}
@@ -78,3 +78,7 @@ roots_at proof i = roots_of (premise_clauses proof i) (clause_at proof i)
 -- how many `not`s the literals of the step and of its premises' clauses begin with, each as often as it is mentioned
 abbrev pub nots_at_step : ProofItems Var Term → ℕ → ℕ
 nots_at_step proof i = leading_nots_in (premise_clauses proof i) + leading_nots_of (clause_at proof i)
+
+-- how many literals the step and its premises' clauses have
+abbrev pub literals_at_step : ProofItems Var Term → ℕ → ℕ
+literals_at_step proof i = sum_by length (premise_clauses proof i) + length (clause_at proof i)

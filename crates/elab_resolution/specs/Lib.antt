@@ -5,3 +5,5 @@ pub mod Numbered
 pub mod Loaded
 pub mod Plannable
 pub mod Adding
+pub mod Placed
+pub mod Guessed

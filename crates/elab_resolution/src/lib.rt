@@ -5,14 +5,17 @@
 mod adding;
 mod clauses;
 mod counting;
+mod direct;
+mod guessing;
 mod laws;
 mod loading;
 mod numbering;
+mod planned;
 mod planning;
 mod replacing;
 mod roots;
 mod tops;
 mod towers;
 
-pub use laws::{copies_need_no_steps, near_terms_are_low};
+pub use laws::{copies_need_no_steps, near_cells_are_few, near_terms_are_low};
 pub use replacing::steps;
