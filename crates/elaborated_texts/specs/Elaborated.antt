@@ -1,5 +1,5 @@
 -- Public. What the texts of a problem and of a proof come to where the proof is to be elaborated.
-use Rattle.std.specs.Prelude.{◌≡◌, ◌⊎◌, ◌^◌, ℕ, List}
+use Rattle.std.specs.Prelude.{◌≡◌, ◌⊎◌, ◌^◌, ℕ, false, List, Contains}
 use Rattle.pair_pool.specs.Views.{IsOneToOne}
 use Rattle.sym_table.specs.Table.{Table, IsTable}
 use Rattle.term_model.specs.Terms.{Var, Term}
@@ -8,7 +8,11 @@ use Rattle.rule_model.specs.declared.statuses.Status.{Status}
 use Rattle.rule_model.specs.declared.statuses.Verdict.{Verdict}
 use Rattle.rule_model.specs.Elaboration.{IsElaboration}
 use Rattle.rule_model.specs.Proofs.{ProofItems}
+use Rattle.rule_model.specs.Reading.{clause_at}
 use Rattle.problem_text.specs.Problems.{HasNamesApart}
+use Rattle.problem_text.specs.Scripts.{Named, Script}
+use Rattle.problem_text.specs.Words.{is_among}
+use Rattle.printed_proofs.specs.Naming.{IsApart, IsPlan}
 use Rattle.printed_proofs.specs.Shared.{Plan}
 use Rattle.alethe_printer.specs.Printed.{proof_text}
 use Rattle.named_proofs.specs.Named.{IsReadAs}
@@ -28,8 +32,15 @@ IsStatusOfPrinted Verdict.Valid status = status ≡ 0
 IsStatusOfPrinted Verdict.Holey status = status ≡ 2
 IsStatusOfPrinted v status = ⊥
 
+-- The names may be given to terms behind the script: the script gives none of them, and in no literal of the proof does one stand or is
+-- one bound.
+pub record AreFreeNames (script : Script) (proof : ProofItems Var Term) (plan : Plan) : Type 0 where
+  pub is_plan : IsPlan plan
+  pub free : (n : Named) → Contains plan n → is_among script.taken n.name ≡ false
+  pub apart : (i : ℕ) (t : Term) → Contains (clause_at proof i) t → IsApart plan t
+
 -- The proof is valid or has holes, which the status says. The bytes are the printed text of an elaboration of it by this check, with
--- names for some terms. Where no function has the name of a variable that a let or an anchor of the two texts binds, they are read as
+-- names for some terms, which are free. Where no function has the name of a variable that a let or an anchor of the two texts binds, they are read as
 -- this elaboration.
 pub record IsElaboratedText (problem : List ℕ) (options : Options) (proof : List ℕ) (status : ℕ) (bytes : List ℕ) : Type 0 where
   pub verdict : Verdict
@@ -38,6 +49,7 @@ pub record IsElaboratedText (problem : List ℕ) (options : Options) (proof : Li
   pub elaboration : ProofItems Var Term
   pub is : IsElaboration (checking_of options checked.script.assertions) checked.commands elaboration
   pub plan : Plan
+  pub names : AreFreeNames checked.script elaboration plan
   pub printed : bytes ≡ proof_text plan checked.script elaboration
   pub read_back : HasNamesApart checked.after → IsReadAs bytes checked.script elaboration
 

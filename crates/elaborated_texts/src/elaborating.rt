@@ -34,12 +34,13 @@ use named_proofs::write_proof;
 use pair_pool::{Pass, Pool};
 use printing_laws::laws::{read_proofs_have_sorts, well_sorted_proofs_are_of_sorted_terms};
 use problem_text::laws::{scripts_are_closed, scripts_are_well_sorted};
-use proof_store::commands_correspond;
+use proof_store::{commands_correspond, terms_correspond};
 use readable_proofs::laws::{proofs_are_over_their_names, proofs_that_pass_have_coefficients};
 use std::alloc::Global;
 use std::thread::Threads;
 use sym_table::Symbols;
 use term_pool::Terms;
+use term_sharing::terms_are_apart;
 
 /// How an elaboration ended.
 #[derive(Drop)]
@@ -63,6 +64,8 @@ fn made_elaborations_have_texts()
 {
     proofs_correspond();
     commands_correspond();
+    terms_correspond();
+    terms_are_apart();
     proofs_are_over_their_names();
     proofs_that_pass_have_coefficients();
     named_proofs_are_read_back();

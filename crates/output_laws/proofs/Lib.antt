@@ -4,4 +4,9 @@ mod OneCore
 mod OneCheck
 mod HoleRules
 mod Saying
+mod EachCommand
+mod NoPivots
+mod SpelledTerms
+mod SpelledProofs
+mod NoArguments
 mod OtherMode

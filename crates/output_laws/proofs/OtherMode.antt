@@ -22,7 +22,7 @@ use Rattle.alethe_text.specs.Steps.{assume_read, attribute_read, attributes_read
 use Rattle.alethe_text.specs.Anchors.{argument_read, arguments_read, anchor_read}
 use Rattle.alethe_text.specs.ProofTexts.{performed, commands, behind_answer, unwrapped_commands, proof_from}
 use Rattle.alethe_text.specs.ProofTexts.{StandsForProof}
-use Rattle.output_laws.specs.Arguments.{IsNoArgument, GivesNoPivots, GiveNoPivots, HasNoPivotArguments}
+use Rattle.output_laws.proofs.NoArguments.{IsNoArgument, GivesNoPivots, GiveNoPivots, HasNoPivotArguments}
 
 -- One reading and then another, where what is read by the first is so.
 module _ {A B : Type 0} (P : A → Type 0) (reading other : Reading A) (next following : A → Reading B) (s : ProofState) where

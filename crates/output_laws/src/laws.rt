@@ -2,26 +2,30 @@
 //! function that does nothing.
 ghost use Rattle.std.specs.Prelude.{◌≡◌, ℕ, Bool, List, [], false};
 ghost use Rattle.rule_model.specs.declared.statuses.Verdict.{Verdict};
-ghost use Rattle.rule_model.specs.Proofs.{ProofItems as Proof};
-ghost use Rattle.term_model.specs.Terms.{Var, Term};
 ghost use Rattle.problem_text.specs.Problems.{StandsForProblem, HasNamesApart};
-ghost use Rattle.problem_text.specs.Scripts.{Script};
 ghost use Rattle.alethe_text.specs.ProofTexts.{StandsForProof};
-ghost use Rattle.alethe_text.specs.States.{ProofSettings};
 ghost use Rattle.printed_proofs.specs.Numbered.{numbered_proof};
+ghost use Rattle.readable_proofs.specs.ProofsOver.{printed_settings};
 ghost use Rattle.command_words.specs.declared.request.Options.{Options};
 ghost use Rattle.judged_texts.specs.declared.judgement.Judgement.{Judgement};
 ghost use Rattle.judged_texts.specs.Judgement.{IsJudgement};
 ghost use Rattle.elaborated_texts.specs.Elaborated.{IsElaboratedText, IsStatusOfPrinted};
 ghost use Rattle.pruned_texts.specs.Needed.{IsCoreText, IsPrunedText, left_of};
-ghost use Rattle.output_laws.specs.Arguments.{HasNoPivotArguments};
 ghost use Rattle.output_laws.specs.Again.{strictly, keeping_lets, hole_rules, IsCheckedWith, IsReadLow, IsReadUpToPivots, SaysSo, SaySame};
 
-use alethe_text::laws::{proof_texts_have_one_reading, proofs_are_read_alike_within_limits};
+use alethe_text::laws::{
+    proof_texts_have_one_reading, proofs_are_read_alike_within_limits, proofs_are_well_formed,
+};
+use printed_proofs::laws::parts_are_read_back;
 use problem_text::laws::texts_have_one_reading;
+use pruned_proofs::laws::pruned_proofs_are_well_formed;
+use readable_proofs::laws::{
+    proofs_are_over_their_names, proofs_are_readable, proofs_that_pass_have_coefficients,
+};
 use rule_model::laws::elaboration::elaborations_keep_verdicts;
 use rule_model::laws::ids::{ids_play_no_part, pivots_do_not_matter_in_check_mode};
 use rule_model::laws::soundness::statuses_are_unique;
+use sexpr::{items_are_unique, printed_items_are_read_back};
 
 /// Let no function have the name of a variable that a let or an anchor of the two texts binds, and no term that is read of the text of
 /// an elaboration be higher than the limit. Checked with `--strict` behind the same problem, that text has the verdict of the proof that
@@ -42,16 +46,28 @@ pub fn elaborations_are_valid_strictly()
     proofs_are_read_alike_within_limits();
 }
 
-/// Where no step by resolution has arguments in a text, it stands for the same proof with `--strict` and without.
-pub fn texts_without_pivots_are_read_alike()
-    ensures { (source : List ℕ) (settings : ProofSettings) (is_strict : Bool) (before : Script) (proof : Proof Var Term) (after : Script) →
-        HasNoPivotArguments source → StandsForProof source settings before proof after →
-        StandsForProof source (record settings { is_strict = is_strict }) before proof after }
-{}
+/// The text of a pruned proof stands behind the problem for the pruned proof with its ids numbered, read with `--strict` and without, where
+/// no function has the name of a variable that a let or an anchor of the two texts binds. The proof that was pruned was read without
+/// `--strict`: its steps have no pivots, and so no step by resolution has arguments in the text.
+pub fn pruned_texts_are_read_in_both_modes()
+    ensures { (problem : List ℕ) (options : Options) (proof bytes : List ℕ) (out : IsPrunedText problem options proof bytes)
+        (apart : HasNamesApart out.refutation.checked.after) (is_strict : Bool) → options.is_strict ≡ false →
+        StandsForProof bytes (record printed_settings { is_strict = is_strict }) out.refutation.checked.script
+        (numbered_proof (left_of problem options proof out.refutation)) (out.read_back apart).after }
+{
+    items_are_unique();
+    printed_items_are_read_back();
+    parts_are_read_back();
+    proofs_are_well_formed();
+    pruned_proofs_are_well_formed();
+    proofs_are_over_their_names();
+    proofs_that_pass_have_coefficients();
+    proofs_are_readable();
+}
 
 /// The text of a pruned proof, checked without `--strict` behind the same problem, is valid where it is read so as the pruned proof, up to
-/// pivots. So it is read where no step by resolution has arguments in it, no function has the name of a variable that a let or an anchor
-/// of the two texts binds, and no term that is read of it is higher than the limit.
+/// pivots. So it is read where no function has the name of a variable that a let or an anchor of the two texts binds, and no term that is
+/// read of it is higher than the limit.
 pub fn pruned_texts_are_valid()
     ensures read { (problem : List ℕ) (options : Options) (proof bytes : List ℕ) (out : IsPrunedText problem options proof bytes) →
         options.is_strict ≡ false → StandsForProblem problem false out.refutation.checked.script →
@@ -59,17 +75,17 @@ pub fn pruned_texts_are_valid()
         IsCheckedWith problem (keeping_lets options) bytes Verdict.Valid [] }
     ensures kept { (problem : List ℕ) (options : Options) (proof bytes : List ℕ) (out : IsPrunedText problem options proof bytes)
         (apart : HasNamesApart out.refutation.checked.after) → options.is_strict ≡ false → options.replaces_lets ≡ false →
-        HasNoPivotArguments bytes → IsReadLow (out.read_back apart).after → IsCheckedWith problem options bytes Verdict.Valid [] }
+        IsReadLow (out.read_back apart).after → IsCheckedWith problem options bytes Verdict.Valid [] }
     // Where lets were replaced, it is checked with lets kept, and the problem has to stand for the same script so.
     ensures replaced { (problem : List ℕ) (options : Options) (proof bytes : List ℕ) (out : IsPrunedText problem options proof bytes)
         (apart : HasNamesApart out.refutation.checked.after) → options.is_strict ≡ false →
-        StandsForProblem problem false out.refutation.checked.script → HasNoPivotArguments bytes → IsReadLow (out.read_back apart).after →
+        StandsForProblem problem false out.refutation.checked.script → IsReadLow (out.read_back apart).after →
         IsCheckedWith problem (keeping_lets options) bytes Verdict.Valid [] }
 {
     ids_play_no_part();
     pivots_do_not_matter_in_check_mode();
     proofs_are_read_alike_within_limits();
-    texts_without_pivots_are_read_alike();
+    pruned_texts_are_read_in_both_modes();
 }
 
 /// Where a check of two texts is valid or has holes, each run over them by these options ends with its status and names holes with the

@@ -1,4 +1,4 @@
-use Rattle.std.proofs.Common.{◌≡◌, true, false, Some, [], replicate, refl, sym, ap, subst}
+use Rattle.std.proofs.Common.{◌≡◌, false, Some, [], replicate, refl, sym, ap, subst}
 use Rattle.rule_model.specs.declared.rules.Mode.{Mode}
 use Rattle.rule_model.specs.declared.statuses.Status.{Status}
 use Rattle.rule_model.specs.declared.statuses.Verdict.{Verdict}
@@ -52,22 +52,23 @@ returns-clause-read c = λ problem options proof bytes out check stands read.
     }
 
 pub returns-clause-replaced : goal.returns-clause-replaced
-returns-clause-replaced c = λ problem options proof bytes out apart check stands none low.
-    let read = out.read_back apart in
+returns-clause-replaced c = λ problem options proof bytes out apart check stands low.
+    let after = (out.read_back apart).after in
     let script = out.refutation.checked.script in
     let numbered = numbered_proof (left_of problem options proof out.refutation) in
-    let strict = c.proofs_are_read_alike_within_limits.ensures (Some most_height) bytes printed_settings script numbered read.after read.stands low in
-    let text = c.texts_without_pivots_are_read_alike.ensures bytes (limited_proof false true) false script numbered read.after none strict in
+    let text = c.pruned_texts_are_read_in_both_modes.ensures problem options proof bytes out apart false check in
+    let within : StandsForProof bytes (limited_proof false false) script numbered after =
+    c.proofs_are_read_alike_within_limits.ensures (Some most_height) bytes (record printed_settings { is_strict = false }) script numbered after text low in
     returns-clause-read c problem options proof bytes out check stands
     (record {
       others = numbered;
-      after = read.after;
-      stands = subst (λ b. StandsForProof bytes (limited_proof false b) script numbered read.after) (sym check) text;
+      after = after;
+      stands = subst (λ b. StandsForProof bytes (limited_proof false b) script numbered after) (sym check) within;
       same = refl;
     })
 
 pub returns-clause-kept : goal.returns-clause-kept
-returns-clause-kept c = λ problem options proof bytes out apart check kept none low.
+returns-clause-kept c = λ problem options proof bytes out apart check kept low.
     subst (λ (o : Options). IsCheckedWith problem o bytes Verdict.Valid []) (ap (λ b. record options { replaces_lets = b }) (sym kept))
     (returns-clause-replaced c problem options proof bytes out apart check
-    (subst (λ b. StandsForProblem problem b out.refutation.checked.script) kept out.refutation.checked.problem_text) none low)
+    (subst (λ b. StandsForProblem problem b out.refutation.checked.script) kept out.refutation.checked.problem_text) low)

@@ -1,0 +1,54 @@
+use Rattle.std.proofs.Common.{◌≡◌, [], refl, sym, subst}
+use Rattle.std.proofs.lemmas.List.Elements.{All-weaker}
+use Rattle.term_model.proofs.Lists.{contains_none}
+use Rattle.rule_model.specs.declared.statuses.Status.{Status}
+use Rattle.rule_model.specs.Scopes.{outermost}
+use Rattle.rule_model.specs.Statuses.{Passes}
+use Rattle.rule_model.specs.WellFormed.{IsWellFormed}
+use Rattle.printed_proofs.specs.Naming.{IsPlan}
+use Rattle.printed_proofs.specs.Numbered.{numbered_proof}
+use Rattle.printed_proofs.specs.Readable.{AreReadable}
+use Rattle.readable_proofs.specs.ProofsOver.{printed_settings}
+use Rattle.judged_texts.specs.Reading.{checking_of, settings_of}
+use Rattle.pruned_texts.specs.Needed.{left_of}
+use Rattle.output_laws.proofs.NoArguments.{HasNoPivotArguments, text_gives_none}
+use Rattle.output_laws.proofs.NoPivots.{none_kept, text_has_none}
+use Rattle.output_laws.proofs.OtherMode.{text_in_mode}
+use Rattle.output_laws.proofs.SpelledProofs.{readable_spelled, spelled_kept}
+use Rattle.output_laws.proofs.laws.pruned_texts_are_read_in_both_modes.Goals as goal
+
+-- the plan without names
+no_names : IsPlan []
+no_names = record {
+  usable = λ n has. absurd (contains_none n has);
+  symbol = λ n has. absurd (contains_none n has);
+  free_word = λ n has. absurd (contains_none n has);
+  sorted = λ n has. absurd (contains_none n has);
+  closed = λ n has. absurd (contains_none n has);
+  distinct = λ m n has. absurd (contains_none m has);
+}
+
+pub returns : goal.returns
+returns c = λ problem options proof bytes out apart is_strict check.
+    let checked = out.refutation.checked in
+    let marks = out.refutation.marks in
+    let first = out.refutation.is_first in
+    let script = checked.script in
+    let of = checked.commands in
+    let left = left_of problem options proof out.refutation in
+    let settings = settings_of options in
+    let over = c.proofs_are_over_their_names.ensures in
+    let pass = All-weaker (λ (z : Status). z ≡ Status.Ok) Passes (λ z e. subst Passes (sym e) tt) checked.statuses checked.verdict.0 in
+    let readable : AreReadable printed_settings [] script outermost of =
+    c.proofs_are_readable.ensures printed_settings [] script checked.after.let_names of refl
+    (over.allowed problem options.replaces_lets script proof settings of checked.after checked.problem_text checked.proof_text apart) no_names
+    (λ n has. absurd (contains_none n has))
+    (over.proof problem options.replaces_lets script proof settings of checked.after checked.problem_text checked.proof_text)
+    (c.proofs_that_pass_have_coefficients.ensures (checking_of options script.assertions) of checked.statuses checked.are pass) in
+    let formed : IsWellFormed left = c.pruned_proofs_are_well_formed.ensures.formed of out.refutation.first marks
+    (c.proofs_are_well_formed.ensures proof settings script of checked.after checked.proof_text) first.within first.scope out.refutation.reached in
+    let text = text_gives_none c.items_are_unique.ensures.text c.printed_items_are_read_back.ensures.items c.parts_are_read_back.ensures.spelled_coefficients
+    out.plan script left out.names.is_plan (none_kept marks of (text_has_none settings check proof script of checked.after checked.proof_text)) formed
+    (spelled_kept out.plan script.sorts marks of (readable_spelled printed_settings out.plan script out.names.is_plan outermost of readable)) in
+    text_in_mode bytes printed_settings is_strict script (numbered_proof left) (out.read_back apart).after
+    (subst HasNoPivotArguments (sym out.printed) text) (out.read_back apart).stands
