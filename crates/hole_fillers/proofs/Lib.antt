@@ -1,0 +1,6 @@
+mod Seats
+mod Places
+mod Lookup
+mod AskedValues
+mod Refuting
+mod Justified

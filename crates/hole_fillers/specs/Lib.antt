@@ -1,0 +1,3 @@
+pub mod Benches
+pub mod Questions
+pub mod Examples
