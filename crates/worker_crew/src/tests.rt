@@ -1,5 +1,5 @@
 //! What no contract says: that chunks are drawn one after the other and done beside each other, and that memory suffices.
-ghost use Rattle.std.specs.Prelude.{◌≡◌, ◌≤◌, ℕ};
+ghost use Rattle.std.specs.Prelude.{◌≡◌, ◌<◌, ◌≤◌, ◌^◌, ℕ};
 
 use super::*;
 use file_ports::Gate;
@@ -13,10 +13,11 @@ use sym_table::Symbols;
 use term_parts::RuleStop;
 use term_pool::Terms;
 
-// Three chunks, and what is made of each is its number.
+// So many chunks, and what is made of each is its number.
 #[derive(Drop)]
 struct Numbers<'a> {
     symbols: &'a Symbols,
+    chunks: u32,
 }
 
 impl<'a> Job for Numbers<'a> {
@@ -28,7 +29,7 @@ impl<'a> Job for Numbers<'a> {
 
     ghost symbols = { λ job. job.symbols.now };
 
-    ghost count = { λ job. 3 };
+    ghost count = { λ job. job.chunks };
 
     ghost fits = { λ job v. Unit {0} };
 
@@ -39,7 +40,7 @@ impl<'a> Job for Numbers<'a> {
     ghost places = { λ job v t. ⊥ };
 
     fn chunks(&self) -> u64 {
-        3
+        self.chunks as u64
     }
 
     fn begin(&self, _alloc: Global, _terms: &mut Terms<'_>) -> Result<(), Memory> {
@@ -59,9 +60,10 @@ impl<'a> Job for Numbers<'a> {
     fn more_may_be_known(&self) {}
 }
 
-// Who enters the first chunk waits until the two others were left, or for so many turns.
+// Who enters the first chunk waits until all others were left, or for so many turns.
 #[derive(Drop)]
 struct FirstLast {
+    others: u32,
     left: AtomicU64,
     gave_up: AtomicU64,
 }
@@ -72,7 +74,7 @@ impl Gate for FirstLast {
             return;
         }
         for _ in 0..2_000_000_000u64 {
-            if self.left.load(Ordering::SeqCst) == 2 {
+            if self.left.load(Ordering::SeqCst) == self.others as u64 {
                 return;
             }
         }
@@ -86,7 +88,9 @@ impl Gate for FirstLast {
     }
 }
 
-fn made<R: Threads + AllocGlobal + Sync>(rt: &R, gate: &FirstLast) -> Option<Vec<u64>> {
+fn made<R: Threads + AllocGlobal + Sync>(rt: &R, gate: &FirstLast) -> Option<Vec<u64>>
+    requires { gate.now.others < 2 ^ 31 }
+{
     let alloc = rt.alloc();
     let Ok(symbols) = Symbols::new(alloc) else {
         return None;
@@ -98,19 +102,35 @@ fn made<R: Threads + AllocGlobal + Sync>(rt: &R, gate: &FirstLast) -> Option<Vec
         return None;
     };
     let mut terms = Terms::new(&pool, pass);
-    let job = Numbers { symbols: &symbols };
+    let job = Numbers {
+        symbols: &symbols,
+        chunks: gate.others + 1,
+    };
     run(rt, alloc, &job, &mut terms, 2, gate).ok()
 }
 
-/// While one of two workers is at the first chunk the other one does both others, and the pieces stand in order.
-#[test]
-fn one_worker_is_held_and_one_goes_on(rt: HostRuntime) -> Result<(), Fail> {
+// The pieces of a chunk that is held and of others, by two workers; none where all turns went by.
+fn made_of<R: Threads + AllocGlobal + Sync>(rt: &R, others: u32) -> Option<Vec<u64>>
+    requires { others < 2 ^ 31 }
+{
     let gate = FirstLast {
+        others,
         left: AtomicU64::new(0),
         gave_up: AtomicU64::new(0),
     };
-    let pieces = made(&rt, &gate);
-    assert!(rt; pieces.is_some_and(|pieces| pieces.as_slice() == [0, 1, 2].as_slice()));
-    assert!(rt; gate.gave_up.load(Ordering::SeqCst) == 0);
+    let pieces = made(rt, &gate);
+    if gate.gave_up.load(Ordering::SeqCst) != 0 {
+        return None;
+    }
+    pieces
+}
+
+/// While one of two workers is at the first chunk the other one does all others, one or four, and the pieces stand in order.
+#[test]
+fn one_worker_is_held_and_one_goes_on(rt: HostRuntime) -> Result<(), Fail> {
+    let two = made_of(&rt, 1);
+    assert!(rt; two.is_some_and(|pieces| pieces.as_slice() == [0, 1].as_slice()));
+    let five = made_of(&rt, 4);
+    assert!(rt; five.is_some_and(|pieces| pieces.as_slice() == [0, 1, 2, 3, 4].as_slice()));
     Ok(())
 }
