@@ -53,10 +53,12 @@ def least_times(commands, rounds):
     return {name: min(took) for name, took in times.items()}
 
 
-def most_memory(command):
-    """The most bytes of memory that a command had resident at once; it has to end with status 0."""
-    child = subprocess.Popen(command, stdout=subprocess.DEVNULL)
-    _, status, usage = os.wait4(child.pid, 0)
-    if status != 0:
-        sys.exit(f"{command[0]} ended with status {status}")
+def most_memory(command, status=0):
+    """The most bytes of memory that a command had resident at once; it has to end with this status."""
+    errors = subprocess.DEVNULL if status else None
+    child = subprocess.Popen(command, stdout=subprocess.DEVNULL, stderr=errors)
+    _, waited, usage = os.wait4(child.pid, 0)
+    ended = os.waitstatus_to_exitcode(waited)
+    if ended != status:
+        sys.exit(f"{command[0]} ended with status {ended}")
     return usage.ru_maxrss * 1024
