@@ -11,7 +11,7 @@ PROGRAM = os.path.join(CRATE, "out", "bench_parts")
 # as the root's script has it
 os.environ.setdefault(
     "GLIBC_TUNABLES",
-    "glibc.malloc.hugetlb=1:glibc.malloc.mmap_threshold=16777216:glibc.malloc.top_pad=4194304",
+    "glibc.malloc.hugetlb=1:glibc.malloc.mmap_threshold=16777216:glibc.malloc.trim_threshold=33554432:glibc.malloc.top_pad=4194304",
 )
 
 

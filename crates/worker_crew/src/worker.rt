@@ -1,6 +1,6 @@
 //! One worker: it draws numbers and does their chunks, until all are drawn.
 
-ghost use Rattle.std.specs.Prelude.{◌≡◌, ◌<◌, IfOk, IfErr, OnOk};
+ghost use Rattle.std.specs.Prelude.{◌≡◌, ◌<◌, IfOk, IfErr, IfSome, OnOk};
 ghost use Rattle.term_parts.specs.declared.answers.RuleStop.TheVariants as RuleStop;
 ghost use Rattle.term_pool.specs.Placing.{LacksCellOf};
 ghost use Rattle.worker_crew.specs.Working.{IsDone, IsReady, IsWork};
@@ -54,6 +54,31 @@ fn do_chunk<J: Job, G: Gate>(
     piece
 }
 
+/// Does the next chunk. What a worker keeps is made before its first one, so that who draws none takes no time for it.
+fn do_next<J: Job, G: Gate>(
+    crew: &Crew<'_, J, G>,
+    k: u64,
+    kept: &mut Option<J::Kept>,
+    terms: &mut Terms<'_>,
+) -> Result<J::Piece, RuleStop>
+    requires inside { k < J.count crew.now.job.now }
+    requires fits { J.fits crew.now.job.now terms.old }
+    requires kept { IfSome kept.old (J.is_kept crew.now.job.now terms.old) }
+    ensures says { IfOk result (J.says crew.now.job.now terms.new k) }
+    ensures kept { OnOk result (IfSome kept.new (J.is_kept crew.now.job.now terms.new)) }
+    ensures work { IsWork (J.symbols crew.now.job.now) (J.places crew.now.job.now) terms.old terms.new }
+    ensures full { IfErr result (λ stop. stop ≡ RuleStop.PoolFull →
+        LacksCellOf (J.symbols crew.now.job.now) terms.new.pass (J.places crew.now.job.now terms.new)) }
+{
+    if let Some(known) = kept {
+        return do_chunk(crew, k, known, terms);
+    }
+    let mut known = crew.job.begin(crew.alloc, terms)?;
+    let piece = do_chunk(crew, k, &mut known, terms);
+    *kept = Some(known);
+    piece
+}
+
 /// Draws numbers and does their chunks, until all are drawn, or one is refused.
 pub(crate) fn work<J: Job, G: Gate>(
     crew: &Crew<'_, J, G>,
@@ -65,10 +90,10 @@ pub(crate) fn work<J: Job, G: Gate>(
         terms.old seat.old.shares terms.new seat.new result }
 {
     crew.job.more_may_be_known();
-    let mut kept = crew.job.begin(crew.alloc, terms)?;
+    let mut kept = None;
     let mut pieces = Vec::new(crew.alloc);
     'chunks: while let Some(k) = crew.claimer.claim(seat) {
-        let piece = match do_chunk(crew, k, &mut kept, terms) {
+        let piece = match do_next(crew, k, &mut kept, terms) {
             Ok(piece) => piece,
             Err(stop) => return Err(stop),
         };

@@ -1,6 +1,6 @@
-use Rattle.std.proofs.Common.{◌≡◌, ◌-◌, ◌<◌, ◌∙◌, sym, subst, refl, arith, true}
+use Rattle.std.proofs.Common.{◌≡◌, ◌∙◌, sym, subst, refl, arith, true}
 use Rattle.std.specs.Prelude.{is_ok}
-use Rattle.worker_crew.specs.Working.{AreDone, IsWork}
+use Rattle.worker_crew.specs.Working.{AreDone}
 use Rattle.worker_crew.proofs.Parts.{extends_of, no_work, work_then}
 use Rattle.worker_crew.proofs.Doing.{done_none, done_one, no_err_is_ok}
 use Rattle.worker_crew.proofs.worker.work.Goals as goal
@@ -8,8 +8,8 @@ use Rattle.worker_crew.proofs.worker.work.Goals as goal
 pub chunks-init : goal.chunks-init
 chunks-init g c = record {
   work = no_work _ _ _ _ refl;
-  fits = subst (λ z. g.J.Job.fits c.args.crew.now.job.now z) (sym c.in_ok-kept.ensures.same) c.requires.ready.can;
-  kept = c.in_ok-kept.ensures.kept;
+  fits = c.requires.ready.can;
+  kept = tt;
   of_claimer = c.requires.ready.of_claimer;
   shares = refl;
   done = done_none _ _ _ c.requires.ready.fresh c.new-pieces.ensures.items;
@@ -20,12 +20,10 @@ claim-requires g c = record { of_claimer = c.chunks.invariant.of_claimer }
 
 pub returns-in-Err : goal.returns-in-Err
 returns-in-Err g c =
-    let job = c.args.crew.now.job.now in
-    let work = work_then (g.J.Job.symbols job) (g.J.Job.places job) c.more_may_be_known.ensures.places c.begin.new.terms c.chunks.terms c.do_chunk.new.terms c.chunks.invariant.work c.do_chunk.ensures.work in
     record {
       done =
           record {
-            work = subst (λ z. IsWork (g.J.Job.symbols job) (g.J.Job.places job) z c.do_chunk.new.terms) c.in_ok-kept.ensures.same work;
+            work = work_then _ _ c.more_may_be_known.ensures.places _ _ _ c.chunks.invariant.work c.do_next.ensures.work;
             of_claimer = c.claim.ensures.of_claimer;
             shares = c.claim.ensures.shares ∙ c.chunks.invariant.shares;
             pieces = tt;
@@ -35,12 +33,10 @@ returns-in-Err g c =
 
 pub returns-then-is_err : goal.returns-then-is_err
 returns-then-is_err g c =
-    let job = c.args.crew.now.job.now in
-    let work = work_then (g.J.Job.symbols job) (g.J.Job.places job) c.more_may_be_known.ensures.places c.begin.new.terms c.chunks.terms c.do_chunk.new.terms c.chunks.invariant.work c.do_chunk.ensures.work in
     record {
       done =
           record {
-            work = subst (λ z. IsWork (g.J.Job.symbols job) (g.J.Job.places job) z c.do_chunk.new.terms) c.in_ok-kept.ensures.same work;
+            work = work_then _ _ c.more_may_be_known.ensures.places _ _ _ c.chunks.invariant.work c.do_next.ensures.work;
             of_claimer = c.claim.ensures.of_claimer;
             shares = c.claim.ensures.shares ∙ c.chunks.invariant.shares;
             pieces = tt;
@@ -51,26 +47,26 @@ returns-then-is_err g c =
 pub chunks-smaller : goal.chunks-smaller
 chunks-smaller g c =
     let inside = c.in-Some.ensures.number.0 in
-    let further = c.in-Some.ensures.further in
-    let old = further.0 in
-    let new = further.1 in
-    let less : c.args.crew.now.claimer.now.count - c.claim.new.seat.past < c.args.crew.now.claimer.now.count - c.chunks.seat.past = omega (arith, inside, old, new) in
-    less
+    let old = c.in-Some.ensures.further.0 in
+    let new = c.in-Some.ensures.further.1 in
+    omega (arith, inside, old, new)
 
 pub chunks-preserved : goal.chunks-preserved
 chunks-preserved g c =
     let job = c.args.crew.now.job.now in
     let went : is_ok c.push.result ≡ true = no_err_is_ok c.push.result (sym c.is_err.ensures.value ∙ c.if-is_err.false) in
-    let more = extends_of c.chunks.terms c.do_chunk.new.terms c.do_chunk.ensures.work.keeps in
+    let more = extends_of c.chunks.terms c.do_next.new.terms c.do_next.ensures.work.keeps in
     record {
-      work = work_then (g.J.Job.symbols job) (g.J.Job.places job) c.more_may_be_known.ensures.places c.begin.new.terms c.chunks.terms c.do_chunk.new.terms c.chunks.invariant.work c.do_chunk.ensures.work;
-      fits = c.more_may_be_known.ensures.fits c.chunks.terms c.do_chunk.new.terms more c.chunks.invariant.fits;
+      work = work_then _ _ c.more_may_be_known.ensures.places _ _ _ c.chunks.invariant.work c.do_next.ensures.work;
+      fits = c.more_may_be_known.ensures.fits c.chunks.terms c.do_next.new.terms more c.chunks.invariant.fits;
       kept = c.in-Ok.ensures.kept;
       of_claimer = c.claim.ensures.of_claimer;
       shares = c.claim.ensures.shares ∙ c.chunks.invariant.shares;
       done =
-          done_one (g.J.Job.says job c.chunks.terms) (g.J.Job.says job c.do_chunk.new.terms) c.chunks.seat.numbers c.claim.new.seat.numbers c.chunks.pieces.items c.push.new.self.items c.in-Some.k c.in-Ok.piece
-          (λ n q e. c.more_may_be_known.ensures.says c.chunks.terms c.do_chunk.new.terms n q more e) c.chunks.invariant.done c.in-Ok.ensures.says c.in-Some.ensures.number.1 (rw went at c.push.ensures.items);
+          done_one (g.J.Job.says job c.chunks.terms) (g.J.Job.says job c.do_next.new.terms) c.chunks.seat.numbers c.claim.new.seat.numbers
+          c.chunks.pieces.items c.push.new.self.items c.in-Some.k c.in-Ok.piece
+          (λ n q e. c.more_may_be_known.ensures.says c.chunks.terms c.do_next.new.terms n q more e) c.chunks.invariant.done
+          c.in-Ok.ensures.says c.in-Some.ensures.number.1 (rw went at c.push.ensures.items);
     }
 
 pub returns : goal.returns
@@ -80,7 +76,7 @@ returns g c =
     record {
       done =
           record {
-            work = subst (λ z. IsWork (g.J.Job.symbols job) (g.J.Job.places job) z c.chunks.terms) c.in_ok-kept.ensures.same c.chunks.invariant.work;
+            work = c.chunks.invariant.work;
             of_claimer = c.claim.ensures.of_claimer;
             shares = c.claim.ensures.shares ∙ c.chunks.invariant.shares;
             pieces = (subst (λ ns. AreDone (g.J.Job.says job c.chunks.terms) ns c.chunks.pieces.items) (sym last.1) c.chunks.invariant.done, last.0);
