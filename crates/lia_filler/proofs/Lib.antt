@@ -1,0 +1,9 @@
+mod Ring
+mod Multiplied
+mod Sizes
+mod Totals
+mod Clean
+mod Derived
+mod Made
+mod Units
+mod Enough

@@ -1,0 +1,4 @@
+pub mod Plain
+pub mod Parts
+pub mod Mixing
+pub mod Elimination
