@@ -7,3 +7,4 @@ mod Derived
 mod Made
 mod Units
 mod Enough
+mod Refuting

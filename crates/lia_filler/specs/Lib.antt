@@ -2,3 +2,4 @@ pub mod Plain
 pub mod Parts
 pub mod Mixing
 pub mod Elimination
+pub mod Solutions

@@ -6,6 +6,7 @@
 
 mod elimination;
 mod last_column;
+mod laws;
 mod limits;
 mod memory;
 mod multipliers;
@@ -14,6 +15,7 @@ mod seeking;
 #[cfg(test)]
 mod tests;
 
+pub use laws::combinations_refute;
 pub use limits::are_within_limits;
 pub use memory::Memory;
 pub use row::Row;
