@@ -1,0 +1,12 @@
+mod Alike
+mod Writing
+mod Pieces
+mod Cells
+mod Firsts
+mod Texts
+mod PlainNames
+mod Turns
+mod PieceTexts
+mod Free
+mod Lists
+mod Written

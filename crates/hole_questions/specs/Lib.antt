@@ -1,0 +1,4 @@
+pub mod States
+pub mod Pieces
+pub mod Walks
+pub mod Asserts
