@@ -1,7 +1,6 @@
 -- Lists from which an item is removed, and lists without repeats, one item more.
 use Rattle.std.proofs.Common.{◌≡◌, ◌≢◌, ◌⊎◌, inl, inr, List, [], ◌∷◌, ◌++◌, refl, sym, ◌∙◌, ap, subst, Contains}
 use Rattle.std.proofs.lemmas.List.{append-nil, append_assoc}
-use Rattle.std.proofs.lemmas.List.Elements.{Contains-append_left}
 use Rattle.term_model.proofs.Lists.{contains_none, contains_cases, contains_head, contains_later}
 use Rattle.rule_model.specs.Resolution.{LeavesWithout, IsFirstsOf, IsJoined}
 use Rattle.rule_model.proofs.JoinedLists.{without_last, kept_last, repeated_last, new_last}
@@ -64,4 +63,36 @@ joined_by left kept premise new here there on_left on_right taken alone adds = r
   right_rest = adds.rest;
   right_is = adds.others;
   firsts = rw adds.appended (alone adds.rest adds.more adds.firsts);
+}
+
+-- the first ones of two lists, one after the other
+pub firsts_both : {X : Type 0} (seen xs ys us vs : List X) → IsFirstsOf seen xs ys → IsFirstsOf (seen ++ ys) us vs → IsFirstsOf seen (xs ++ us) (ys ++ vs)
+firsts_both seen [] ys us vs f k = let e : seen ++ ys ≡ seen = rw (f, append-nil seen) refl in rw f (rw e at k)
+firsts_both seen (x ∷ xs) ys us vs (inl (has, f)) k = inl (has, firsts_both seen xs ys us vs f k)
+firsts_both {X} seen (x ∷ xs) ys us vs (inr (lacks, (rest, e, f))) k =
+    inr (
+      lacks,
+      (
+        rest ++ vs,
+        ap (λ l. l ++ vs) e,
+        firsts_both (seen ++ x ∷ []) xs rest us vs f
+            (subst (λ (l : List X). IsFirstsOf l us vs) (ap (λ l. seen ++ l) e ∙ sym (append_assoc seen (x ∷ []) rest)) k),
+      ),
+    )
+
+-- two lists of which the others are added in turn, to nothing
+pub joined_in_list : (left right middle new : List SignedTerm) (here there : SignedTerm) → Contains left here → Contains right there
+    → AddsOthers here [] left middle → AddsOthers there middle right new → IsJoined left right here there new
+joined_in_list left right middle new here there on_left on_right first second = record {
+  on_left = on_left;
+  on_right = on_right;
+  left_rest = first.rest;
+  left_is = first.others;
+  right_rest = second.rest;
+  right_is = second.others;
+  firsts =
+      rw second.appended
+      (rw first.appended
+      (firsts_both [] first.rest first.more second.rest second.more first.firsts
+      (subst (λ l. IsFirstsOf l second.rest second.more) first.appended second.firsts)));
 }

@@ -99,3 +99,26 @@ pub all_from : (vectors rest : List (Vec SignedTerm)) (pivots : List (SignedTerm
     → vectors ≡ v ∷ rest → IsFirstsOf [] v.items firsts → pivots ≢ []
     → JoinAll pivots (clauses_of vectors) clause ↔ Joins firsts (clauses_of rest) pivots clause
 all_from vectors rest pivots v firsts clause whole f some = rw whole (joins_alike v.items firsts (clauses_of rest) pivots clause f some)
+
+-- a chain of two clauses is their join
+pub joins_two : {X : Type 0} (left right : List X) (taken : X × X) (clause : List X)
+    → JoinAll (taken ∷ []) (left ∷ right ∷ []) clause ↔ IsJoined left right taken.0 taken.1 clause
+joins_two left right taken clause = (
+  λ h. subst (IsJoined left right taken.0 taken.1) h.2 h.1,
+  λ h. (clause, h, refl),
+)
+
+pub one_alone : {X : Type 0} (xs : List X) (d : X) → length xs ≡ 1 → xs ≡ get_or xs 0 d ∷ []
+one_alone [] d h = absurd (omega (arith, h))
+one_alone (x ∷ []) d h = refl
+one_alone (x ∷ y ∷ xs) d h = absurd (omega (arith, h))
+
+pub two_alone : {X : Type 0} (xs : List X) (x y : X) → length xs ≡ 2 → x ≡ get_or xs 0 x → y ≡ get_or xs 1 y → xs ≡ x ∷ y ∷ []
+two_alone [] x y h e f = absurd (omega (arith, h))
+two_alone (a ∷ []) x y h e f = absurd (omega (arith, h))
+two_alone (a ∷ b ∷ []) x y h e f = rw (e, f) refl
+two_alone (a ∷ b ∷ c ∷ xs) x y h e f = absurd (omega (arith, h))
+
+pub all_of_two : {X : Type 0} (vectors : List (Vec X)) (pivots : List (X × X)) (v w : Vec X) (taken : X × X) (clause : List X) → vectors ≡ v ∷ w ∷ []
+    → pivots ≡ taken ∷ [] → JoinAll pivots (clauses_of vectors) clause ↔ IsJoined v.items w.items taken.0 taken.1 clause
+all_of_two vectors pivots v w taken clause two one = rw (two, one) (joins_two v.items w.items taken clause)

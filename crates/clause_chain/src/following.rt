@@ -6,18 +6,22 @@ ghost use Rattle.clause_chain.specs.Chaining.{clauses_of};
 ghost use Rattle.clause_chain.specs.declared.signed_term.SignedTerm.{SignedTerm};
 
 use crate::chain::Chain;
+use crate::pairs::join_to;
 use crate::signed_term::SignedTerm;
 use std::alloc::AllocError;
 
+/// Two clauses of so many literals or fewer are joined in a list.
+const SHORT: usize = 8;
+
 /// Whether an item stands in a clause.
-fn stands_in(item: SignedTerm, clause: &[SignedTerm]) -> bool
+pub(crate) fn stands_in(item: SignedTerm, clause: &[SignedTerm]) -> bool
     ensures { IsTrue result ↔ Contains clause.now item }
 {
     clause.contains(&item)
 }
 
 /// Whether two clauses are the same list.
-fn are_same(clause: &[SignedTerm], other: &[SignedTerm]) -> bool
+pub(crate) fn are_same(clause: &[SignedTerm], other: &[SignedTerm]) -> bool
     ensures { IsTrue result ↔ (clause.now ≡ other.now) }
 {
     if clause.len() != other.len() {
@@ -88,6 +92,10 @@ pub fn chain_ends_in(
     }
     if pivots.is_empty() {
         return Ok(are_same(&premises[0], clause));
+    }
+    if pivots.len() == 1 && premises[0].len() <= SHORT && premises[1].len() <= SHORT {
+        let joined = join_to(list, &premises[0], &premises[1], pivots[0], clause)?;
+        return Ok(joined);
     }
     chain.start(&premises[0])?;
     if !goes_through(chain, &premises[1..], pivots)? {

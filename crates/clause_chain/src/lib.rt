@@ -7,6 +7,7 @@
 
 mod chain;
 mod following;
+mod pairs;
 mod signed_term;
 
 pub use chain::Chain;

@@ -1,9 +1,10 @@
-use Rattle.std.proofs.Common.{◌≡◌, ◌-◌, length, drop, take, sym, ◌∙◌, true≢false}
+use Rattle.std.proofs.Common.{◌≡◌, ◌+◌, ◌-◌, arith, length, drop, get_or, take, false, sym, ◌∙◌, true≢false}
 use Rattle.std.specs.Global.{Vec}
 use Rattle.std.proofs.lemmas.List.{length-map}
 use Rattle.clause_chain.specs.Chaining.{clauses_of}
 use Rattle.clause_chain.specs.declared.signed_term.SignedTerm.{SignedTerm}
-use Rattle.clause_chain.proofs.Onwards.{all_as_many, all_from, some_there, whole_of}
+use Rattle.clause_chain.proofs.Keys.{of}
+use Rattle.clause_chain.proofs.Onwards.{all_as_many, all_from, all_of_two, one_alone, some_there, two_alone, whole_of}
 use Rattle.clause_chain.proofs.following.chain_ends_in.Goals as goal
 
 pub returns-then-premises-pivots : goal.returns-then-premises-pivots
@@ -42,3 +43,19 @@ returns c =
       λ yes. all.1 (through.1 (sym written ∙ c.are_same-2.ensures.0 yes)),
       λ h. c.are_same-2.ensures.1 (written ∙ through.0 (all.0 h)),
     )
+
+pub returns-then-len-le-SHORT-2 : goal.returns-then-len-le-SHORT-2
+returns-then-len-le-SHORT-2 c =
+    let premises = c.args.premises.now in
+    let pivots = c.args.pivots.now in
+    let nothing : SignedTerm × SignedTerm = (of 0 false, of 0 false) in
+    let v = c.index-premises-0-then-len-le-SHORT-2.result in
+    let w = c.index-premises-1-then-len-le-SHORT-2.result in
+    let one : length pivots ≡ 1 = c.if-pivots-eq1.true in
+    let as_many : length premises ≡ length pivots + 1 = c.if-premises-pivots.false in
+    let all =
+    all_of_two premises pivots v w (get_or pivots 0 nothing) c.args.clause.now
+    (two_alone premises v w (omega (arith, one, as_many)) c.index-premises-0-then-len-le-SHORT-2.is c.index-premises-1-then-len-le-SHORT-2.is)
+    (one_alone pivots nothing one) in
+    let told = rw (c.deref-then-len-le-SHORT-2.ensures.value, c.deref-then-len-le-SHORT-2-2.ensures.value) at c.in_ok-joined.ensures in
+    (λ yes. all.1 (told.0 yes), λ h. told.1 (all.0 h))
