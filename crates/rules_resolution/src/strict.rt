@@ -57,6 +57,9 @@ pub(crate) fn resolves_strictly(
     ensures same { terms.new ≡ terms.old }
 {
     let count = step.premises.len();
+    if count != pivots.len() + 1 {
+        return Ok(false);
+    }
     load_clauses(
         lists.alloc,
         symbols,

@@ -1,7 +1,12 @@
-use Rattle.std.proofs.Common.{◌≡◌, ◌∙◌}
+use Rattle.std.proofs.Common.{◌≡◌, ◌+◌, ◌∙◌, ap, map, sym, true≢false}
+use Rattle.std.proofs.lemmas.List.{length-map}
+use Rattle.clause_chain.proofs.Onwards.{all_as_many}
+use Rattle.proof_store.specs.Meaning.{IsPivotOf}
+use Rattle.term_model.proofs.Zips.{zip_length}
 use Rattle.term_parts.proofs.JudgingLemmas.{truths_are_terms}
 use Rattle.term_pool.specs.Views.{RefersTo}
 use Rattle.rule_model.specs.Renaming.{KeepsAtomsApart}
+use Rattle.rule_model.specs.Resolution.{sides_of}
 use Rattle.rules_resolution.proofs.SignedTerms.{strictly_tells}
 use Rattle.rules_resolution.proofs.strict.resolves_strictly.Goals as goal
 
@@ -23,3 +28,13 @@ returns-clause-resolves c j stands =
     (rw c.in_ok-load_clauses.ensures.same at c.in_ok-load_clause.ensures.loaded)
     stands.step.premises stands.pivots stands.step.clause in
     (λ yes. carried.0 (told.0 yes), λ h. told.1 (carried.1 h))
+
+pub returns-then-count-pivots-clause-resolves : goal.returns-then-count-pivots-clause-resolves
+returns-then-count-pivots-clause-resolves c j stands = (
+  λ wrong. absurd (true≢false (sym wrong)),
+  λ h.
+      let premises = zip_length _ c.args.step.premises.now j.premises stands.step.premises in
+      let pivots = zip_length (IsPivotOf c.args.symbols.now c.args.terms.now) c.args.pivots.now j.pivots stands.pivots in
+      absurd (c.if-count-pivots.true
+      (premises ∙ all_as_many (map sides_of j.pivots) j.premises j.clause h ∙ ap (λ n. n + 1) (length-map j.pivots sides_of ∙ sym pivots))),
+)
