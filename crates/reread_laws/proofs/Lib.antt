@@ -1,0 +1,9 @@
+mod BehindPrinted
+mod KeptTerms
+mod LowTerms
+mod LowLines
+mod SinceTerms
+mod LetFreeProofs
+mod SameReadings
+mod OtherLets
+mod OtherLetsInProofs
