@@ -81,7 +81,8 @@ module _ (p : Place) (keeping : IsKeeping p) where
       ap (λ t. value (record { tree = t; sort = b.variable.sort }))
       (is ∙ sym (ap (replaced (replacement p.scope)) is ∙ same_term p.scope keeping.themselves (variable b.variable) tt))
 
-  same_functions : (m : Option Macro) (f : Option Fun) (op : Option Op) → option_or (option_map macro m) (option_or (option_map function f) (option_map operator op))
+  same_functions : (m : Option Macro) (f : Option Fun) (op : Option Op)
+      → option_or (option_map macro m) (option_or (option_map function f) (option_map operator op))
       ≡ option_map (replaced_meaning p) (option_or (option_map macro m) (option_or (option_map function f) (option_map operator op)))
   same_functions (Some m) f op = refl
   same_functions None (Some f) op = refl
