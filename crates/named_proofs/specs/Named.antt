@@ -6,21 +6,26 @@ use Rattle.term_pool.specs.Views.{TermsView}
 use Rattle.term_reader.specs.ProblemViews.{ProblemView, IsProblemOf}
 use Rattle.proof_store.specs.Meaning.{StandForItems}
 use Rattle.rule_model.specs.Proofs.{ProofItems}
+use Rattle.rule_model.specs.Scopes.{outermost}
 use Rattle.problem_text.specs.Scripts.{Named, Script}
 use Rattle.problem_text.specs.Words.{is_among}
 use Rattle.alethe_text.specs.ProofTexts.{StandsForProof}
 use Rattle.printed_proofs.specs.Naming.{IsPlan}
 use Rattle.printed_proofs.specs.Numbered.{numbered_proof}
+use Rattle.printed_proofs.specs.PrintedProof.{behind_items}
 use Rattle.printed_proofs.specs.Shared.{Plan}
 use Rattle.readable_proofs.specs.ProofsOver.{printed_settings}
 use Rattle.alethe_printer.specs.Printed.{proof_text}
 use Rattle.term_sharing.specs.Naming.{HasNoLeaf}
 
 -- Behind a script, the bytes stand for the proof with its ids numbered: they are read as a strict proof, lets are kept, and no height
--- is judged.
+-- is judged. The script behind them is that of the proof printed with some names: no terms are read but those of the proof, terms in
+-- them, and the images of the variables of its anchors.
 pub record IsReadAs (bytes : List ℕ) (script : Script) (proof : ProofItems Var Term) : Type 0 where
+  pub plan : Plan
   pub after : Script
   pub stands : StandsForProof bytes printed_settings script (numbered_proof proof) after
+  pub behind : after ≡ behind_items plan script outermost proof
 
 -- names that are free behind a script: no leaf of the table has one
 pub record IsFreePlan (s : Table) (script : Script) (plan : Plan) : Type 0 where

@@ -1,3 +1,4 @@
+use Rattle.std.proofs.Common.{refl}
 use Rattle.rule_model.specs.Scopes.{outermost}
 use Rattle.printed_proofs.specs.PrintedProof.{behind_items}
 use Rattle.readable_proofs.specs.Names.{AllowsNames, vocabulary_of}
@@ -24,7 +25,9 @@ returns c = λ problem replaces before source settings proof after s v refs othe
       own = λ name there. allowed.own name (was_there plan after.let_names name there).0;
       apart = λ f there hides. allowed.apart f there (was_there plan after.let_names f.name hides).0;
     } in record {
+      plan = plan;
       after = behind_items plan before outermost other;
       stands = c.proofs_with_names_apart_are_read_back.ensures.planned plan before names other allows free.is_plan
           (c.scripts_are_well_named.ensures.ready problem replaces plan before is_problem free.free) plan_apart narrow ratios formed few;
+      behind = refl;
     }
