@@ -36,7 +36,7 @@ use Rattle.flip_steps.proofs.UnitLemmas.{extends_itself, one_longer, units_more,
 use Rattle.flip_steps.proofs.RefillLemmas.{all_refer_later, argument_forms_later, form_of_refilled, same_arguments}
 
 -- the sides of an equality
-record AreSorted (l r : Term) : Type 0 where
+pub record AreSorted (l r : Term) : Type 0 where
   pub sort : Sort
   pub left : IsOf l sort
   pub right : IsOf r sort
@@ -56,7 +56,7 @@ when_true : (b : Bool) (s x : Sort) → when (b && true) s ≡ Some x → b ≡ 
 when_true true s x e = refl
 when_true b s x e = grind arith
 
-sides_sorted : (l r : Term) (s : Sort) → IsOf (equality l r) s → AreSorted l r
+pub sides_sorted : (l r : Term) (s : Sort) → IsOf (equality l r) s → AreSorted l r
 sides_sorted l r s h = go h.sorts h.arguments h.is
   where
     go : (ss : List Sort) → AreOf (term l (term r no_terms)) ss → application_sort Op.Equal ss ≡ Some s → AreSorted l r

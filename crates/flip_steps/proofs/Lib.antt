@@ -14,3 +14,4 @@ pub mod JoinLemmas
 pub mod HeightLemmas
 pub mod CellLemmas
 pub mod LikeLemmas
+pub mod ExchangeLemmas

@@ -15,6 +15,7 @@ ghost use Rattle.term_parts.specs.declared.answers.RuleStop.TheVariants as RuleS
 ghost use Rattle.term_pool.specs.Placing.{LacksCellOf, PlacesCellsOf};
 ghost use Rattle.term_pool.specs.Views.{KeepsTerms, RefersTo};
 
+use crate::exchanging::{are_exchanged, exchange};
 use crate::forms::{Formed, Forms};
 use crate::walking::find_form;
 use equality_steps::{Block, Site, blocks_stay, symm, trans};
@@ -113,12 +114,13 @@ impl Forms {
     /// A link that says `(= a b)`, of terms that are equal up to flips: where the order of the two sides of an equality does not count,
     /// at any depth outside lets. None where they are one. The steps that it rests on are added to the block: each term that stands in
     /// a or b outside lets is equal to its form (by `cong`, `eq_symmetric` and `trans`), a and b have one form, and `symm` and `trans`
-    /// join them.
+    /// join them. Of `(= s q)` and `(= q s)` it is one step, by `eq_symmetric`.
     ///
     /// Adds at most three steps for each cell whose form was not remembered, and two more. Makes these equalities and the terms that
     /// they equate, and refuses where the pool has no room for a cell of one, and when out of memory.
     ///
-    /// Takes time in proportion to the cells of a and b whose forms were not remembered.
+    /// Takes time in proportion to the cells of a and b whose forms were not remembered; of `(= s q)` and `(= q s)` it looks no further
+    /// than at the references of s and q.
     pub fn join(
         &mut self,
         at: &Site<'_>,
@@ -144,11 +146,45 @@ impl Forms {
             LacksCellOf at.now.symbols.now terms.new.pass (IsMadeToJoin at.now.symbols.now terms.new a b)) }
         ensures keeps { KeepsTerms terms.old terms.new }
     {
-        at.symbols.leaves_differ();
         blocks_stay();
         if a.number() == b.number() {
             return Ok(None);
         }
+        let exchanged = are_exchanged(at, terms, a, b);
+        if exchanged {
+            let link = exchange(at, terms, block, a, b)?;
+            return Ok(Some(link));
+        }
+        self.join_by_forms(at, terms, block, a, b)
+    }
+
+    /// The same of two different terms, by their forms.
+    fn join_by_forms(
+        &mut self,
+        at: &Site<'_>,
+        terms: &mut Terms<'_>,
+        block: &mut Block,
+        a: Ref,
+        b: Ref,
+    ) -> Result<Option<Link>, RuleStop>
+        requires block { IsBlockAt at.now terms.old block.old }
+        requires forms { AreForms at.now terms.old block.old self.old }
+        requires sides { AreSidesAt at.now terms.old a b }
+        requires equal { (t u : Term) → RefersTo at.now.symbols.now terms.old a t → RefersTo at.now.symbols.now terms.old b u → EqualUpToFlips t u }
+        requires apart { a ≢ b }
+        ensures joined { IfOk result (λ link. IsEquatedBy at.now terms.new block.new link a b) }
+        ensures block { OnOk result (IsBlockAt at.now terms.new block.new) }
+        ensures forms { OnOk result (AreForms at.now terms.new block.new self.new) }
+        ensures units { OnOk result (AddsUnits at.now terms.new block.old block.new (IsMadeToJoin at.now.symbols.now terms.new a b)) }
+        ensures few { OnOk result (length block.new + 3 * count_of self.old ≤ length block.old + 3 * count_of self.new + 2) }
+        ensures met { OnOk result (MeetsWithin at.now.symbols.now terms.new a b self.old self.new) }
+        ensures placed { PlacesCellsOf at.now.symbols.now terms.old.pass terms.new.pass (IsMadeToJoin at.now.symbols.now terms.new a b) }
+        ensures full { IfErr result (λ e. e ≡ RuleStop.PoolFull →
+            LacksCellOf at.now.symbols.now terms.new.pass (IsMadeToJoin at.now.symbols.now terms.new a b)) }
+        ensures keeps { KeepsTerms terms.old terms.new }
+    {
+        at.symbols.leaves_differ();
+        blocks_stay();
         let left = find_form(at, terms, block, self, a)?;
         let right = find_form(at, terms, block, self, b)?;
         terms.one_to_one();

@@ -2,6 +2,7 @@
 #![tactic(auto)]
 
 mod equating;
+mod exchanging;
 mod forms;
 mod gathering;
 mod joining;

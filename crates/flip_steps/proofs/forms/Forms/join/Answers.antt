@@ -1,11 +1,11 @@
 use Rattle.std.proofs.Common.{◌≡◌, ◌≢◌, inl, refl, arith}
-use Rattle.term_pool.proofs.PlacedCells.{lacks_more, places_more, places_more_then}
-use Rattle.flip_steps.specs.Stages.{IsMadeFrom, IsMadeToJoin}
-use Rattle.flip_steps.proofs.JoinLemmas.{equal_later, join_left, join_right, left_side, met_both, one_reference, right_side}
-use Rattle.flip_steps.proofs.MemoryLemmas.{formed_later, forms_later}
-use Rattle.flip_steps.proofs.OrderLemmas.{keeps_then, made_from_later}
+use Rattle.term_pool.proofs.PlacedCells.{lacks_more, places_more}
+use Rattle.term_pool.proofs.ReadingLemmas.{keeps-same}
+use Rattle.flip_steps.specs.Stages.{IsEqualityOf, IsMadeToJoin}
+use Rattle.flip_steps.proofs.JoinLemmas.{join_both}
+use Rattle.flip_steps.proofs.MemoryLemmas.{forms_later}
 use Rattle.flip_steps.proofs.Results.{handed_on}
-use Rattle.flip_steps.proofs.UnitLemmas.{units_extend, units_more, units_none, units_then}
+use Rattle.flip_steps.proofs.UnitLemmas.{units_extend, units_more, units_none}
 use Rattle.flip_steps.proofs.forms.Forms.join.Goals as goal
 
 pub returns-then-number-clause-joined : goal.returns-then-number-clause-joined
@@ -19,179 +19,88 @@ returns-then-number-clause-units c =
 pub returns-then-number-clause-met : goal.returns-then-number-clause-met
 returns-then-number-clause-met c = λ r h. inl h
 
-pub find_form-requires-clause-side : goal.find_form-requires-clause-side
-find_form-requires-clause-side c = left_side c.args.at.now c.args.terms.now c.args.a c.args.b c.requires.sides
+pub exchange-requires-clause-block : goal.exchange-requires-clause-block
+exchange-requires-clause-block c = rw c.are_exchanged-exchanged.ensures.same c.requires.block
 
-pub returns-in_err-left-clause-placed : goal.returns-in_err-left-clause-placed
-returns-in_err-left-clause-placed c =
-    let p = c.args.at.now in
-    let s = p.symbols.now in
-    let u = c.args.terms.now in
-    let v = c.find_form.new.terms in
-    places_more s u.pass v.pass (IsMadeFrom s v c.args.a) (IsMadeToJoin s v c.args.a c.args.b) (join_left s v c.args.a c.args.b) c.in_err-left.ensures.placed
+pub exchange-requires-clause-turned : goal.exchange-requires-clause-turned
+exchange-requires-clause-turned c =
+    rw c.are_exchanged-exchanged.ensures.same (c.are_exchanged-exchanged.ensures.turned c.if-exchanged.true)
 
-pub returns-in_err-left-clause-full : goal.returns-in_err-left-clause-full
-returns-in_err-left-clause-full c =
-    let p = c.args.at.now in
-    let s = p.symbols.now in
-    let u = c.args.terms.now in
-    let v = c.find_form.new.terms in
+pub returns-in_err-link-clause-placed : goal.returns-in_err-link-clause-placed
+returns-in_err-link-clause-placed c =
+    let s = c.args.at.now.symbols.now in
+    let w = c.exchange.new.terms in
+    places_more s c.args.terms.now.pass w.pass (IsEqualityOf s w c.args.a c.args.b) (IsMadeToJoin s w c.args.a c.args.b) (join_both s w c.args.a c.args.b)
+    (rw c.are_exchanged-exchanged.ensures.same at c.in_err-link.ensures.placed)
+
+pub returns-in_err-link-clause-full : goal.returns-in_err-link-clause-full
+returns-in_err-link-clause-full c =
+    let s = c.args.at.now.symbols.now in
+    let w = c.exchange.new.terms in
     handed_on c.from_residual.result _ _ c.from_residual.ensures.1
-    (λ full. lacks_more s v.pass (IsMadeFrom s v c.args.a) (IsMadeToJoin s v c.args.a c.args.b) (join_left s v c.args.a c.args.b)
-    (c.in_err-left.ensures.full full))
+    (λ full. lacks_more s w.pass (IsEqualityOf s w c.args.a c.args.b) (IsMadeToJoin s w c.args.a c.args.b) (join_both s w c.args.a c.args.b)
+    (c.in_err-link.ensures.full full))
 
-pub find_form-requires-2-clause-side : goal.find_form-requires-2-clause-side
-find_form-requires-2-clause-side c =
-    right_side c.args.at.now c.args.terms.now c.find_form.new.terms c.args.a c.args.b c.in_ok-left.ensures.keeps c.requires.sides
+pub returns-in_err-link-clause-keeps : goal.returns-in_err-link-clause-keeps
+returns-in_err-link-clause-keeps c = rw c.are_exchanged-exchanged.ensures.same at c.in_err-link.ensures.keeps
 
-pub returns-in_err-right-clause-placed : goal.returns-in_err-right-clause-placed
-returns-in_err-right-clause-placed c =
+pub returns-then-exchanged-clause-joined : goal.returns-then-exchanged-clause-joined
+returns-then-exchanged-clause-joined c = let apart : c.args.a ≢ c.args.b = omega arith in (apart, c.in_ok-link.ensures.linked)
+
+pub returns-then-exchanged-clause-block : goal.returns-then-exchanged-clause-block
+returns-then-exchanged-clause-block c = c.in_ok-link.ensures.grown.block
+
+pub returns-then-exchanged-clause-forms : goal.returns-then-exchanged-clause-forms
+returns-then-exchanged-clause-forms c =
+    let p = c.args.at.now in
+    let w = c.exchange.new.terms in
+    let e = c.in_ok-link.ensures in
+    forms_later c.blocks_stay.ensures.link p c.args.terms.now w c.args.block.now c.exchange.new.block
+    (rw c.are_exchanged-exchanged.ensures.same at e.keeps)
+    (units_extend p w c.args.block.now c.exchange.new.block (IsEqualityOf p.symbols.now w c.args.a c.args.b) e.grown.units) c.args.self.now
+    c.requires.forms
+
+pub returns-then-exchanged-clause-units : goal.returns-then-exchanged-clause-units
+returns-then-exchanged-clause-units c =
     let p = c.args.at.now in
     let s = p.symbols.now in
-    let u = c.args.terms.now in
-    let v = c.find_form.new.terms in
-    let w = c.find_form-2.new.terms in
-    let keeps = c.in_err-right.ensures.keeps in
-    places_more_then s u.pass v.pass w.pass (IsMadeToJoin s w c.args.a c.args.b) keeps.pass
-    (places_more s u.pass v.pass (IsMadeFrom s v c.args.a) (IsMadeToJoin s w c.args.a c.args.b)
-    (λ y h. join_left s w c.args.a c.args.b y (made_from_later s v w keeps.pass.grows c.args.a y h)) c.in_ok-left.ensures.placed)
-    (places_more s v.pass w.pass (IsMadeFrom s w c.args.b) (IsMadeToJoin s w c.args.a c.args.b) (join_right s w c.args.a c.args.b)
-    c.in_err-right.ensures.placed)
+    let w = c.exchange.new.terms in
+    units_more p w w c.args.block.now c.exchange.new.block (IsEqualityOf s w c.args.a c.args.b) (IsMadeToJoin s w c.args.a c.args.b)
+    (keeps-same w w refl) (join_both s w c.args.a c.args.b) c.in_ok-link.ensures.grown.units
 
-pub returns-in_err-right-clause-full : goal.returns-in_err-right-clause-full
-returns-in_err-right-clause-full c =
-    let p = c.args.at.now in
-    let s = p.symbols.now in
-    let u = c.args.terms.now in
-    let v = c.find_form.new.terms in
-    let w = c.find_form-2.new.terms in
-    handed_on c.from_residual-in_err-right.result _ _ c.from_residual-in_err-right.ensures.1
-    (λ full. lacks_more s w.pass (IsMadeFrom s w c.args.b) (IsMadeToJoin s w c.args.a c.args.b) (join_right s w c.args.a c.args.b)
-    (c.in_err-right.ensures.full full))
+pub returns-then-exchanged-clause-few : goal.returns-then-exchanged-clause-few
+returns-then-exchanged-clause-few c = let one = c.in_ok-link.ensures.grown.few in omega (arith, one)
 
-pub meet-requires-clause-left : goal.meet-requires-clause-left
-meet-requires-clause-left c =
-    let p = c.args.at.now in
-    let s = p.symbols.now in
-    let u = c.args.terms.now in
-    let v = c.find_form.new.terms in
-    let w = c.find_form-2.new.terms in
-    let e = c.in_ok-right.ensures in
-    formed_later c.blocks_stay.ensures.link p v w c.find_form.new.block c.find_form-2.new.block e.keeps
-    (units_extend p w c.find_form.new.block c.find_form-2.new.block (IsMadeFrom s w c.args.b) e.units) c.args.a c.in_ok-left.left c.in_ok-left.ensures.formed
+pub returns-then-exchanged-clause-met : goal.returns-then-exchanged-clause-met
+returns-then-exchanged-clause-met c = λ r h. inl h
 
-pub meet-requires-clause-one : goal.meet-requires-clause-one
-meet-requires-clause-one c =
-    let p = c.args.at.now in
-    let s = p.symbols.now in
-    let u = c.args.terms.now in
-    let v = c.find_form.new.terms in
-    let w = c.find_form-2.new.terms in
-    let e = c.in_ok-right.ensures in
-    let table = c.leaves_differ.ensures.table in
-    let keeps = keeps_then u v w c.in_ok-left.ensures.keeps e.keeps in
-    one_reference p w c.find_form-2.new.block table c.one_to_one.ensures c.args.a c.args.b c.in_ok-left.left c.in_ok-right.right
-    (formed_later c.blocks_stay.ensures.link p v w c.find_form.new.block c.find_form-2.new.block e.keeps
-    (units_extend p w c.find_form.new.block c.find_form-2.new.block (IsMadeFrom s w c.args.b) e.units) c.args.a c.in_ok-left.left
-    c.in_ok-left.ensures.formed) e.formed
-    (λ y z here there. equal_later s u w table c.one_to_one.ensures keeps c.args.a c.args.b c.requires.sides.left c.requires.sides.right y z
-    c.requires.sides.left_refers c.requires.sides.right_refers
-    (c.requires.equal c.requires.sides.left c.requires.sides.right c.requires.sides.left_refers c.requires.sides.right_refers) here there)
+pub returns-then-exchanged-clause-placed : goal.returns-then-exchanged-clause-placed
+returns-then-exchanged-clause-placed c =
+    let s = c.args.at.now.symbols.now in
+    let w = c.exchange.new.terms in
+    places_more s c.args.terms.now.pass w.pass (IsEqualityOf s w c.args.a c.args.b) (IsMadeToJoin s w c.args.a c.args.b) (join_both s w c.args.a c.args.b)
+    (rw c.are_exchanged-exchanged.ensures.same at c.in_ok-link.ensures.placed)
 
-pub meet-requires-clause-apart : goal.meet-requires-clause-apart
-meet-requires-clause-apart c = let apart : c.args.a ≢ c.args.b = omega arith in apart
+pub returns-then-exchanged-clause-keeps : goal.returns-then-exchanged-clause-keeps
+returns-then-exchanged-clause-keeps c = rw c.are_exchanged-exchanged.ensures.same at c.in_ok-link.ensures.keeps
 
-pub returns-in_err-joined-clause-placed : goal.returns-in_err-joined-clause-placed
-returns-in_err-joined-clause-placed c =
-    let p = c.args.at.now in
-    let s = p.symbols.now in
-    let u = c.args.terms.now in
-    let v = c.find_form.new.terms in
-    let w = c.find_form-2.new.terms in
-    let x = c.meet.new.terms in
-    let right = c.in_ok-right.ensures.keeps in
-    let last = c.in_err-joined.ensures.keeps in
-    let both = keeps_then v w x right last in
-    places_more_then s u.pass w.pass x.pass (IsMadeToJoin s x c.args.a c.args.b) last.pass
-    (places_more_then s u.pass v.pass w.pass (IsMadeToJoin s x c.args.a c.args.b) right.pass
-    (places_more s u.pass v.pass (IsMadeFrom s v c.args.a) (IsMadeToJoin s x c.args.a c.args.b)
-    (λ y h. join_left s x c.args.a c.args.b y (made_from_later s v x both.pass.grows c.args.a y h)) c.in_ok-left.ensures.placed)
-    (places_more s v.pass w.pass (IsMadeFrom s w c.args.b) (IsMadeToJoin s x c.args.a c.args.b)
-    (λ y h. join_right s x c.args.a c.args.b y
-    (made_from_later s w x last.pass.grows c.args.b y h)) c.in_ok-right.ensures.placed)) c.in_err-joined.ensures.placed
+pub join_by_forms-requires-clause-block : goal.join_by_forms-requires-clause-block
+join_by_forms-requires-clause-block c = rw c.are_exchanged-exchanged.ensures.same c.requires.block
 
-pub returns-in_err-joined-clause-full : goal.returns-in_err-joined-clause-full
-returns-in_err-joined-clause-full c =
-    handed_on c.from_residual-in_err-joined.result _ _ c.from_residual-in_err-joined.ensures.1 c.in_err-joined.ensures.full
+pub join_by_forms-requires-clause-forms : goal.join_by_forms-requires-clause-forms
+join_by_forms-requires-clause-forms c = rw c.are_exchanged-exchanged.ensures.same c.requires.forms
 
-pub returns-clause-block : goal.returns-clause-block
-returns-clause-block c = c.in_ok-joined.ensures.grown.block
+pub join_by_forms-requires-clause-sides : goal.join_by_forms-requires-clause-sides
+join_by_forms-requires-clause-sides c = rw c.are_exchanged-exchanged.ensures.same c.requires.sides
 
-pub returns-clause-forms : goal.returns-clause-forms
-returns-clause-forms c =
-    let p = c.args.at.now in
-    let s = p.symbols.now in
-    let u = c.args.terms.now in
-    let v = c.find_form.new.terms in
-    let w = c.find_form-2.new.terms in
-    let x = c.meet.new.terms in
-    let e = c.in_ok-joined.ensures in
-    forms_later c.blocks_stay.ensures.link p w x c.find_form-2.new.block c.meet.new.block e.keeps
-    (units_extend p x c.find_form-2.new.block c.meet.new.block (IsMadeToJoin s x c.args.a c.args.b) e.grown.units) c.find_form-2.new.forms
-    c.in_ok-right.ensures.forms
+pub join_by_forms-requires-clause-equal : goal.join_by_forms-requires-clause-equal
+join_by_forms-requires-clause-equal c = rw c.are_exchanged-exchanged.ensures.same c.requires.equal
 
-pub returns-clause-units : goal.returns-clause-units
-returns-clause-units c =
-    let p = c.args.at.now in
-    let s = p.symbols.now in
-    let u = c.args.terms.now in
-    let v = c.find_form.new.terms in
-    let w = c.find_form-2.new.terms in
-    let x = c.meet.new.terms in
-    let right = c.in_ok-right.ensures.keeps in
-    let last = c.in_ok-joined.ensures.keeps in
-    let both = keeps_then v w x right last in
-    units_then p x c.args.block.now c.find_form-2.new.block c.meet.new.block (IsMadeToJoin s x c.args.a c.args.b)
-    (units_then p x c.args.block.now c.find_form.new.block c.find_form-2.new.block (IsMadeToJoin s x c.args.a c.args.b)
-    (units_more p v x c.args.block.now c.find_form.new.block (IsMadeFrom s v c.args.a) (IsMadeToJoin s x c.args.a c.args.b) both
-    (λ y h. join_left s x c.args.a c.args.b y (made_from_later s v x both.pass.grows c.args.a y h)) c.in_ok-left.ensures.units)
-    (units_more p w x c.find_form.new.block c.find_form-2.new.block (IsMadeFrom s w c.args.b) (IsMadeToJoin s x c.args.a c.args.b) last
-    (λ y h. join_right s x c.args.a c.args.b y (made_from_later s w x last.pass.grows c.args.b y h)) c.in_ok-right.ensures.units))
-    c.in_ok-joined.ensures.grown.units
-
-pub returns-clause-few : goal.returns-clause-few
-returns-clause-few c =
-    let left = c.in_ok-left.ensures.few in
-    let right = c.in_ok-right.ensures.few in
-    let last = c.in_ok-joined.ensures.grown.few in
-    omega (arith, left, right, last)
-
-pub returns-clause-met : goal.returns-clause-met
-returns-clause-met c =
-    let p = c.args.at.now in
-    let s = p.symbols.now in
-    let u = c.args.terms.now in
-    let v = c.find_form.new.terms in
-    let w = c.find_form-2.new.terms in
-    let x = c.meet.new.terms in
-    met_both s v w c.args.a c.args.b c.args.self.now c.find_form.new.forms c.find_form-2.new.forms c.in_ok-right.ensures.keeps c.in_ok-left.ensures.met
-    c.in_ok-right.ensures.met x c.in_ok-joined.ensures.keeps
+pub join_by_forms-requires-clause-apart : goal.join_by_forms-requires-clause-apart
+join_by_forms-requires-clause-apart c = let apart : c.args.a ≢ c.args.b = omega arith in apart
 
 pub returns-clause-placed : goal.returns-clause-placed
-returns-clause-placed c =
-    let p = c.args.at.now in
-    let s = p.symbols.now in
-    let u = c.args.terms.now in
-    let v = c.find_form.new.terms in
-    let w = c.find_form-2.new.terms in
-    let x = c.meet.new.terms in
-    let right = c.in_ok-right.ensures.keeps in
-    let last = c.in_ok-joined.ensures.keeps in
-    let both = keeps_then v w x right last in
-    places_more_then s u.pass w.pass x.pass (IsMadeToJoin s x c.args.a c.args.b) last.pass
-    (places_more_then s u.pass v.pass w.pass (IsMadeToJoin s x c.args.a c.args.b) right.pass
-    (places_more s u.pass v.pass (IsMadeFrom s v c.args.a) (IsMadeToJoin s x c.args.a c.args.b)
-    (λ y h. join_left s x c.args.a c.args.b y (made_from_later s v x both.pass.grows c.args.a y h)) c.in_ok-left.ensures.placed)
-    (places_more s v.pass w.pass (IsMadeFrom s w c.args.b) (IsMadeToJoin s x c.args.a c.args.b)
-    (λ y h. join_right s x c.args.a c.args.b y
-    (made_from_later s w x last.pass.grows c.args.b y h)) c.in_ok-right.ensures.placed)) c.in_ok-joined.ensures.placed
+returns-clause-placed c = rw c.are_exchanged-exchanged.ensures.same at c.join_by_forms.ensures.placed
+
+pub returns-clause-keeps : goal.returns-clause-keeps
+returns-clause-keeps c = rw c.are_exchanged-exchanged.ensures.same at c.join_by_forms.ensures.keeps
