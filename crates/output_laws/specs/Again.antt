@@ -1,7 +1,9 @@
 -- Public. What a second run of the checker reads and says, where the first one printed the text of a proof.
-use Rattle.std.specs.Prelude.{◌≡◌, ◌⊎◌, ℕ, true, false, List, [], Some, map}
+use Rattle.std.specs.Prelude.{◌≡◌, ◌⊎◌, ℕ, Bool, true, false, List, [], Some, map, All, ◌≤◌}
+use Rattle.term_model.specs.Heights.{height}
 use Rattle.term_model.specs.Terms.{Var, Term}
 use Rattle.rule_model.specs.declared.statuses.Verdict.{Verdict}
+use Rattle.rule_model.specs.Elaboration.{IsLowProof}
 use Rattle.rule_model.specs.LeftOut.{IsSameUpToPivots}
 use Rattle.rule_model.specs.Proofs.{ProofItems}
 use Rattle.problem_text.specs.Limits.{AreLow, most_height}
@@ -15,16 +17,24 @@ use Rattle.judged_texts.specs.Judgement.{IsCheckedAs}
 use Rattle.judged_texts.specs.Printed.{status_of_judgement}
 use Rattle.judged_texts.specs.Reading.{settings_of}
 
--- the same options with `--strict`; and with lets kept
+-- the same options with `--strict`; with lets kept; and with lets kept or replaced
 abbrev pub strictly : Options → Options
 strictly options = record options { is_strict = true }
 
 abbrev pub keeping_lets : Options → Options
 keeping_lets options = record options { replaces_lets = false }
 
+abbrev pub with_lets : Bool → Options → Options
+with_lets replaces options = record options { replaces_lets = replaces }
+
 -- No term that was read up to this script is higher than the limit. The images of the variables of anchors count as read.
 abbrev pub IsReadLow : Script → Type 0
 IsReadLow after = AreLow (Some most_height) after.terms
+
+-- No assertion and no term of the proof is higher than 995: then no term of an elaboration is higher than the limit.
+pub record IsHalfLow (assertions : List Term) (proof : ProofItems Var Term) : Type 0 where
+  pub asserted : All (λ t. height t ≤ 995) assertions
+  pub low : IsLowProof 995 proof
 
 -- the words of the rules of a check's holes, in file order
 abbrev pub hole_rules : {problem : List ℕ} {options : Options} {proof : List ℕ} {v : Verdict} → IsCheckedAs problem options proof v → List (List ℕ)

@@ -1,17 +1,21 @@
 //! Laws over what two runs say of the same problem, where the second one reads what the first one printed. Each is the contract of a
 //! function that does nothing.
-ghost use Rattle.std.specs.Prelude.{◌≡◌, ℕ, Bool, List, [], false};
+ghost use Rattle.std.specs.Prelude.{◌≡◌, ◌^◌, ℕ, Bool, List, [], true, false};
 ghost use Rattle.rule_model.specs.declared.statuses.Verdict.{Verdict};
 ghost use Rattle.problem_text.specs.Problems.{StandsForProblem, HasNamesApart};
 ghost use Rattle.alethe_text.specs.ProofTexts.{StandsForProof};
+ghost use Rattle.alethe_text.specs.States.{limited_proof};
 ghost use Rattle.printed_proofs.specs.Numbered.{numbered_proof};
 ghost use Rattle.readable_proofs.specs.ProofsOver.{printed_settings};
 ghost use Rattle.command_words.specs.declared.request.Options.{Options};
 ghost use Rattle.judged_texts.specs.declared.judgement.Judgement.{Judgement};
+ghost use Rattle.judged_texts.specs.Cells.{HasMoreCells};
 ghost use Rattle.judged_texts.specs.Judgement.{IsJudgement};
+ghost use Rattle.judged_texts.specs.Reading.{NeedsRoom};
 ghost use Rattle.elaborated_texts.specs.Elaborated.{IsElaboratedText, IsStatusOfPrinted};
 ghost use Rattle.pruned_texts.specs.Needed.{IsCoreText, IsPrunedText, left_of};
-ghost use Rattle.output_laws.specs.Again.{strictly, keeping_lets, hole_rules, IsCheckedWith, IsReadLow, IsReadUpToPivots, SaysSo, SaySame};
+ghost use Rattle.output_laws.specs.Again.{strictly, keeping_lets, with_lets, hole_rules, IsCheckedWith, IsReadLow, IsHalfLow};
+ghost use Rattle.output_laws.specs.Again.{IsReadUpToPivots, SaysSo, SaySame};
 
 use alethe_text::laws::{
     proof_texts_have_one_reading, proofs_are_read_alike_within_limits, proofs_are_well_formed,
@@ -20,7 +24,12 @@ use printed_proofs::laws::parts_are_read_back;
 use problem_text::laws::texts_have_one_reading;
 use pruned_proofs::laws::pruned_proofs_are_well_formed;
 use readable_proofs::laws::{
-    proofs_are_over_their_names, proofs_are_readable, proofs_that_pass_have_coefficients,
+    printed_terms_are_low, proofs_are_over_their_names, proofs_are_readable,
+    proofs_that_pass_have_coefficients,
+};
+use reread_laws::laws::{
+    low_proofs_are_printed_low, pruned_proofs_are_printed_low,
+    pruned_proofs_are_printed_without_lets, texts_without_lets_are_read_alike,
 };
 use rule_model::laws::elaboration::elaborations_keep_verdicts;
 use rule_model::laws::ids::{ids_play_no_part, pivots_do_not_matter_in_check_mode};
@@ -46,14 +55,35 @@ pub fn elaborations_are_valid_strictly()
     proofs_are_read_alike_within_limits();
 }
 
+/// Where no assertion and no term of the proof that was elaborated is higher than 995, no term that is read of the text of the elaboration
+/// is higher than the limit.
+pub fn elaborations_are_read_low()
+    ensures { (problem : List ℕ) (options : Options) (proof : List ℕ) (status : ℕ) (bytes : List ℕ)
+        (out : IsElaboratedText problem options proof status bytes) (apart : HasNamesApart out.checked.after) →
+        IsHalfLow out.checked.script.assertions out.checked.commands → IsReadLow (out.read_back apart).after }
+{
+    printed_terms_are_low();
+    low_proofs_are_printed_low();
+}
+
 /// The text of a pruned proof stands behind the problem for the pruned proof with its ids numbered, read with `--strict` and without, where
 /// no function has the name of a variable that a let or an anchor of the two texts binds. The proof that was pruned was read without
 /// `--strict`: its steps have no pivots, and so no step by resolution has arguments in the text.
 pub fn pruned_texts_are_read_in_both_modes()
-    ensures { (problem : List ℕ) (options : Options) (proof bytes : List ℕ) (out : IsPrunedText problem options proof bytes)
+    ensures both { (problem : List ℕ) (options : Options) (proof bytes : List ℕ) (out : IsPrunedText problem options proof bytes)
         (apart : HasNamesApart out.refutation.checked.after) (is_strict : Bool) → options.is_strict ≡ false →
         StandsForProof bytes (record printed_settings { is_strict = is_strict }) out.refutation.checked.script
         (numbered_proof (left_of problem options proof out.refutation)) (out.read_back apart).after }
+    // So it is read within the limit of heights: each term of it stood in the proof that was read.
+    ensures limited { (problem : List ℕ) (options : Options) (proof bytes : List ℕ) (out : IsPrunedText problem options proof bytes)
+        (apart : HasNamesApart out.refutation.checked.after) (is_strict : Bool) →
+        options.is_strict ≡ false → StandsForProof bytes (limited_proof false is_strict)
+        out.refutation.checked.script (numbered_proof (left_of problem options proof out.refutation)) (out.read_back apart).after }
+    // Where lets were replaced, no term of it has one, and it is read the same with lets replaced.
+    ensures replaced { (problem : List ℕ) (options : Options) (proof bytes : List ℕ) (out : IsPrunedText problem options proof bytes)
+        (apart : HasNamesApart out.refutation.checked.after) (is_strict : Bool) →
+        options.is_strict ≡ false → options.replaces_lets ≡ true → StandsForProof bytes (limited_proof true is_strict)
+        out.refutation.checked.script (numbered_proof (left_of problem options proof out.refutation)) (out.read_back apart).after }
 {
     items_are_unique();
     printed_items_are_read_back();
@@ -63,28 +93,29 @@ pub fn pruned_texts_are_read_in_both_modes()
     proofs_are_over_their_names();
     proofs_that_pass_have_coefficients();
     proofs_are_readable();
+    proofs_are_read_alike_within_limits();
+    pruned_proofs_are_printed_low();
+    pruned_proofs_are_printed_without_lets();
+    texts_without_lets_are_read_alike();
 }
 
 /// The text of a pruned proof, checked without `--strict` behind the same problem, is valid where it is read so as the pruned proof, up to
-/// pivots. So it is read where no function has the name of a variable that a let or an anchor of the two texts binds, and no term that is
-/// read of it is higher than the limit.
+/// pivots. So it is read by the same options, where no function has the name of a variable that a let or an anchor of the two texts binds.
 pub fn pruned_texts_are_valid()
-    ensures read { (problem : List ℕ) (options : Options) (proof bytes : List ℕ) (out : IsPrunedText problem options proof bytes) →
-        options.is_strict ≡ false → StandsForProblem problem false out.refutation.checked.script →
-        IsReadUpToPivots bytes (keeping_lets options) out.refutation.checked.script (numbered_proof (left_of problem options proof out.refutation)) →
-        IsCheckedWith problem (keeping_lets options) bytes Verdict.Valid [] }
-    ensures kept { (problem : List ℕ) (options : Options) (proof bytes : List ℕ) (out : IsPrunedText problem options proof bytes)
-        (apart : HasNamesApart out.refutation.checked.after) → options.is_strict ≡ false → options.replaces_lets ≡ false →
-        IsReadLow (out.read_back apart).after → IsCheckedWith problem options bytes Verdict.Valid [] }
-    // Where lets were replaced, it is checked with lets kept, and the problem has to stand for the same script so.
-    ensures replaced { (problem : List ℕ) (options : Options) (proof bytes : List ℕ) (out : IsPrunedText problem options proof bytes)
-        (apart : HasNamesApart out.refutation.checked.after) → options.is_strict ≡ false →
-        StandsForProblem problem false out.refutation.checked.script → IsReadLow (out.read_back apart).after →
-        IsCheckedWith problem (keeping_lets options) bytes Verdict.Valid [] }
+    ensures read { (problem : List ℕ) (options : Options) (proof bytes : List ℕ) (out : IsPrunedText problem options proof bytes)
+        (replaces : Bool) → options.is_strict ≡ false → StandsForProblem problem replaces out.refutation.checked.script →
+        IsReadUpToPivots bytes (with_lets replaces options) out.refutation.checked.script
+        (numbered_proof (left_of problem options proof out.refutation)) →
+        IsCheckedWith problem (with_lets replaces options) bytes Verdict.Valid [] }
+    ensures again { (problem : List ℕ) (options : Options) (proof bytes : List ℕ) (out : IsPrunedText problem options proof bytes) →
+        HasNamesApart out.refutation.checked.after → options.is_strict ≡ false → IsCheckedWith problem options bytes Verdict.Valid [] }
+    // Where lets were replaced, it is checked with lets kept too, and the problem has to stand for the same script so.
+    ensures replaced { (problem : List ℕ) (options : Options) (proof bytes : List ℕ) (out : IsPrunedText problem options proof bytes) →
+        HasNamesApart out.refutation.checked.after → options.is_strict ≡ false →
+        StandsForProblem problem false out.refutation.checked.script → IsCheckedWith problem (keeping_lets options) bytes Verdict.Valid [] }
 {
     ids_play_no_part();
     pivots_do_not_matter_in_check_mode();
-    proofs_are_read_alike_within_limits();
     pruned_texts_are_read_in_both_modes();
 }
 
@@ -108,6 +139,21 @@ pub fn elaborations_say_the_same()
         IsJudgement problem options proof bits first → IsJudgement problem (strictly options) bytes others second → SaySame first second }
 {
     elaborations_are_valid_strictly();
+    checks_say_one_thing();
+}
+
+/// A run on the text of a pruned proof, by the options with which it was pruned, says `valid`, or that the pool is full, where no function
+/// has the name of a variable that a let or an anchor of the two texts binds.
+pub fn pruned_texts_are_said_valid()
+    ensures said { (problem : List ℕ) (options : Options) (proof bytes : List ℕ) (out : IsPrunedText problem options proof bytes) (bits : ℕ)
+        (j : Judgement) → HasNamesApart out.refutation.checked.after → options.is_strict ≡ false → IsJudgement problem options bytes bits j →
+        SaysSo 0 [] j }
+    // Where the pool has room for what such a check needs, it says `valid`.
+    ensures valid { (problem : List ℕ) (options : Options) (proof bytes : List ℕ) (out : IsPrunedText problem options proof bytes) (bits : ℕ)
+        (j : Judgement) → HasNamesApart out.refutation.checked.after → options.is_strict ≡ false → IsJudgement problem options bytes bits j →
+        ¬ HasMoreCells (NeedsRoom problem options bytes) (2 ^ bits) → j ≡ Judgement.Valid }
+{
+    pruned_texts_are_valid();
     checks_say_one_thing();
 }
 

@@ -7,6 +7,7 @@
 pub mod laws;
 
 pub use laws::{
-    checks_say_one_thing, cores_are_one, elaborations_are_valid_strictly,
-    elaborations_say_the_same, pruned_texts_are_read_in_both_modes, pruned_texts_are_valid,
+    checks_say_one_thing, cores_are_one, elaborations_are_read_low,
+    elaborations_are_valid_strictly, elaborations_say_the_same,
+    pruned_texts_are_read_in_both_modes, pruned_texts_are_said_valid, pruned_texts_are_valid,
 };

@@ -1,14 +1,20 @@
-use Rattle.std.proofs.Common.{◌≡◌, [], refl, sym, subst}
+use Rattle.std.proofs.Common.{◌≡◌, true, false, Some, [], refl, sym, subst}
 use Rattle.std.proofs.lemmas.List.Elements.{All-weaker}
 use Rattle.term_model.proofs.Lists.{contains_none}
 use Rattle.rule_model.specs.declared.statuses.Status.{Status}
 use Rattle.rule_model.specs.Scopes.{outermost}
 use Rattle.rule_model.specs.Statuses.{Passes}
 use Rattle.rule_model.specs.WellFormed.{IsWellFormed}
+use Rattle.problem_text.specs.Limits.{AreLow, most_height}
+use Rattle.problem_text.specs.Problems.{StandsForProblem}
+use Rattle.problem_text.specs.Scripts.{Script}
+use Rattle.alethe_text.specs.States.{limited_proof}
 use Rattle.printed_proofs.specs.Naming.{IsPlan}
 use Rattle.printed_proofs.specs.Numbered.{numbered_proof}
+use Rattle.printed_proofs.specs.PrintedProof.{behind_items}
 use Rattle.printed_proofs.specs.Readable.{AreReadable}
 use Rattle.readable_proofs.specs.ProofsOver.{printed_settings}
+use Rattle.reread_laws.specs.Since.{ReadsNoLet}
 use Rattle.judged_texts.specs.Reading.{checking_of, settings_of}
 use Rattle.pruned_texts.specs.Needed.{left_of}
 use Rattle.output_laws.proofs.NoArguments.{HasNoPivotArguments, text_gives_none}
@@ -28,8 +34,8 @@ no_names = record {
   distinct = λ m n has. absurd (contains_none m has);
 }
 
-pub returns : goal.returns
-returns c = λ problem options proof bytes out apart is_strict check.
+pub returns-clause-both : goal.returns-clause-both
+returns-clause-both c = λ problem options proof bytes out apart is_strict check.
     let checked = out.refutation.checked in
     let marks = out.refutation.marks in
     let first = out.refutation.is_first in
@@ -52,3 +58,28 @@ returns c = λ problem options proof bytes out apart is_strict check.
     (spelled_kept out.plan script.sorts marks of (readable_spelled printed_settings out.plan script out.names.is_plan outermost of readable)) in
     text_in_mode bytes printed_settings is_strict script (numbered_proof left) (out.read_back apart).after
     (subst HasNoPivotArguments (sym out.printed) text) (out.read_back apart).stands
+
+pub returns-clause-limited : goal.returns-clause-limited
+returns-clause-limited c = λ problem options proof bytes out apart is_strict check.
+    let checked = out.refutation.checked in
+    let read = out.read_back apart in
+    let numbered = numbered_proof (left_of problem options proof out.refutation) in
+    let low : AreLow (Some most_height) (behind_items read.plan checked.script outermost (left_of problem options proof out.refutation)).terms =
+    c.pruned_proofs_are_printed_low.ensures problem options.replaces_lets checked.script proof (settings_of options) checked.commands checked.after
+    out.refutation.marks read.plan checked.problem_text checked.proof_text refl in
+    c.proofs_are_read_alike_within_limits.ensures (Some most_height) bytes (record printed_settings { is_strict = is_strict }) checked.script numbered
+    read.after (returns-clause-both c problem options proof bytes out apart is_strict check)
+    (subst (λ (s : Script). AreLow (Some most_height) s.terms) (sym read.behind) low)
+
+pub returns-clause-replaced : goal.returns-clause-replaced
+returns-clause-replaced c = λ problem options proof bytes out apart is_strict check replaced.
+    let checked = out.refutation.checked in
+    let read = out.read_back apart in
+    let numbered = numbered_proof (left_of problem options proof out.refutation) in
+    let stands : StandsForProblem problem true checked.script =
+    subst (λ b. StandsForProblem problem b checked.script) replaced checked.problem_text in
+    let free : ReadsNoLet checked.script (behind_items read.plan checked.script outermost (left_of problem options proof out.refutation)) =
+    c.pruned_proofs_are_printed_without_lets.ensures problem checked.script proof (settings_of options) checked.commands checked.after
+    out.refutation.marks read.plan stands checked.proof_text replaced in
+    c.texts_without_lets_are_read_alike.ensures bytes (limited_proof false is_strict) checked.script numbered read.after refl
+    (returns-clause-limited c problem options proof bytes out apart is_strict check) (subst (ReadsNoLet checked.script) (sym read.behind) free)

@@ -1,27 +1,22 @@
-use Rattle.std.proofs.Common.{◌≡◌, false, Some, [], replicate, refl, sym, ap, subst}
+use Rattle.std.proofs.Common.{◌≡◌, Bool, true, false, [], replicate, refl, sym, subst}
 use Rattle.rule_model.specs.declared.rules.Mode.{Mode}
 use Rattle.rule_model.specs.declared.statuses.Status.{Status}
 use Rattle.rule_model.specs.declared.statuses.Verdict.{Verdict}
 use Rattle.rule_model.specs.Columns.{checking_in}
 use Rattle.rule_model.specs.Scopes.{commands_in}
 use Rattle.rule_model.specs.Statuses.{Checking, AreStatuses}
-use Rattle.problem_text.specs.Limits.{most_height}
-use Rattle.problem_text.specs.Problems.{StandsForProblem}
 use Rattle.alethe_text.specs.ProofTexts.{StandsForProof}
 use Rattle.alethe_text.specs.States.{limited_proof}
 use Rattle.printed_proofs.specs.Numbered.{numbered_proof}
-use Rattle.readable_proofs.specs.ProofsOver.{printed_settings}
-use Rattle.command_words.specs.declared.request.Options.{Options}
-use Rattle.judged_texts.specs.Reading.{checking_of}
+use Rattle.judged_texts.specs.Reading.{checking_of, settings_of}
 use Rattle.pruned_texts.specs.Needed.{left_of, last_of}
-use Rattle.output_laws.specs.Again.{IsCheckedWith}
 use Rattle.output_laws.proofs.HoleRules.{no_rules}
 use Rattle.output_laws.proofs.MoreAssertions.{ok_with_all, valid_to_end}
 use Rattle.output_laws.proofs.SameIds.{same_up_to_ids}
 use Rattle.output_laws.proofs.laws.pruned_texts_are_valid.Goals as goal
 
 pub returns-clause-read : goal.returns-clause-read
-returns-clause-read c = λ problem options proof bytes out check stands read.
+returns-clause-read c = λ problem options proof bytes out replaces check stands read.
     let script = out.refutation.checked.script in
     let left = left_of problem options proof out.refutation in
     let last = last_of problem options proof out.refutation in
@@ -51,24 +46,36 @@ returns-clause-read c = λ problem options proof bytes out check stands read.
       holes = no_rules read.others 0 statuses verdict.0;
     }
 
-pub returns-clause-replaced : goal.returns-clause-replaced
-returns-clause-replaced c = λ problem options proof bytes out apart check stands low.
+pub returns-clause-again : goal.returns-clause-again
+returns-clause-again c = λ problem options proof bytes out apart check.
+    let checked = out.refutation.checked in
+    let numbered = numbered_proof (left_of problem options proof out.refutation) in
     let after = (out.read_back apart).after in
+    let both = c.pruned_texts_are_read_in_both_modes.ensures in
+    let within : (b : Bool) → options.replaces_lets ≡ b → StandsForProof bytes (limited_proof b false) checked.script numbered after =
+    λ b e. elim b as (λ b. options.replaces_lets ≡ b → StandsForProof bytes (limited_proof b false) checked.script numbered after) [
+      | true ↦ λ e. both.replaced problem options proof bytes out apart false check e
+      | false ↦ λ e. both.limited problem options proof bytes out apart false check
+    ] e in
+    returns-clause-read c problem options proof bytes out options.replaces_lets check checked.problem_text
+    (record {
+      others = numbered;
+      after = after;
+      stands = subst (λ b. StandsForProof bytes (limited_proof options.replaces_lets b) checked.script numbered after) (sym check)
+          (within options.replaces_lets refl);
+      same = refl;
+    })
+
+pub returns-clause-replaced : goal.returns-clause-replaced
+returns-clause-replaced c = λ problem options proof bytes out apart check stands.
     let script = out.refutation.checked.script in
     let numbered = numbered_proof (left_of problem options proof out.refutation) in
-    let text = c.pruned_texts_are_read_in_both_modes.ensures problem options proof bytes out apart false check in
-    let within : StandsForProof bytes (limited_proof false false) script numbered after =
-    c.proofs_are_read_alike_within_limits.ensures (Some most_height) bytes (record printed_settings { is_strict = false }) script numbered after text low in
-    returns-clause-read c problem options proof bytes out check stands
+    let after = (out.read_back apart).after in
+    let within = c.pruned_texts_are_read_in_both_modes.ensures.limited problem options proof bytes out apart false check in
+    returns-clause-read c problem options proof bytes out false check stands
     (record {
       others = numbered;
       after = after;
       stands = subst (λ b. StandsForProof bytes (limited_proof false b) script numbered after) (sym check) within;
       same = refl;
     })
-
-pub returns-clause-kept : goal.returns-clause-kept
-returns-clause-kept c = λ problem options proof bytes out apart check kept low.
-    subst (λ (o : Options). IsCheckedWith problem o bytes Verdict.Valid []) (ap (λ b. record options { replaces_lets = b }) (sym kept))
-    (returns-clause-replaced c problem options proof bytes out apart check
-    (subst (λ b. StandsForProblem problem b out.refutation.checked.script) kept out.refutation.checked.problem_text) low)
