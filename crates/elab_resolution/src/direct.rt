@@ -27,7 +27,7 @@ use term_pool::Terms;
 fn links_to(alloc: Global, premises: &[u32]) -> Result<Vec<Link>, Memory>
     ensures { IfOk result (λ links. links.items ≡ map link_to premises.now) }
 {
-    let mut links = Vec::new(alloc);
+    let mut links = Vec::with_capacity(alloc, premises.len())?;
     'premises: for premise in premises {
         links.push(Link::Old(*premise))?;
     }
@@ -102,7 +102,7 @@ pub(crate) fn direct_steps(
     };
     let mut literals = Vec::new(alloc);
     literals.extend_from_slice(clause)?;
-    let mut steps = Vec::new(alloc);
+    let mut steps = Vec::with_capacity(alloc, 1)?;
     steps.push(Added {
         rule: Rule::Resolution,
         clause: literals,

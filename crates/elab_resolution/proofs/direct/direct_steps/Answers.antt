@@ -67,8 +67,8 @@ module _ (c : goal.After-drop-premises-2) (of : ProofItems Var Term) (stand : St
 
   is : c.push.new.self.items ≡ direct proof i pivots ∷ []
   is =
-      is_direct proof i pivots c.new-steps.result.items c.push.new.self.items c.new-literals.result.items c.extend_from_slice.new.self.items
-      c.clause-clause.result.now c.premises.result.now c.in_ok-links_to.field-0.items c.in_ok-push.ensures.items c.new-steps.ensures.items
+      is_direct proof i pivots c.in_ok-steps.steps.items c.push.new.self.items c.new-literals.result.items c.extend_from_slice.new.self.items
+      c.clause-clause.result.now c.premises.result.now c.in_ok-links_to.field-0.items c.in_ok-push.ensures.items c.in_ok-steps.ensures.items
       c.in_ok-extend_from_slice.ensures.items c.new-literals.ensures.items c.clause-clause.ensures c.in_ok-links_to.ensures c.premises.ensures
 
   added_here : AreAddedFor s v proof i c.push.new.self.items
