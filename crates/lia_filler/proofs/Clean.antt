@@ -76,7 +76,8 @@ mapped : {X : Type 0} (P Q : X → Type 0) (f : X → X) → ((x : X) → P x �
 mapped P Q f h [] hs = tt
 mapped P Q f h (x ∷ xs) (p, hs) = (h x p, mapped P Q f h xs hs)
 
-all_pairs : {X : Type 0} (P Q R : X → Type 0) (pair : X → X → X) → ((x y : X) → P x → Q y → R (pair x y)) → (xs ys : List X) → AllByRecursion P xs → AllByRecursion Q ys → AllByRecursion R (products pair xs ys)
+all_pairs : {X : Type 0} (P Q R : X → Type 0) (pair : X → X → X) → ((x y : X) → P x → Q y → R (pair x y)) → (xs ys : List X) → AllByRecursion P xs
+    → AllByRecursion Q ys → AllByRecursion R (products pair xs ys)
 all_pairs P Q R pair h [] ys ps qs = tt
 all_pairs P Q R pair h (x ∷ xs) ys (p, ps) qs =
     joined R (map (pair x) ys) (products pair xs ys) (mapped Q R (pair x) (λ y. h x y p) ys qs) (all_pairs P Q R pair h xs ys ps qs)
@@ -105,14 +106,19 @@ levels_nothing S c (x ∷ xs) (h, hs) = omega (arith, ints, h.1, levels_nothing 
 -- a product by a number over 0 is not over 0 only where the factor is not
 smaller : (n : ℕ) (z : ℤ) → (pos (suc n) *ℤ z) ≤ℤ pos 0 → z ≤ℤ pos 0
 smaller n z h =
-    by_lt_z (pos 0) z (λ over. absurd (omega (arith, ints, h, ring.mul_le (suc n) (pos 1) z (omega (arith, ints, over)), *ℤ_comm (pos (suc n)) (pos 1), ring.one-mul (pos (suc n))))) (λ le. le)
+    by_lt_z (pos 0) z (λ over. absurd (omega (arith, ints, h, grown over, *ℤ_comm (pos (suc n)) (pos 1), ring.one-mul (pos (suc n))))) (λ le. le)
+  where
+    grown : pos 0 <ℤ z → (pos (suc n) *ℤ pos 1) ≤ℤ (pos (suc n) *ℤ z)
+    grown over = ring.mul_le (suc n) (pos 1) z (omega (arith, ints, over))
 
 -- what pairs and levels are for the rows of a column
 pub record IsMadeOf {X : Type 0} (pair : X → X → X) (c : X → ℤ) (S T : X → Type 0) : Type 0 where
   pub pairs : (x y : X) → S x → S y → pos 0 <ℤ c x → c y <ℤ pos 0 → T (pair x y)
   pub levels : (x : X) → S x → c x ≡ pos 0 → T x
 
-total-made : {X : Type 0} (S : X → Type 0) (pair : X → X → X) (c g : X → ℤ) (n : ℕ) → IsLinear S pair c g → (highs lows levels : List X) → AllByRecursion S highs → AllByRecursion S lows → total c highs ≡ pos n → total c lows ≡ neg_ℤ (pos n) → total g (products pair highs lows ++ copies n levels) ≡ pos n *ℤ (total g highs +ℤ total g lows +ℤ total g levels)
+total-made : {X : Type 0} (S : X → Type 0) (pair : X → X → X) (c g : X → ℤ) (n : ℕ) → IsLinear S pair c g → (highs lows levels : List X)
+    → AllByRecursion S highs → AllByRecursion S lows → total c highs ≡ pos n → total c lows ≡ neg_ℤ (pos n)
+    → total g (products pair highs lows ++ copies n levels) ≡ pos n *ℤ (total g highs +ℤ total g lows +ℤ total g levels)
 total-made S pair c g n linear highs lows levels hs ls e f =
     let turned : ◌≡◌ {A = ℤ} (neg_ℤ (total c lows)) (pos n) = omega (arith, ints, f) in
     omega (
@@ -127,7 +133,9 @@ total-made S pair c g n linear highs lows levels hs ls e f =
       ring.mul-add (pos n) (total g highs) (total g lows),
     )
 
-pub clean_before : {X : Type 0} (S T : X → Type 0) (pair : X → X → X) (columns : ℕ → X → ℤ) (bound : X → ℤ) (k : ℕ) → k < 4 → IsMadeOf pair (columns k) S T → ((j : ℕ) → j < 4 → IsLinear S pair (columns k) (columns j)) → IsLinear S pair (columns k) bound → IsClean T columns bound → IsClean S columns bound
+pub clean_before : {X : Type 0} (S T : X → Type 0) (pair : X → X → X) (columns : ℕ → X → ℤ) (bound : X → ℤ) (k : ℕ) → k < 4
+    → IsMadeOf pair (columns k) S T → ((j : ℕ) → j < 4 → IsLinear S pair (columns k) (columns j)) → IsLinear S pair (columns k) bound
+    → IsClean T columns bound → IsClean S columns bound
 clean_before {X} S T pair columns bound k within made_of linear linear_bound clean = record {
   none = λ xs ss zeros. split xs zeros (parted S (columns k) xs ss);
 }
@@ -138,19 +146,37 @@ clean_before {X} S T pair columns bound k within made_of linear linear_bound cle
     nothing : (xs : List X) → ((j : ℕ) → j < 4 → total (columns j) xs ≡ pos 0) → (p : IsParted S c xs) → total c p.highs ≡ pos 0 → total bound xs ≤ℤ pos 0
     nothing xs zeros p e =
         let f : total c p.lows ≡ pos 0 = omega (arith, ints, e, zeros k within, p.sums c, levels_nothing S c p.levels p.of_levels) in
-        let left = clean.none p.levels (passed (λ x. S x × (c x ≡ pos 0)) T (λ x h. made_of.levels x h.0 h.1) p.levels p.of_levels) (λ j l. omega (arith, ints, zeros j l, p.sums (columns j), no_highs S c (columns j) p.highs p.of_highs e, no_lows S c (columns j) p.lows p.of_lows f)) in
+        let left = clean.none p.levels (passed (λ x. S x × (c x ≡ pos 0)) T (λ x h. made_of.levels x h.0 h.1) p.levels p.of_levels)
+        (λ j l. omega (
+          arith,
+          ints,
+          zeros j l,
+          p.sums (columns j),
+          no_highs S c (columns j) p.highs p.of_highs e,
+          no_lows S c (columns j) p.lows p.of_lows f,
+        )) in
         omega (arith, ints, left, p.sums bound, no_highs S c bound p.highs p.of_highs e, no_lows S c bound p.lows p.of_lows f)
 
-    times : (xs : List X) → ((j : ℕ) → j < 4 → total (columns j) xs ≡ pos 0) → (p : IsParted S c xs) → (n : ℕ) → total c p.highs ≡ pos (suc n) → total bound xs ≤ℤ pos 0
+    times : (xs : List X) → ((j : ℕ) → j < 4 → total (columns j) xs ≡ pos 0) → (p : IsParted S c xs) → (n : ℕ) → total c p.highs ≡ pos (suc n)
+        → total bound xs ≤ℤ pos 0
     times xs zeros p n e =
         let f : total c p.lows ≡ neg_ℤ (pos (suc n)) = omega (arith, ints, e, zeros k within, p.sums c, levels_nothing S c p.levels p.of_levels) in
         let hs = firsts S (λ x. pos 0 <ℤ c x) p.highs p.of_highs in
         let ls = firsts S (λ x. c x <ℤ pos 0) p.lows p.of_lows in
         let sums = λ (g : X → ℤ) (l : IsLinear S pair c g). total-made S pair c g (suc n) l p.highs p.lows p.levels hs ls e f in
-        let pairs = all_pairs (λ x. S x × (pos 0 <ℤ c x)) (λ x. S x × (c x <ℤ pos 0)) T pair (λ x y h l. made_of.pairs x y h.0 l.0 h.1 l.1) p.highs p.lows p.of_highs p.of_lows in
+        let pairs = all_pairs (λ x. S x × (pos 0 <ℤ c x)) (λ x. S x × (c x <ℤ pos 0)) T pair (λ x y h l. made_of.pairs x y h.0 l.0 h.1 l.1)
+        p.highs p.lows p.of_highs p.of_lows in
         let levels = copied T (suc n) p.levels (passed (λ x. S x × (c x ≡ pos 0)) T (λ x h. made_of.levels x h.0 h.1) p.levels p.of_levels) in
         let all = joined T (products pair p.highs p.lows) (copies (suc n) p.levels) pairs levels in
-        let left = clean.none (products pair p.highs p.lows ++ copies (suc n) p.levels) all (λ j l. omega (arith, ints, sums (columns j) (linear j l), ap (λ (z : ℤ). pos (suc n) *ℤ z) (sym (p.sums (columns j))), ap (λ (z : ℤ). pos (suc n) *ℤ z) (zeros j l), *ℤ_comm (pos (suc n)) (pos 0), zero-*ℤ (pos (suc n)))) in
+        let left = clean.none (products pair p.highs p.lows ++ copies (suc n) p.levels) all (λ j l. omega (
+          arith,
+          ints,
+          sums (columns j) (linear j l),
+          ap (λ (z : ℤ). pos (suc n) *ℤ z) (sym (p.sums (columns j))),
+          ap (λ (z : ℤ). pos (suc n) *ℤ z) (zeros j l),
+          *ℤ_comm (pos (suc n)) (pos 0),
+          zero-*ℤ (pos (suc n)),
+        )) in
         smaller n (total bound xs) (omega (arith, ints, left, sums bound linear_bound, ap (λ (z : ℤ). pos (suc n) *ℤ z) (p.sums bound)))
 
     cases : (xs : List X) → ((j : ℕ) → j < 4 → total (columns j) xs ≡ pos 0) → (p : IsParted S c xs) → (z : ℤ) → total c p.highs ≡ z → total bound xs ≤ℤ pos 0

@@ -1,5 +1,6 @@
 -- Multipliers with signs and limits, once a column more is eliminated.
-use Rattle.std.proofs.Common.{◌≡◌, ◌⊎◌, inl, inr, ℕ, zero, suc, ◌*◌, ◌^◌, ◌<◌, ◌≤◌, ℤ, pos, negsuc, neg_ℤ, ◌+ℤ◌, ◌*ℤ◌, ◌≤ℤ◌, ◌<ℤ◌, List, [], ◌∷◌, length, get_or, unsigned_abs, All, sym, ◌∙◌, arith}
+use Rattle.std.proofs.Common.{◌≡◌, ◌⊎◌, inl, inr, ℕ, zero, suc, ◌*◌, ◌^◌, ◌<◌, ◌≤◌, ℤ, pos, negsuc, neg_ℤ, ◌+ℤ◌}
+use Rattle.std.proofs.Common.{◌*ℤ◌, ◌≤ℤ◌, ◌<ℤ◌, List, [], ◌∷◌, length, get_or, unsigned_abs, All, sym, ◌∙◌, arith}
 use Rattle.std.proofs.Math.Nat.{mul-le-mul_right}
 use Rattle.std.proofs.Math.IntN.{zero-*ℤ, *ℤ_comm}
 use Rattle.std.proofs.lemmas.Int.{ints}
@@ -41,10 +42,12 @@ limits_before (suc (suc (suc zero))) h = (omega arith, omega arith)
 limits_before (suc (suc (suc (suc k)))) h = absurd (omega (arith, h))
 
 -- a sum of two products
-sum_within : (a x b y : ℤ) (m n : ℕ) → unsigned_abs a ≤ m → unsigned_abs x ≤ n → unsigned_abs b ≤ m → unsigned_abs y ≤ n → unsigned_abs (a *ℤ x +ℤ b *ℤ y) ≤ 2 * (m * n)
+sum_within : (a x b y : ℤ) (m n : ℕ) → unsigned_abs a ≤ m → unsigned_abs x ≤ n → unsigned_abs b ≤ m → unsigned_abs y ≤ n
+    → unsigned_abs (a *ℤ x +ℤ b *ℤ y) ≤ 2 * (m * n)
 sum_within a x b y m n p q r s = omega (arith, ints, product_within a x m n p q, product_within b y m n r s)
 
-mixed_small : (a b : ℤ) (xs ys : List ℤ) (m n : ℕ) → length xs ≡ length ys → unsigned_abs a ≤ m → unsigned_abs b ≤ m → All (λ x. unsigned_abs x ≤ n) xs → All (λ y. unsigned_abs y ≤ n) ys → All (λ z. unsigned_abs z ≤ 2 * (m * n)) (mixed a xs b ys)
+mixed_small : (a b : ℤ) (xs ys : List ℤ) (m n : ℕ) → length xs ≡ length ys → unsigned_abs a ≤ m → unsigned_abs b ≤ m
+    → All (λ x. unsigned_abs x ≤ n) xs → All (λ y. unsigned_abs y ≤ n) ys → All (λ z. unsigned_abs z ≤ 2 * (m * n)) (mixed a xs b ys)
 mixed_small a b xs ys m n e p q hs ks k d h =
     let long : k < length xs = omega (arith, h, length-mixed a b xs ys e) in
     let entry = get_or_default (mixed a xs b ys) k d (pos 0) h ∙ get_or-mixed a b xs ys k e long in
@@ -57,13 +60,19 @@ cancelled a b = omega (arith, ints, ring.neg-mul b a, *ℤ_comm a b)
 nothing : (a b : ℤ) → a *ℤ pos 0 +ℤ b *ℤ pos 0 ≡ pos 0
 nothing a b = omega (arith, ints, *ℤ_comm a (pos 0), zero-*ℤ a, *ℤ_comm b (pos 0), zero-*ℤ b)
 
-pub derived_pair : (rows : List Row) (k : ℕ) (x y : List ℤ) → k < 4 → IsDerived rows k x → IsDerived rows k y → pos 0 <ℤ in_column rows k x → in_column rows k y <ℤ pos 0 → IsDerived rows (suc k) (paired rows k x y)
+pub derived_pair : (rows : List Row) (k : ℕ) (x y : List ℤ) → k < 4 → IsDerived rows k x → IsDerived rows k y → pos 0 <ℤ in_column rows k x
+    → in_column rows k y <ℤ pos 0 → IsDerived rows (suc k) (paired rows k x y)
 derived_pair rows k x y within dx dy high low = record {
   each = length-mixed a b x y same ∙ dx.each;
   signs = mixed_signs rows a b x y (omega (arith, ints, low)) (omega (arith, ints, high)) dx.signs dy.signs;
   cancels = λ j l. each_way j l (cases_lt j k);
-  small = All-weaker (λ m. unsigned_abs m ≤ 2 * (coef_limit k * multiplier_limit k)) (λ m. unsigned_abs m ≤ multiplier_limit (suc k)) (λ m h. h) (mixed a x b y) (mixed_small a b x y (coef_limit k) (multiplier_limit k) same small_a small_b dx.small dy.small);
-  narrow = λ j l. rw (multiplied-mixed (coef j) a b rows x y same) ((sum_within a (multiplied (coef j) rows x) b (multiplied (coef j) rows y) (coef_limit k) (coef_limit k) small_a (dx.narrow j l) small_b (dy.narrow j l)));
+  small =
+      All-weaker (λ m. unsigned_abs m ≤ 2 * (coef_limit k * multiplier_limit k)) (λ m. unsigned_abs m ≤ multiplier_limit (suc k)) (λ m h. h)
+      (mixed a x b y) (mixed_small a b x y (coef_limit k) (multiplier_limit k) same small_a small_b dx.small dy.small);
+  narrow =
+      λ j l. rw (multiplied-mixed (coef j) a b rows x y same)
+      (sum_within a (multiplied (coef j) rows x) b (multiplied (coef j) rows y) (coef_limit k) (coef_limit k) small_a (dx.narrow j l) small_b
+      (dy.narrow j l));
 }
   where
     a : ℤ
@@ -96,7 +105,9 @@ derived_level rows k x within dx level = record {
   each = dx.each;
   signs = dx.signs;
   cancels = λ j l. each_way j l (cases_lt j k);
-  small = All-weaker (λ m. unsigned_abs m ≤ multiplier_limit k) (λ m. unsigned_abs m ≤ multiplier_limit (suc k)) (λ m h. omega (arith, h, (limits_rise k).1)) x dx.small;
+  small =
+      All-weaker (λ m. unsigned_abs m ≤ multiplier_limit k) (λ m. unsigned_abs m ≤ multiplier_limit (suc k))
+      (λ m h. omega (arith, h, (limits_rise k).1)) x dx.small;
   narrow = λ j l. omega (arith, dx.narrow j l, (limits_rise k).2);
 }
   where

@@ -1,5 +1,6 @@
 -- Where there is a plain combination, what is derived adds up to one, from the rows taken once to the last column.
-use Rattle.std.proofs.Common.{◌≡◌, ℕ, suc, ◌+◌, ◌^◌, if◌then◌else◌, ◌<◌, ◌≤◌, ℤ, pos, neg_ℤ, ◌+ℤ◌, ◌*ℤ◌, ◌≤ℤ◌, List, [], ◌∷◌, length, get_or, take, unsigned_abs, All, Contains, true, false, Bool, refl, sym, ap, ◌∙◌, arith}
+use Rattle.std.proofs.Common.{◌≡◌, ℕ, suc, ◌+◌, ◌^◌, if◌then◌else◌, ◌<◌, ◌≤◌, ℤ, pos, neg_ℤ, ◌+ℤ◌, ◌*ℤ◌, ◌≤ℤ◌, List, [], ◌∷◌}
+use Rattle.std.proofs.Common.{length, get_or, take, unsigned_abs, All, Contains, true, false, Bool, refl, sym, ap, ◌∙◌, arith}
 use Rattle.std.specs.List.{AllByRecursion, AllZip}
 use Rattle.std.proofs.lemmas.Int.{ints}
 use Rattle.std.proofs.lemmas.List.Elements.{All-contains, All-take}
@@ -29,13 +30,17 @@ rows_are_enough rows derived few there clean ms plain =
     same : (j k : ℕ) → j ≡ 0 + k → j ≡ k
     same j k e = omega (arith, e)
 
-linear_of : (rows : List Row) (k : ℕ) (derived : List (List ℤ)) (f : Row → ℤ) → All (IsDerived rows k) derived → IsLinear (Contains derived) (paired rows k) (in_column rows k) (multiplied f rows)
+linear_of : (rows : List Row) (k : ℕ) (derived : List (List ℤ)) (f : Row → ℤ) → All (IsDerived rows k) derived
+    → IsLinear (Contains derived) (paired rows k) (in_column rows k) (multiplied f rows)
 linear_of rows k derived f all x y p q =
-    multiplied-mixed f (neg_ℤ (in_column rows k y)) (in_column rows k x) rows x y (IsDerived.each (All-contains (IsDerived rows k) derived x all p) ∙ sym (IsDerived.each (All-contains (IsDerived rows k) derived y all q)))
+    multiplied-mixed f (neg_ℤ (in_column rows k y)) (in_column rows k x) rows x y
+    (IsDerived.each (All-contains (IsDerived rows k) derived x all p) ∙ sym (IsDerived.each (All-contains (IsDerived rows k) derived y all q)))
 
-pub made_are_enough : (rows : List Row) (k : ℕ) (derived : List (List ℤ)) (P : List ℤ → Type 0) → k < 4 → All (IsDerived rows k) derived → AreMadeOf rows k derived derived P → AreEnough rows (Contains derived) → AreEnough rows P
+pub made_are_enough : (rows : List Row) (k : ℕ) (derived : List (List ℤ)) (P : List ℤ → Type 0) → k < 4 → All (IsDerived rows k) derived
+    → AreMadeOf rows k derived derived P → AreEnough rows (Contains derived) → AreEnough rows P
 made_are_enough rows k derived P within all made enough clean =
-    enough (clean_before (Contains derived) P (paired rows k) (in_column rows) (multiplied bound rows) k within both (λ j l. linear_of rows k derived (coef j) all) (linear_of rows k derived bound all) clean)
+    enough (clean_before (Contains derived) P (paired rows k) (in_column rows) (multiplied bound rows) k within both
+    (λ j l. linear_of rows k derived (coef j) all) (linear_of rows k derived bound all) clean)
   where
     both : IsMadeOf (paired rows k) (in_column rows k) (Contains derived) P
     both = record { pairs = λ x y p q high low. (made.pairs x p high).pairs y q low; levels = λ x p e. made.levels x p e }

@@ -10,7 +10,8 @@ use Rattle.lia_filler.specs.Solutions.{side_at, Satisfies, AreUnsatisfiable}
 use Rattle.lia_filler.proofs.Ring as ring
 
 -- the bounds come to at most the sides
-below : (v : ℕ → ℤ) (rows : List Row) (ms : List ℤ) → AllZip MayMultiply rows ms → AllByRecursion (Satisfies v) rows → multiplied bound rows ms ≤ℤ multiplied (side_at v) rows ms
+below : (v : ℕ → ℤ) (rows : List Row) (ms : List ℤ) → AllZip MayMultiply rows ms → AllByRecursion (Satisfies v) rows
+    → multiplied bound rows ms ≤ℤ multiplied (side_at v) rows ms
 below v [] [] signs holds = omega (arith, ints)
 below v [] (m ∷ ms) signs holds = absurd signs
 below v (r ∷ rs) [] signs holds = absurd signs
@@ -39,7 +40,9 @@ spread_out m a b c d x y z w =
       ring.mul_assoc m d w,
     )
 
-by_columns : (v : ℕ → ℤ) (rows : List Row) (ms : List ℤ) → AllZip MayMultiply rows ms → multiplied (side_at v) rows ms ≡ multiplied (coef 0) rows ms *ℤ v 0 +ℤ multiplied (coef 1) rows ms *ℤ v 1 +ℤ multiplied (coef 2) rows ms *ℤ v 2 +ℤ multiplied (coef 3) rows ms *ℤ v 3
+by_columns : (v : ℕ → ℤ) (rows : List Row) (ms : List ℤ) → AllZip MayMultiply rows ms
+    → multiplied (side_at v) rows ms
+    ≡ multiplied (coef 0) rows ms *ℤ v 0 +ℤ multiplied (coef 1) rows ms *ℤ v 1 +ℤ multiplied (coef 2) rows ms *ℤ v 2 +ℤ multiplied (coef 3) rows ms *ℤ v 3
 by_columns v [] [] signs = omega (arith, ints, zero-*ℤ (v 0), zero-*ℤ (v 1), zero-*ℤ (v 2), zero-*ℤ (v 3))
 by_columns v [] (m ∷ ms) signs = absurd signs
 by_columns v (r ∷ rs) [] signs = absurd signs

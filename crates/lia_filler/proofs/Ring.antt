@@ -25,14 +25,33 @@ mul-neg a b = omega (arith, ints, neg-mul b a, *ℤ_comm a b, *ℤ_comm a (neg_�
 pub mul_assoc : (a b c : ℤ) → (a *ℤ b) *ℤ c ≡ a *ℤ (b *ℤ c)
 mul_assoc (pos zero) b c =
     let e : ◌≡◌ {A = ℤ} (pos 0 *ℤ b) (pos 0) = zero-*ℤ b in rw e (omega (arith, ints, zero-*ℤ c, zero-*ℤ (b *ℤ c)))
-mul_assoc (pos (suc n)) b c = omega (arith, ints, suc_ℤ-*ℤ (pos n) b, suc_ℤ-*ℤ (pos n) (b *ℤ c), grown (pos (suc n)) (pos n) b c (suc_ℤ-*ℤ (pos n) b), add-mul (pos n *ℤ b) b c, mul_assoc (pos n) b c)
+mul_assoc (pos (suc n)) b c =
+    omega (
+      arith,
+      ints,
+      suc_ℤ-*ℤ (pos n) b,
+      suc_ℤ-*ℤ (pos n) (b *ℤ c),
+      grown (pos (suc n)) (pos n) b c (suc_ℤ-*ℤ (pos n) b),
+      add-mul (pos n *ℤ b) b c,
+      mul_assoc (pos n) b c,
+    )
   where
     grown : (a d b c : ℤ) → a *ℤ b ≡ d *ℤ b +ℤ b → (a *ℤ b) *ℤ c ≡ (d *ℤ b +ℤ b) *ℤ c
     grown a d b c e = rw e refl
 mul_assoc (negsuc zero) b c =
     let e : ◌≡◌ {A = ℤ} (negsuc 0 *ℤ b) (neg_ℤ b) = omega (arith, ints, pred_ℤ-*ℤ (pos 0) b, zero-*ℤ b) in
     rw e (omega (arith, ints, neg-mul b c, pred_ℤ-*ℤ (pos 0) (b *ℤ c), zero-*ℤ (b *ℤ c)))
-mul_assoc (negsuc (suc n)) b c = omega (arith, ints, pred_ℤ-*ℤ (negsuc n) b, pred_ℤ-*ℤ (negsuc n) (b *ℤ c), shrunk (negsuc (suc n)) (negsuc n) b c (omega (arith, ints, pred_ℤ-*ℤ (negsuc n) b)), add-mul (negsuc n *ℤ b) (neg_ℤ b) c, neg-mul b c, mul_assoc (negsuc n) b c)
+mul_assoc (negsuc (suc n)) b c =
+    omega (
+      arith,
+      ints,
+      pred_ℤ-*ℤ (negsuc n) b,
+      pred_ℤ-*ℤ (negsuc n) (b *ℤ c),
+      shrunk (negsuc (suc n)) (negsuc n) b c (omega (arith, ints, pred_ℤ-*ℤ (negsuc n) b)),
+      add-mul (negsuc n *ℤ b) (neg_ℤ b) c,
+      neg-mul b c,
+      mul_assoc (negsuc n) b c,
+    )
   where
     shrunk : (a d b c : ℤ) → a *ℤ b ≡ d *ℤ b +ℤ neg_ℤ b → (a *ℤ b) *ℤ c ≡ (d *ℤ b +ℤ neg_ℤ b) *ℤ c
     shrunk a d b c e = rw e refl

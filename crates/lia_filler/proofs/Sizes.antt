@@ -20,6 +20,7 @@ factor_fits a b p q = fits_signed_mul w128 a b (2 ^ 55) (2 ^ 49) p q (omega arit
 pub factor_small : (a b : ℤ) → unsigned_abs a ≤ 2 ^ 55 → unsigned_abs b ≤ 2 ^ 49 → unsigned_abs (a *ℤ b) ≤ 2 ^ 104
 factor_small a b p q = product_within a b (2 ^ 55) (2 ^ 49) p q
 
-pub sum_fits : (a x b y : ℤ) → unsigned_abs a ≤ 2 ^ 55 → unsigned_abs x ≤ 2 ^ 49 → unsigned_abs b ≤ 2 ^ 55 → unsigned_abs y ≤ 2 ^ 49 → FitsSigned w128 (a *ℤ x +ℤ b *ℤ y)
+pub sum_fits : (a x b y : ℤ) → unsigned_abs a ≤ 2 ^ 55 → unsigned_abs x ≤ 2 ^ 49 → unsigned_abs b ≤ 2 ^ 55 → unsigned_abs y ≤ 2 ^ 49
+    → FitsSigned w128 (a *ℤ x +ℤ b *ℤ y)
 sum_fits a x b y p q r s =
     fits_signed_from_abs w128 (a *ℤ x +ℤ b *ℤ y) (omega (arith, ints, factor_small a x p q, factor_small b y r s))

@@ -32,7 +32,8 @@ products pair (x ∷ xs) ys = map (pair x) ys ++ products pair xs ys
 abbrev pub IsLinear : {X : Type 0} → (X → Type 0) → (X → X → X) → (X → ℤ) → (X → ℤ) → Type 0
 IsLinear {X} S pair c g = (x y : X) → S x → S y → g (pair x y) ≡ neg_ℤ (c y) *ℤ g x +ℤ c x *ℤ g y
 
-total-pairs : {X : Type 0} (S : X → Type 0) (pair : X → X → X) (c g : X → ℤ) → IsLinear S pair c g → (x : X) (ys : List X) → S x → AllByRecursion S ys → total g (map (pair x) ys) ≡ neg_ℤ (total c ys) *ℤ g x +ℤ c x *ℤ total g ys
+total-pairs : {X : Type 0} (S : X → Type 0) (pair : X → X → X) (c g : X → ℤ) → IsLinear S pair c g → (x : X) (ys : List X) → S x → AllByRecursion S ys
+    → total g (map (pair x) ys) ≡ neg_ℤ (total c ys) *ℤ g x +ℤ c x *ℤ total g ys
 total-pairs S pair c g linear x [] s ss = omega (arith, ints, zero-*ℤ (g x), ring.mul-add (c x) (pos 0) (pos 0))
 total-pairs S pair c g linear x (y ∷ ys) s (t, ss) =
     omega (
@@ -47,7 +48,8 @@ total-pairs S pair c g linear x (y ∷ ys) s (t, ss) =
       ring.mul-add (c x) (g y) (total g ys),
     )
 
-pub total-products : {X : Type 0} (S : X → Type 0) (pair : X → X → X) (c g : X → ℤ) → IsLinear S pair c g → (xs ys : List X) → AllByRecursion S xs → AllByRecursion S ys → total g (products pair xs ys) ≡ neg_ℤ (total c ys) *ℤ total g xs +ℤ total c xs *ℤ total g ys
+pub total-products : {X : Type 0} (S : X → Type 0) (pair : X → X → X) (c g : X → ℤ) → IsLinear S pair c g → (xs ys : List X) → AllByRecursion S xs
+    → AllByRecursion S ys → total g (products pair xs ys) ≡ neg_ℤ (total c ys) *ℤ total g xs +ℤ total c xs *ℤ total g ys
 total-products S pair c g linear [] ys ss ts =
     omega (arith, ints, zero-*ℤ (total g ys), ring.mul-add (neg_ℤ (total c ys)) (pos 0) (pos 0))
 total-products S pair c g linear (x ∷ xs) ys (s, ss) ts =

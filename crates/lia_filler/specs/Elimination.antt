@@ -1,5 +1,6 @@
 -- Private. How columns are eliminated.
-use Rattle.std.specs.Prelude.{ℕ, zero, suc, ℤ, pos, neg_ℤ, ◌≡◌, ◌*◌, ◌<◌, ◌≤◌, ◌≤ℤ◌, ◌<ℤ◌, true, List, [], ◌∷◌, length, unsigned_abs, All, Contains, ⊤, slice_index_or}
+use Rattle.std.specs.Prelude.{ℕ, zero, suc, ℤ, pos, neg_ℤ, ◌≡◌, ◌*◌, ◌<◌, ◌≤◌, ◌≤ℤ◌, ◌<ℤ◌, true, List}
+use Rattle.std.specs.Prelude.{[], ◌∷◌, length, unsigned_abs, All, Contains, ⊤, slice_index_or}
 use Rattle.lia_filler.specs.declared.row.Row.{Row}
 use Rattle.lia_filler.specs.Plain.{coef, bound, multiplied, MayMultiply, IsSmallRow}
 use Rattle.lia_filler.specs.Mixing.{mixed, unit}

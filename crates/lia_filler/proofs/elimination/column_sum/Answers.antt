@@ -7,4 +7,5 @@ use Rattle.lia_filler.proofs.elimination.column_sum.Goals as goal
 
 pub combine-requires-clause-small : goal.combine-requires-clause-small
 combine-requires-clause-small c =
-    All-weaker (λ m. unsigned_abs m ≤ multiplier_limit c.args.column) (λ m. unsigned_abs m ≤ 2 ^ 105) (λ m h. omega (arith, h, (limits_before c.args.column c.requires.column).0)) c.args.multipliers.now c.requires.derived.small
+    All-weaker (λ m. unsigned_abs m ≤ multiplier_limit c.args.column) (λ m. unsigned_abs m ≤ 2 ^ 105)
+    (λ m h. omega (arith, h, (limits_before c.args.column c.requires.column).0)) c.args.multipliers.now c.requires.derived.small

@@ -14,6 +14,9 @@ loop-i-preserved c =
     let fits_p : FitsSigned w128 c.product-sum.result = search rules in
     let value = simp to_z-of_z at c.product-sum.ensures.value in
     let small : unsigned_abs c.product-sum.result ≤ 2 ^ 123 = c.product-sum.ensures.small in
-    let fits : FitsSigned w128 (c.loop-i.sum +ℤ c.product-sum.result) = fits_signed_from_abs w128 _ (omega (arith, ints, small, c.loop-i.invariant.small, c.requires.few)) in
-    let next = combined_more (part_of c.args.part) c.args.rows.now c.args.multipliers.now c.loop-i.i _ c.loop-i.sum _ c.product-sum.result c.loop-i-test.true (omega arith) (value ∙ ap (λ (z : ℤ). get_or c.args.multipliers.now c.loop-i.i (pos 0) *ℤ z) c.number_of.ensures.value) (rw c.loop-i.sum-is at c.loop-i.invariant.sums) in
+    let fits : FitsSigned w128 (c.loop-i.sum +ℤ c.product-sum.result) = fits_signed_from_abs w128 _
+    (omega (arith, ints, small, c.loop-i.invariant.small, c.requires.few)) in
+    let next = combined_more (part_of c.args.part) c.args.rows.now c.args.multipliers.now c.loop-i.i _ c.loop-i.sum _ c.product-sum.result
+    c.loop-i-test.true (omega arith) (value ∙ ap (λ (z : ℤ). get_or c.args.multipliers.now c.loop-i.i (pos 0) *ℤ z) c.number_of.ensures.value)
+    (rw c.loop-i.sum-is at c.loop-i.invariant.sums) in
     rw c.loop-i.sum-is (simp to_z-of_z (record { sums = next; small = omega (arith, ints, small, c.loop-i.invariant.small) }))

@@ -17,7 +17,8 @@ loop-i-preserved c =
     let fits_v : FitsSigned w128 c.entry.result = search rules in
     let value = simp to_z-of_z at c.entry.ensures in
     let before = simp to_z-of_z at c.loop-i.invariant.1 in
-    let next = mixed_more c.args.a c.args.b c.args.x.now c.args.y.now c.loop-i.sum c.loop-i.i c.entry.result (omega arith) (omega arith) (omega arith) before value in
+    let next = mixed_more c.args.a c.args.b c.args.x.now c.args.y.now c.loop-i.sum c.loop-i.i c.entry.result
+    (omega arith) (omega arith) (omega arith) before value in
     simp to_z-of_z (omega (arith, length-set c.loop-i.sum c.loop-i.i c.entry.result), next)
 
 pub returns : goal.returns
@@ -25,5 +26,6 @@ returns c =
     let fits_a : FitsSigned w128 c.args.a = c.ranges.a in
     let fits_b : FitsSigned w128 c.args.b = c.ranges.b in
     let before = simp to_z-of_z at c.loop-i.invariant.1 in
-    let long : length (mixed c.args.a c.args.x.now c.args.b c.args.y.now) ≡ 8 = omega (arith, length-mixed c.args.a c.args.b c.args.x.now c.args.y.now (omega arith)) in
+    let long : length (mixed c.args.a c.args.x.now c.args.b c.args.y.now) ≡ 8 =
+    omega (arith, length-mixed c.args.a c.args.b c.args.x.now c.args.y.now (omega arith)) in
     sym (take_all c.loop-i.i c.loop-i.sum (omega arith)) ∙ (before ∙ take_all c.loop-i.i (mixed c.args.a c.args.x.now c.args.b c.args.y.now) (omega arith))
