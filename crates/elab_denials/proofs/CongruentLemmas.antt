@@ -25,6 +25,7 @@ use Rattle.equality_ways.specs.Sides.{AreSidesOfDenial, AreSidesOfDenials}
 use Rattle.equality_ways.proofs.Places.{zip_contained}
 use Rattle.flip_steps.specs.Memory.{IsCellWithinAny, IsRemembered, count_of}
 use Rattle.equality_blocks.specs.Commands.{IsToElaborate, clause_of_command, literals_of_command, rule_of_command}
+use Rattle.equality_blocks.specs.Pairs.{IsOfCongruence}
 use Rattle.equality_blocks.specs.Counts.{IsFew}
 use Rattle.equality_blocks.proofs.FewLemmas.{few_places}
 use Rattle.elab_denials.specs.declared.matching.Match.{Match}
@@ -41,6 +42,10 @@ use Rattle.elab_denials.proofs.WorkLemmas.{later, refer_among}
 -- equalities as units, and the literals that deny them
 same_equality : (a b t u : Term) → equality a b ∷ [] ≡ equality t u ∷ [] → equality a b ≡ equality t u
 same_equality a b t u e = cc
+
+by_congruence : (p : Site) → IsByCongruence p → IsOfCongruence (rule_of_command p)
+by_congruence p (inl rule) = subst IsOfCongruence (sym rule) tt
+by_congruence p (inr rule) = subst IsOfCongruence (sym rule) tt
 
 unit_denied : (es : List (Term × Term)) (t u : Term) → Contains (units es) (equality t u ∷ []) → Contains (denials es) (not_of (equality t u))
 unit_denied [] t u has = absurd (contains_none (equality t u ∷ []) has)
@@ -157,10 +162,10 @@ module _ (p : Site) (v : TermsView) (one : AreOne p.symbols.now v) where
       (subst (RefersTo p.symbols.now v q.0) (sym parts.0) found.left_refers) (subst (RefersTo p.symbols.now v q.1) (sym parts.1) found.right_refers) h.given.given
 
   -- what steps begin with
-  pub begun_here : (table : Table) (front : List ℕ) (r : ℕ) (t : Term) (q : ℕ × ℕ) (given : HasGivenTable p v table) (m : Match)
+  pub begun_here : IsByCongruence p → (table : Table) (front : List ℕ) (r : ℕ) (t : Term) (q : ℕ × ℕ) (given : HasGivenTable p v table) (m : Match)
       → AreLiteralsAt p v (clause_of_command p) → clause_of_command p ≡ front ++ r ∷ [] → RefersTo p.symbols.now v r t
       → AreSidesOf p.symbols.now v as_it_stands q t → IsMatchOf p v given.sides q.0 q.1 m → IsBegun p v table m
-  begun_here table front r t q given m literals split refers both found =
+  begun_here rule table front r t q given m literals split refers both found =
       let there : IsGiven p v (equality both.left both.right) =
       record {
         reference = r;
@@ -168,7 +173,7 @@ module _ (p : Site) (v : TermsView) (one : AreOne p.symbols.now v) where
         refers = subst (RefersTo p.symbols.now v r) both.is refers;
       }
       in
-      let joined = joined_here p v literals one both.left both.right there in
+      let joined = joined_here p v literals one (by_congruence p rule) both.left both.right there front split in
       let g = given.given in
       let left : RefersTo p.symbols.now v m.left both.left = subst (λ x. RefersTo p.symbols.now v x both.left) (sym found.left_is) both.left_refers in
       let right : RefersTo p.symbols.now v m.right both.right = subst (λ x. RefersTo p.symbols.now v x both.right) (sym found.right_is) both.right_refers in

@@ -27,8 +27,8 @@ use Rattle.equality_ways.specs.Ways.{AreEnds}
 use Rattle.flip_steps.specs.Subterms.{whole, argument}
 use Rattle.equality_blocks.specs.Commands.{IsToElaborate, clause_of_command, rule_of_command}
 use Rattle.equality_blocks.specs.Made.{IsMadeFor, denied, paired, stated}
-use Rattle.equality_blocks.specs.Made.{equated as pair_equated, left as pair_left, right as pair_right}
-use Rattle.equality_blocks.specs.Pairs.{implied}
+use Rattle.equality_blocks.specs.Made.{equated as pair_equated, right as pair_right}
+use Rattle.equality_blocks.specs.Pairs.{AreImplied, implied, linked}
 use Rattle.elab_denials.specs.declared.matching.Match.{Match}
 use Rattle.elab_denials.specs.declared.predicates.Plan.{Plan}
 use Rattle.elab_denials.specs.Implying.{AreImplyingBy, AreLastTwo, AreOpened, AreStatedTruths, AreTwo, EndsInTwo, GivesOther, IsBegunBy, IsBegunImplied, IsPlanned}
@@ -58,7 +58,7 @@ module _ (p : Site) (v : TermsView) (one : AreOne p.symbols.now v) (a b : ℕ) (
       (subst (λ zs. Contains (denials zs ++ not_of l ∷ r ∷ []) x) (zip_parts h.stated.are_applied.es) has)) [
         | inl owed ↦ (denial_owed p v one pairs h.stated.are_applied.es h.stated.are_applied.refer h.stated.places x owed).made
         | inr last ↦ elim (contains_cases (not_of l) x (r ∷ []) last) [
-          | inl here ↦ subst (IsMadeFor p v) here (denied l (paired l r l h.stated.paired pair_left))
+          | inl here ↦ subst (IsMadeFor p v) here (denied l r h.stated.paired)
           | inr more ↦ elim (contains_cases r x [] more) [
             | inl here ↦ subst (IsMadeFor p v) here (stated r (paired l r r h.stated.paired pair_right))
             | inr none ↦ absurd (contains_none x none)
@@ -260,17 +260,21 @@ module _ (p : Site) (v : TermsView) (literals : AreLiteralsAt p v (clause_of_com
   pub other_given : IsGiven p v u
   other_given = record { reference = r; among = both_there r (inr refl); refers = given_refers }
 
+  implied_here : AreImplied p v t u
+  implied_here = record {
+    rule = rule;
+    before = ends.before;
+    denied = q;
+    given = r;
+    clause = ends.is;
+    denied_refers = denied_refers;
+    given_refers = given_refers;
+  }
+
   pub joined_implied : AreJoined p v t u
   joined_implied = record {
-    linked = inl (implied (record {
-      rule = rule;
-      before = ends.before;
-      denied = q;
-      given = r;
-      clause = ends.is;
-      denied_refers = denied_refers;
-      given_refers = given_refers;
-    }));
+    paired = inl (linked t u (implied implied_here));
+    matched = inr implied_here;
     sides = record {
       sort = Sort.Bool;
       left = under_not p v t (given_fits p v literals one (not_of t) denied_given);

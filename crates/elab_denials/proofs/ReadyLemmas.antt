@@ -1,5 +1,5 @@
 -- Private. Two applications that the command links, and whose arguments are linked, may be stated; and what that owes may be repaired.
-use Rattle.std.proofs.Common.{◌≡◌, ◌≢◌, ◌⊎◌, inl, inr, ℕ, zero, suc, Bool, true, false, List, [], ◌∷◌, length, map, slice_get, ◌&&◌, nat_le}
+use Rattle.std.proofs.Common.{◌≡◌, ◌≢◌, ◌⊎◌, inl, inr, ℕ, zero, suc, Bool, true, false, List, [], ◌∷◌, ◌++◌, length, map, slice_get, ◌&&◌, nat_le}
 use Rattle.std.proofs.Common.{Option, Some, Contains, refl, sym, ap, subst, arith}
 use Rattle.std.proofs.lemmas.List.{length-map}
 use Rattle.std.proofs.lemmas.List.Elements.{Contains-append_left}
@@ -24,9 +24,9 @@ use Rattle.equality_ways.proofs.Places.{contains_of_get, get_of_contains, zip_ge
 use Rattle.flip_steps.specs.Subterms.{IsWithin, whole, argument}
 use Rattle.flip_steps.proofs.FormLemmas.{turned_sort}
 use Rattle.flip_steps.proofs.SubtermLemmas.{argument_free, argument_sorted}
-use Rattle.equality_blocks.specs.Commands.{clause_of_command}
+use Rattle.equality_blocks.specs.Commands.{clause_of_command, rule_of_command}
 use Rattle.equality_blocks.specs.Counts.{literal}
-use Rattle.equality_blocks.specs.Pairs.{AreLinkedEitherWay, ArePaired, arguments, linked, outer, inner}
+use Rattle.equality_blocks.specs.Pairs.{AreMatched, ArePaired, IsOfCongruence, arguments, linked, outer, inner}
 use Rattle.equality_blocks.specs.Pairs.{equated as linked_equated}
 use Rattle.elab_denials.specs.Matching.{AreCrosswise, AreLinkedAt, AreLinkedPairs, AreMatchedBy, AreStraight, left_of, right_of}
 use Rattle.elab_denials.specs.Owing.{AreRepairable, IsGiven}
@@ -76,16 +76,13 @@ pub record StandsInClause (p : Site) (v : TermsView) (t : Term) : Type 0 where
   pub refers : RefersTo p.symbols.now v root whole
   pub within : IsWithin whole t
 
--- the command links the terms, which stand in its clause, and may stand as the sides of an equality
+-- the command matches the terms, which stand in its clause, and may stand as the sides of an equality
 pub record AreJoined (p : Site) (v : TermsView) (t u : Term) : Type 0 where
-  pub linked : AreLinkedEitherWay p v t u
+  pub paired : ArePaired p v t u
+  pub matched : AreMatched p v t u
   pub sides : AreSides p t u
   pub left_in : StandsInClause p v t
   pub right_in : StandsInClause p v u
-
-either_back : (p : Site) (v : TermsView) (t u : Term) → AreLinkedEitherWay p v t u → AreLinkedEitherWay p v u t
-either_back p v t u (inl h) = inr h
-either_back p v t u (inr h) = inl h
 
 module _ (p : Site) (v : TermsView) where
   rooted : (t x : Term) (r : ℕ) → StandsInClause p v t → RefersTo p.symbols.now v r x → Contains (arguments_of t) x → IsRootedAt p v r
@@ -95,10 +92,12 @@ module _ (p : Site) (v : TermsView) where
     stands = record { whole = h.whole; whole_refers = h.refers; term = x; refers = refers; within = argument t x h.within has };
   }
 
-  -- what the command's clause equates
-  pub joined_here : AreLiteralsAt p v (clause_of_command p) → AreOne p.symbols.now v → (l r : Term) → IsGiven p v (equality l r) → AreJoined p v l r
-  joined_here literals one l r h = record {
-    linked = inl (linked_equated (inl (literal_given p v (equality l r) h)));
+  -- what the command's clause equates at its end
+  pub joined_here : AreLiteralsAt p v (clause_of_command p) → AreOne p.symbols.now v → IsOfCongruence (rule_of_command p) → (l r : Term)
+      → (h : IsGiven p v (equality l r)) → (before : List ℕ) → clause_of_command p ≡ before ++ h.reference ∷ [] → AreJoined p v l r
+  joined_here literals one rule l r h before ends = record {
+    paired = inl (linked l r (linked_equated (inl (literal_given p v (equality l r) h))));
+    matched = inl (record { rule = rule; before = before; reference = h.reference; clause = ends; refers = h.refers });
     sides = sides_fit p l r (given_fits p v literals one (equality l r) h);
     left_in = stands l (contains_head l (r ∷ []));
     right_in = stands r (contains_later l r (r ∷ []) (contains_head r []));
@@ -163,15 +162,15 @@ module _ (p : Site) (v : TermsView) (literals : AreLiteralsAt p v (clause_of_com
           subst (λ xs. slice_get xs at.0 ≡ Some y) (sym right_arguments) (get_map (λ (e : Term × Term). e.1) k.are_applied.es at.0 found.0 found.1) in
           linked_place l r h q.0 q.1 x y found.2.0 found.2.1 (contains_of_get (arguments_of l) at.0 x left_there)
           (contains_of_get (arguments_of r) at.0 y right_there)
-          (arguments l r x y h.linked (record { place = at.0; left = left_there; right = right_there }))
-          (arguments r l y x (either_back p v l r h.linked) (record { place = at.0; left = right_there; right = left_there })) (k.linked q has)
+          (inl (arguments l r x y h.matched (record { place = at.0; left = left_there; right = right_there })))
+          (inr (arguments l r x y h.matched (record { place = at.0; left = left_there; right = right_there }))) (k.linked q has)
 
       pub stated_here : AreJoined p v l r → AreStated p v a b pairs
       stated_here h = record {
         are_applied = k.are_applied;
         places = straight_place h;
         sides = h.sides;
-        paired = linked l r h.linked;
+        paired = h.paired;
       }
 
       pub straight_narrow : StandsInClause p v l → IsNarrow p v (length pairs)
@@ -204,13 +203,13 @@ module _ (p : Site) (v : TermsView) (literals : AreLiteralsAt p v (clause_of_com
           here_inner =
               linked_place left_whole right_whole h k.inner.0 k.inner.1 k.two k.three k.two_refers k.three_refers
               (contains_later k.one k.two (k.two ∷ []) (contains_head k.two [])) (contains_head k.three (k.four ∷ []))
-              (inner k.one k.two k.three k.four h.linked) (outer k.three k.four k.one k.two (either_back p v left_whole right_whole h.linked))
+              (inl (inner k.one k.two k.three k.four h.matched)) (inr (inner k.one k.two k.three k.four h.matched))
 
           here_outer : AreLinkedAt p v sides k.outer.0 k.outer.1 → IsPlaceAt p v k.outer.0 k.outer.1
           here_outer =
               linked_place left_whole right_whole h k.outer.0 k.outer.1 k.one k.four k.one_refers k.four_refers (contains_head k.one (k.two ∷ []))
-              (contains_later k.three k.four (k.four ∷ []) (contains_head k.four [])) (outer k.one k.two k.three k.four h.linked)
-              (inner k.three k.four k.one k.two (either_back p v left_whole right_whole h.linked))
+              (contains_later k.three k.four (k.four ∷ []) (contains_head k.four [])) (inl (outer k.one k.two k.three k.four h.matched))
+              (inr (outer k.one k.two k.three k.four h.matched))
 
           go : (k.inner ≡ q) ⊎ Contains (k.outer ∷ []) q → IsPlaceAt p v q.0 q.1
           go (inl e) =
@@ -240,7 +239,8 @@ module _ (p : Site) (v : TermsView) (literals : AreLiteralsAt p v (clause_of_com
         places = crossed_place h;
         left_sides = sides_fit p k.one k.two (subst (λ s. IsSideAt p s left_whole) (equality_bool k.one k.two h.sides.sort h.sides.left.0) h.sides.left);
         right_sides = sides_fit p k.three k.four (subst (λ s. IsSideAt p s right_whole) (equality_bool k.three k.four h.sides.sort h.sides.right.0) h.sides.right);
-        linked = h.linked;
+        paired = h.paired;
+        matched = h.matched;
         apart = apart;
       }
 

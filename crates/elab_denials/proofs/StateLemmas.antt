@@ -21,9 +21,9 @@ use Rattle.equality_steps.specs.Links.{LinkEquates, LinkSays}
 use Rattle.equality_steps.specs.Sites.{AreSides, IsSideAt}
 use Rattle.equality_steps.proofs.SiteLemmas.{equality_fits, sides_turned}
 use Rattle.equality_ways.specs.Sides.{ReferToBoth}
-use Rattle.equality_blocks.specs.Made.{IsMadeFor, IsStatedFor, denied, paired, stated}
-use Rattle.equality_blocks.specs.Made.{equated as pair_equated, exchanged as pair_exchanged, turned as pair_turned}
-use Rattle.equality_blocks.specs.Pairs.{linked, sides, turned}
+use Rattle.equality_blocks.specs.Made.{IsMadeFor, IsStatedFor, apart, paired, stated}
+use Rattle.equality_blocks.specs.Made.{equated as pair_equated, right as pair_right}
+use Rattle.equality_blocks.specs.Pairs.{ArePaired, reversed, turned}
 use Rattle.equality_blocks.proofs.StayLemmas.{made_later, paired_later}
 use Rattle.elab_denials.specs.Matching.{left_of, right_of}
 use Rattle.elab_denials.specs.Owing.{AreOpposedOn, HasDenial, IsGiven, IsOwed, IsOwing, SaysResolvent}
@@ -46,7 +46,7 @@ module _ (p : Site) (v : TermsView) (one : AreOne p.symbols.now v) where
       let second = (one q.1 q.1 h.right u h.right_refers r).0 refl in
       subst (λ x. IsMadeFor p v (not_of (equality t x))) second
       (subst (λ x. IsMadeFor p v (not_of (equality x h.right))) first
-      (denied (equality h.left h.right) (paired h.left h.right (equality h.left h.right) h.paired pair_equated)))
+      (apart h.left h.right h.paired))
 
   -- each denial is of a pair, and each pair has one
   pub denial_owed : (pairs : List (ℕ × ℕ)) (es : List (Term × Term)) → AllZip (ReferToBoth p.symbols.now v) pairs es
@@ -216,11 +216,11 @@ module _ (p : Site) (v : TermsView) (a b c : ℕ) (h : IsMadeWay p v a b c) wher
 
   pub way_made : (x : Term) → Contains (not_of (equality h.one h.two) ∷ not_of (equality h.two h.three) ∷ equality h.one h.three ∷ []) x → IsMadeFor p v x
   way_made x has = elim (contains_cases (not_of (equality h.one h.two)) x (not_of (equality h.two h.three) ∷ equality h.one h.three ∷ []) has) [
-    | inl e ↦ subst (IsMadeFor p v) e (denied (equality h.one h.two) h.first)
+    | inl e ↦ subst (IsMadeFor p v) e (apart h.one h.two h.first)
     | inr more ↦ elim (contains_cases (not_of (equality h.two h.three)) x (equality h.one h.three ∷ []) more) [
-      | inl e ↦ subst (IsMadeFor p v) e (denied (equality h.two h.three) h.second)
+      | inl e ↦ subst (IsMadeFor p v) e (apart h.two h.three h.second)
       | inr last ↦ elim (contains_cases (equality h.one h.three) x [] last) [
-        | inl e ↦ subst (IsMadeFor p v) e (stated (equality h.one h.three) h.whole)
+        | inl e ↦ subst (IsMadeFor p v) e (stated (equality h.one h.three) (paired h.one h.three (equality h.one h.three) h.whole pair_equated))
         | inr none ↦ absurd (contains_none x none)
       ]
     ]
@@ -261,7 +261,8 @@ module _ (p : Site) (v w : TermsView) (keeps : KeepsTerms v w) (same : AreOne p.
     right_says = first_says;
     right_has = contains_head (equality h.one h.two) [];
     right_made = λ x has. elim (contains_cases (equality h.one h.two) x [] has) [
-      | inl e ↦ subst (IsMadeFor p w) e (made_later p v w keeps (equality h.one h.two) (stated (equality h.one h.two) h.first))
+      | inl e ↦ subst (IsMadeFor p w) e (made_later p v w keeps (equality h.one h.two)
+          (stated (equality h.one h.two) (paired h.one h.two (equality h.one h.two) h.first pair_equated)))
       | inr none ↦ absurd (contains_none x none)
     ];
   }
@@ -305,7 +306,7 @@ module _ (p : Site) (v : TermsView) (a b : ℕ) (pairs : List (ℕ × ℕ)) (h :
     two_refers = subst (λ (x : ℕ × ℕ). RefersTo p.symbols.now v x.1 h.two) (sym is) h.two_refers;
     whole_refers = h.left_refers;
     sides = h.left_sides;
-    paired = sides h.one h.two (equality h.three h.four) h.linked;
+    paired = inl (reversed h.one h.two h.three h.four h.matched);
   }
 
   module _ (w : TermsView) (keeps : KeepsTerms v w) (turn : ℕ) (refers : RefersTo p.symbols.now w turn (equality h.two h.one)) where
@@ -328,7 +329,7 @@ module _ (p : Site) (v : TermsView) (a b : ℕ) (pairs : List (ℕ × ℕ)) (h :
         left = equality_fits p h.two h.one (sides_turned p h.one h.two h.left_sides);
         right = equality_fits p h.three h.four h.right_sides;
       };
-      paired = paired_later p v w keeps (equality h.two h.one) (equality h.three h.four) (turned h.one h.two (equality h.three h.four) h.linked);
+      paired = paired_later p v w keeps (equality h.two h.one) (equality h.three h.four) (inl (turned h.one h.two h.three h.four h.matched));
     }
 
     pub turnable_truths : turnable_stated.sides.sort ≡ Sort.Bool
@@ -347,12 +348,9 @@ module _ (p : Site) (v : TermsView) (a b : ℕ) (pairs : List (ℕ × ℕ)) (h :
       one_fits = equality_fits p h.one h.two h.left_sides;
       two_fits = equality_fits p h.two h.one (sides_turned p h.one h.two h.left_sides);
       three_fits = equality_fits p h.three h.four h.right_sides;
-      first = paired h.one h.two (equality (equality h.one h.two) (equality h.two h.one))
-          (paired_later p v w keeps h.one h.two (sides h.one h.two (equality h.three h.four) h.linked)) pair_exchanged;
-      second = paired (equality h.two h.one) (equality h.three h.four) (equality (equality h.two h.one) (equality h.three h.four))
-          (paired_later p v w keeps (equality h.two h.one) (equality h.three h.four) (turned h.one h.two (equality h.three h.four) h.linked)) pair_equated;
-      whole = paired (equality h.one h.two) (equality h.three h.four) (equality (equality h.one h.two) (equality h.three h.four))
-          (paired_later p v w keeps (equality h.one h.two) (equality h.three h.four) (linked (equality h.one h.two) (equality h.three h.four) h.linked)) pair_equated;
+      first = paired_later p v w keeps (equality h.one h.two) (equality h.two h.one) (inl (reversed h.one h.two h.three h.four h.matched));
+      second = paired_later p v w keeps (equality h.two h.one) (equality h.three h.four) (inl (turned h.one h.two h.three h.four h.matched));
+      whole = paired_later p v w keeps (equality h.one h.two) (equality h.three h.four) h.paired;
       apart = λ e. let is : h.one ≡ h.two = cc in h.apart is;
     }
 
@@ -376,7 +374,7 @@ module _ (p : Site) (v : TermsView) (a b : ℕ) (pairs : List (ℕ × ℕ)) (h :
           left_says = led.says;
           left_has = led.has;
           left_made = λ x has. elim (led.each x has) [
-            | inl e ↦ subst (IsMadeFor p w) (sym e) (denied (equality (equality h.two h.one) (equality h.three h.four)) atom_stated)
+            | inl e ↦ subst (IsMadeFor p w) (sym e) (apart (equality h.two h.one) (equality h.three h.four) atom_paired)
             | inr e ↦ subst (IsMadeFor p w) (sym e) (stated (equality (equality h.one h.two) (equality h.three h.four)) whole_stated)
           ];
           right_clause = denials says.es ++ equality (equality h.two h.one) (equality h.three h.four) ∷ [];
@@ -391,15 +389,17 @@ module _ (p : Site) (v : TermsView) (a b : ℕ) (pairs : List (ℕ × ℕ)) (h :
           ];
         }
       where
+        atom_paired : ArePaired p w (equality h.two h.one) (equality h.three h.four)
+        atom_paired = paired_later p v w keeps (equality h.two h.one) (equality h.three h.four) (inl (turned h.one h.two h.three h.four h.matched))
+
         atom_stated : IsStatedFor p w (equality (equality h.two h.one) (equality h.three h.four))
         atom_stated =
-            paired (equality h.two h.one) (equality h.three h.four) (equality (equality h.two h.one) (equality h.three h.four))
-            (paired_later p v w keeps (equality h.two h.one) (equality h.three h.four) (turned h.one h.two (equality h.three h.four) h.linked)) pair_equated
+            paired (equality h.two h.one) (equality h.three h.four) (equality (equality h.two h.one) (equality h.three h.four)) atom_paired pair_equated
 
         whole_stated : IsStatedFor p w (equality (equality h.one h.two) (equality h.three h.four))
         whole_stated =
             paired (equality h.one h.two) (equality h.three h.four) (equality (equality h.one h.two) (equality h.three h.four))
-            (paired_later p v w keeps (equality h.one h.two) (equality h.three h.four) (linked (equality h.one h.two) (equality h.three h.four) h.linked))
+            (paired_later p v w keeps (equality h.one h.two) (equality h.three h.four) h.paired)
             pair_equated
 
         last_there : (xs : List Term) → Contains (xs ++ equality (equality h.two h.one) (equality h.three h.four) ∷ [])
@@ -469,7 +469,7 @@ module _ (p : Site) (v w : TermsView) (keeps : KeepsTerms v w) (whole : ℕ) (q 
     right = h.one;
     left_refers = h.two_refers;
     right_refers = h.one_refers;
-    made = stated (equality h.two h.one) (paired h.one h.two (equality h.two h.one) h.paired pair_turned);
+    made = stated (equality h.two h.one) (paired (equality h.one h.two) (equality h.two h.one) (equality h.two h.one) h.paired pair_right);
   }
 
   module _ (turn : ℕ) (refers : RefersTo p.symbols.now w turn (equality h.two h.one)) where
@@ -489,7 +489,8 @@ module _ (p : Site) (v w : TermsView) (keeps : KeepsTerms v w) (whole : ℕ) (q 
       left_refers = later p v w keeps whole (equality h.one h.two) h.whole_refers;
       right_refers = refers;
       made = stated (equality (equality h.one h.two) (equality h.two h.one))
-          (paired h.one h.two (equality (equality h.one h.two) (equality h.two h.one)) (paired_later p v w keeps h.one h.two h.paired) pair_exchanged);
+          (paired (equality h.one h.two) (equality h.two h.one) (equality (equality h.one h.two) (equality h.two h.one))
+          (paired_later p v w keeps (equality h.one h.two) (equality h.two h.one) h.paired) pair_equated);
     }
 
 -- links say what they did

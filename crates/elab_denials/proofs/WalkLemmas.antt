@@ -29,11 +29,11 @@ use Rattle.equality_ways.specs.Ways.{AreEnds, IsWayOver, LeadsTo, turned_if}
 use Rattle.flip_steps.specs.Subterms.{whole, argument}
 use Rattle.equality_blocks.specs.Commands.{IsLiteralOfCommand, clause_of_command}
 use Rattle.equality_blocks.specs.Counts.{literal}
-use Rattle.equality_blocks.specs.Made.{IsMadeFor, IsStatedFor, denied}
+use Rattle.equality_blocks.specs.Made.{IsMadeFor, apart}
 use Rattle.equality_blocks.specs.Pairs.{linked}
 use Rattle.equality_blocks.specs.Pairs.{equated as linked_equated}
 use Rattle.equality_blocks.proofs.StayLemmas.{made_later}
-use Rattle.elab_denials.proofs.OwingLemmas.{denied_later, equality_made, given_later, given_made, has_later, owed_later}
+use Rattle.elab_denials.proofs.OwingLemmas.{denied_later, given_later, given_made, has_later, owed_later}
 use Rattle.elab_denials.proofs.WorkLemmas.{place_later, refer_among}
 use Rattle.elab_denials.specs.declared.transitive.Plan.{Plan}
 use Rattle.elab_denials.specs.Owing.{AreRepairable, HasDenial, IsDenialGiven, IsDenialOf, IsGiven, IsOwed, IsOwing}
@@ -173,8 +173,8 @@ module _ (p : Site) (v : TermsView) where
     left_refers = h.denies.left_refers;
     right_refers = h.denies.right_refers;
     sides = sides_fit p t u (under_not (equality t u) (given_fits literals same (not_of (equality t u)) given));
-    paired = linked t u (inl (linked_equated (inr (literal_given (not_of (equality t u)) given))));
-    back = linked u t (inr (linked_equated (inr (literal_given (not_of (equality t u)) given))));
+    paired = inl (linked t u (linked_equated (inr (literal_given (not_of (equality t u)) given))));
+    back = inr (linked t u (linked_equated (inr (literal_given (not_of (equality t u)) given))));
     left_in = rooted q.0 t h.denies.left_refers (contains_head t (u ∷ []));
     right_in = rooted q.1 u h.denies.right_refers (contains_later t u (u ∷ []) (contains_head u []));
   }
@@ -243,7 +243,7 @@ module _ (one : HaveOneSort) (p : Site) (v : TermsView) (same : AreOne p.symbols
     sides = λ sort h. let fits = next_side sort h in All-cons (IsSideAt p sort) u more.rest fits (more.sides sort fits);
     each = λ x has. elim (contains_cases first x (denials (neighbors u more.rest)) has) [
       | inl here ↦ subst (λ y. (q : ℕ × ℕ) × Contains (pairs_from a (b ∷ bs)) q × IsDenialOf p v q y × IsMadeFor p v y) here
-          ((a, b), contains_head (a, b) (pairs_from b bs), denies, denied (equality t u) stated)
+          ((a, b), contains_head (a, b) (pairs_from b bs), denies, made)
       | inr later ↦ (let found = more.each x later in (found.0, contains_later (a, b) found.0 (pairs_from b bs) found.1, found.2, found.3))
     ];
     all = λ q has. elim (contains_cases (a, b) q (pairs_from b bs) has) [
@@ -270,8 +270,8 @@ module _ (one : HaveOneSort) (p : Site) (v : TermsView) (same : AreOne p.symbols
       denies : IsDenialOf p v (a, b) (not_of (equality t u))
       denies = record { left = t; right = u; left_refers = refers; right_refers = place.right_refers; is = refl }
 
-      stated : IsStatedFor p v (equality t u)
-      stated = subst (λ y. IsStatedFor p v (equality y u)) left_is (equality_made p v a b place)
+      made : IsMadeFor p v (not_of (equality t u))
+      made = subst (λ y. IsMadeFor p v (not_of (equality y u))) left_is (apart place.left u place.paired)
 
       next_side : (sort : Sort) → IsSideAt p sort t → IsSideAt p sort u
       next_side sort h =

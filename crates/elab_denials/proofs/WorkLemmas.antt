@@ -1,13 +1,14 @@
 -- Private. Work goes on: only cells of terms made for the command are placed, and steps are added to a block.
 use Rattle.std.proofs.Common.{◌≡◌, ◌≤◌, ◌+◌, ◌*◌, ◌⊎◌, inl, inr, ℕ, zero, suc, Bool, List, [], ◌∷◌, ◌++◌, length, slice_get, Option, Some, None, Contains}
 use Rattle.std.specs.Map.{lookup}
-use Rattle.std.proofs.Common.{nat_eq, refl, sym, ◌∙◌, ap, subst, arith, append_assoc, length-append}
+use Rattle.std.proofs.Common.{Result, Ok, Err, OnOk, nat_eq, refl, sym, ◌∙◌, ap, subst, arith, append_assoc, length-append}
 use Rattle.term_model.proofs.Lists.{contains_cases, contains_head, contains_later, contains_none}
 use Rattle.term_model.specs.Flips.{equality}
 use Rattle.term_model.specs.Terms.{Term}
 use Rattle.term_pool.proofs.PlacedCells.{lacks_for_term, places_more, places_more_then, places_of_term}
 use Rattle.std.proofs.lemmas.List.{append-nil}
 use Rattle.std.specs.List.{AllByRecursion}
+use Rattle.term_parts.specs.declared.answers.RuleStop.{RuleStop}
 use Rattle.term_pool.proofs.References.{AreOne}
 use Rattle.term_pool.specs.Placing.{LacksRoomFor, PlacesTerm}
 use Rattle.term_pool.specs.Views.{TermsView, KeepsTerms, RefersTo, ReferToAll}
@@ -25,7 +26,8 @@ use Rattle.flip_steps.specs.Units.{AddsUnits, IsUnitOf}
 use Rattle.flip_steps.proofs.OrderLemmas.{keeps_then, refers_later, stands_later}
 use Rattle.equality_blocks.specs.Counts.{IsCellOf}
 use Rattle.equality_blocks.specs.Made.{AreMadeSteps, IsMadeFor, IsMadeStep, StandsForMade, paired, stated}
-use Rattle.equality_blocks.specs.Made.{equated as pair_equated, exchanged as pair_exchanged, joined as pair_joined, turned as pair_turned}
+use Rattle.equality_blocks.specs.Made.{equated as pair_equated, exchanged as pair_exchanged, turned as pair_turned}
+use Rattle.equality_blocks.proofs.JoinedTerms.{joined_made}
 use Rattle.equality_blocks.proofs.StayLemmas.{made_later, made_steps_later, paired_later, root_later}
 use Rattle.elab_denials.specs.declared.work.Work.{Work}
 use Rattle.elab_denials.specs.Working.{AreFlipsAt, IsDone, IsMadeEquality, IsPlaceAt, IsRootedAt, IsWork, LacksRoom, Went}
@@ -200,8 +202,10 @@ within_then t u _ h whole = h
 within_then t u _ h (argument y a k has) = argument y a (within_then t u y h k) has
 
 module _ (p : Site) (w : TermsView) where
-  pub join_made : (a b : ℕ) → IsPlaceAt p w a b → (x : Term) → IsMadeToJoin p.symbols.now w a b x → IsMadeFor p w x
-  join_made a b h x made = stated x (paired h.left h.right x h.paired (pair_joined a b x h.left_refers h.right_refers made))
+  pub join_made : AreOne p.symbols.now w → (a b : ℕ) → IsPlaceAt p w a b → (x : Term) → IsMadeToJoin p.symbols.now w a b x → IsMadeFor p w x
+  join_made one a b h x made =
+      joined_made p w one a b h.left h.right h.left_refers h.right_refers h.paired h.left_in.root h.right_in.root h.left_in.is h.left_in.stands h.right_in.is
+      h.right_in.stands x made
 
   cell_within : AreOne p.symbols.now w → (a r : ℕ) → IsRootedAt p w a → IsCellWithin p.symbols.now w a r → IsCellOf p w r
   cell_within one a r h k =
@@ -222,21 +226,21 @@ module _ (p : Site) (w : TermsView) where
         };
       }
 
-  unit_made : (a b : ℕ) → IsPlaceAt p w a b → (s : AddedStep) → IsUnitOf p.symbols.now w (IsMadeToJoin p.symbols.now w a b) s → IsMadeStep p w s
-  unit_made a b h s k =
+  unit_made : AreOne p.symbols.now w → (a b : ℕ) → IsPlaceAt p w a b → (s : AddedStep) → IsUnitOf p.symbols.now w (IsMadeToJoin p.symbols.now w a b) s → IsMadeStep p w s
+  unit_made one a b h s k =
       step_made p w s (k.literal ∷ []) k.stands (λ x has. elim (contains_cases k.literal x [] has) [
-        | inl here ↦ subst (IsMadeFor p w) here (join_made a b h k.literal k.wanted)
+        | inl here ↦ subst (IsMadeFor p w) here (join_made one a b h k.literal k.wanted)
         | inr none ↦ absurd (contains_none x none)
       ])
       (λ q has. absurd (contains_none q (subst (λ qs. Contains qs q) k.pivots has)))
 
-  units_made : (a b : ℕ) → IsPlaceAt p w a b → (old added : List AddedStep) → AreMadeSteps p w old
+  units_made : AreOne p.symbols.now w → (a b : ℕ) → IsPlaceAt p w a b → (old added : List AddedStep) → AreMadeSteps p w old
       → AllByRecursion (IsUnitOf p.symbols.now w (IsMadeToJoin p.symbols.now w a b)) added → AreMadeSteps p w (old ++ added)
-  units_made a b h [] [] made k number x there = made number x there
-  units_made a b h [] (s ∷ added) made k zero x there = let e : s ≡ x = cc in subst (IsMadeStep p w) e (unit_made a b h s k.0)
-  units_made a b h [] (s ∷ added) made k (suc number) x there = units_made a b h [] added (λ n y e. cc) k.1 number x there
-  units_made a b h (s ∷ old) added made k zero x there = made zero x there
-  units_made a b h (s ∷ old) added made k (suc number) x there = units_made a b h old added (λ n y e. made (suc n) y e) k number x there
+  units_made one a b h [] [] made k number x there = made number x there
+  units_made one a b h [] (s ∷ added) made k zero x there = let e : s ≡ x = cc in subst (IsMadeStep p w) e (unit_made one a b h s k.0)
+  units_made one a b h [] (s ∷ added) made k (suc number) x there = units_made one a b h [] added (λ n y e. cc) k.1 number x there
+  units_made one a b h (s ∷ old) added made k zero x there = made zero x there
+  units_made one a b h (s ∷ old) added made k (suc number) x there = units_made one a b h old added (λ n y e. made (suc n) y e) k number x there
 
 -- steps that join two terms
 pub done_join : (p : Site) (v w : TermsView) (old new : Work) (a b : ℕ) → AreOne p.symbols.now w → KeepsTerms v w → IsWork p v old → IsPlaceAt p v a b
@@ -248,7 +252,7 @@ done_join p v w old new a b one keeps h place block forms units few met =
     record {
       work = record {
         block = block;
-        made = subst (AreMadeSteps p w) (sym units.is) (units_made p w a b here old.block units.added (made_steps_later p v w keeps old.block h.made) units.units);
+        made = subst (AreMadeSteps p w) (sym units.is) (units_made p w one a b here old.block units.added (made_steps_later p v w keeps old.block h.made) units.units);
         forms = forms;
         cells = λ r has. elim (met r has) [
           | inl before ↦ cell_later p v w keeps r (h.cells r before)
@@ -259,6 +263,15 @@ done_join p v w old new a b one keeps h place block forms units few met =
       extends = record { added = units.added; is = units.is };
       few = few;
     }
+
+-- the same of a result
+pub joined_done : (p : Site) (v w : TermsView) (old new : Work) (a b : ℕ) → AreOne p.symbols.now w → KeepsTerms v w → IsWork p v old → IsPlaceAt p v a b
+    → (r : Result (Option Link) RuleStop) → OnOk r (IsBlockAt p w new.block) → OnOk r (AreForms p w new.block new.forms)
+    → OnOk r (AddsUnits p w old.block new.block (IsMadeToJoin p.symbols.now w a b))
+    → OnOk r (length new.block + 3 * count_of old.forms ≤ length old.block + 3 * count_of new.forms + 2)
+    → OnOk r (MeetsWithin p.symbols.now w a b old.forms new.forms) → OnOk r (IsDone p w old new 2)
+joined_done p v w old new a b one keeps h place (Ok l) block forms units few met = done_join p v w old new a b one keeps h place block forms units few met
+joined_done p v w old new a b one keeps h place (Err e) block forms units few met = tt
 
 -- clauses of one literal and of two
 pub only_made : (p : Site) (w : TermsView) (x : Term) → IsMadeFor p w x → (y : Term) → Contains (x ∷ []) y → IsMadeFor p w y

@@ -17,8 +17,7 @@ use Rattle.equality_ways.specs.Sides.{ReferToBoth}
 use Rattle.flip_steps.specs.Memory.{count_of}
 use Rattle.flip_steps.specs.Subterms.{IsWithin}
 use Rattle.equality_blocks.specs.Commands.{clause_of_command, rule_of_command}
-use Rattle.equality_blocks.specs.Made.{IsStatedFor}
-use Rattle.equality_blocks.specs.Pairs.{AreLinkedEitherWay, ArePaired}
+use Rattle.equality_blocks.specs.Pairs.{AreMatched, ArePaired}
 use Rattle.equality_ways.specs.declared.table.Table.{Table}
 use Rattle.elab_denials.specs.declared.matching.Match.{Match}
 use Rattle.elab_denials.specs.declared.work.Work.{Work}
@@ -38,7 +37,7 @@ pub record HaveStated (p : Site) (v : TermsView) (a b : ℕ) : Type 0 where
   pub pairs : List (ℕ × ℕ)
   pub stated : AreStated p v a b pairs
 
--- `(= one two)` and `(= three four)`, which the command links; it pairs two with three and one with four, the pairs.
+-- `(= one two)` and `(= three four)`, which the command matches; it pairs two with three and one with four, the pairs.
 pub record AreTurnable (p : Site) (v : TermsView) (a b : ℕ) (pairs : List (ℕ × ℕ)) : Type 0 where
   pub one : Term
   pub two : Term
@@ -56,7 +55,8 @@ pub record AreTurnable (p : Site) (v : TermsView) (a b : ℕ) (pairs : List (ℕ
   pub places : (q : ℕ × ℕ) → Contains pairs q → IsPlaceAt p v q.0 q.1
   pub left_sides : AreSides p one two
   pub right_sides : AreSides p three four
-  pub linked : AreLinkedEitherWay p v (equality one two) (equality three four)
+  pub paired : ArePaired p v (equality one two) (equality three four)
+  pub matched : AreMatched p v (equality one two) (equality three four)
   pub apart : one ≢ two
 
 -- The link says `(not (= t u))` for each of the pairs, and then these literals.
@@ -65,7 +65,7 @@ pub record SaysWith (p : Site) (v : TermsView) (steps : List AddedStep) (link : 
   pub refer : AllZip (ReferToBoth p.symbols.now v) pairs es
   pub says : LinkSays p v steps link (denials es ++ rest)
 
--- the references stand for the two sides of an equality, which the command pairs, and for the equality
+-- the references stand for the two sides of an equality, and for the equality, which the command pairs with the same turned round
 pub record IsExchangeable (p : Site) (v : TermsView) (whole : ℕ) (q : ℕ × ℕ) : Type 0 where
   pub one : Term
   pub two : Term
@@ -73,9 +73,9 @@ pub record IsExchangeable (p : Site) (v : TermsView) (whole : ℕ) (q : ℕ × �
   pub two_refers : RefersTo p.symbols.now v q.1 two
   pub whole_refers : RefersTo p.symbols.now v whole (equality one two)
   pub sides : AreSides p one two
-  pub paired : ArePaired p v one two
+  pub paired : ArePaired p v (equality one two) (equality two one)
 
--- The references stand for three terms of one sort, of which the first two differ; their equalities are made for the command.
+-- The references stand for three terms of one sort, of which the first two differ; the command pairs each two of them.
 pub record IsMadeWay (p : Site) (v : TermsView) (a b c : ℕ) : Type 0 where
   pub sort : Sort
   pub one : Term
@@ -87,9 +87,9 @@ pub record IsMadeWay (p : Site) (v : TermsView) (a b c : ℕ) : Type 0 where
   pub one_fits : IsSideAt p sort one
   pub two_fits : IsSideAt p sort two
   pub three_fits : IsSideAt p sort three
-  pub first : IsStatedFor p v (equality one two)
-  pub second : IsStatedFor p v (equality two three)
-  pub whole : IsStatedFor p v (equality one three)
+  pub first : ArePaired p v one two
+  pub second : ArePaired p v two three
+  pub whole : ArePaired p v one three
   pub apart : one ≢ two
 
 -- the link says a clause in which `(not (= t u))` is, and beside it `(= s u)` alone

@@ -66,6 +66,7 @@ pub(crate) fn equated(
     table: &Table,
 ) -> Result<Option<Match>, Memory>
     requires job { IsToElaborate at.now terms.old }
+    requires rule { IsByCongruence at.now }
     requires given { HasGivenTable at.now terms.old table.now }
     ensures begun { IfOk result (λ found. IfSome found (IsBegun at.now terms.old table.now)) }
     ensures none { (premises : List (List Term)) (ts : List Term) → ReferToAll at.now.symbols.now terms.old (clause_of_command at.now) ts →

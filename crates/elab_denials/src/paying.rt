@@ -35,9 +35,9 @@ fn joined(
     references_stay();
     blocks_stay();
     forms_stay();
-    let link = work.forms.join(at, terms, &mut work.block, a, b)?;
+    let joined = work.forms.join(at, terms, &mut work.block, a, b);
     terms.equal_exactly_where_terms_are();
-    Ok(link)
+    joined
 }
 
 /// Adds `(= a b)`, of references that are one.

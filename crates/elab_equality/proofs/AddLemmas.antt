@@ -4,9 +4,11 @@ use Rattle.term_model.specs.declared.symbols.Op.{Op}
 use Rattle.term_model.specs.Flips.{equality}
 use Rattle.term_pool.specs.Views.{TermsView, RefersTo, ReferToAll}
 use Rattle.rule_model.specs.Congruence.{applied, operator}
+use Rattle.rule_model.specs.declared.rules.Rule.{Rule}
 use Rattle.equality_steps.specs.declared.site.Site.{Site}
 use Rattle.equality_steps.specs.Sites.{IsSite}
-use Rattle.equality_blocks.specs.Commands.{IsToElaborate}
+use Rattle.equality_blocks.specs.Commands.{IsToElaborate, rule_of_command}
+use Rattle.equality_blocks.specs.Pairs.{IsOfCongruence}
 use Rattle.elab_equality.specs.declared.matching.Applications.{Applications}
 use Rattle.elab_equality.specs.declared.matching.Crossed.{Crossed}
 use Rattle.elab_equality.specs.declared.matching.Matched.{Matched}
@@ -26,6 +28,9 @@ pub crossed_as : (p : Site) (v : TermsView) (ls rs lefts rights : List ℕ) → 
 crossed_as p v ls rs lefts rights e d h =
     subst (λ xs. AreCrossedArguments p v xs rights) e (subst (λ ys. AreCrossedArguments p v ls ys) d h)
 
+by_cong : (p : Site) → rule_of_command p ≡ Rule.Cong → IsOfCongruence (rule_of_command p)
+by_cong p rule = subst IsOfCongruence (sym rule) tt
+
 -- the items of a list of two
 two_are : (xs : List ℕ) (m n a b : ℕ) → xs ≡ m ∷ n ∷ [] → a ≡ get_or xs 0 a → b ≡ get_or xs 1 b → xs ≡ a ∷ b ∷ []
 two_are xs m n a b is first second =
@@ -33,12 +38,12 @@ two_are xs m n a b is first second =
     let two : b ≡ n = second ∙ ap (λ ys. get_or ys 1 b) is in
     is ∙ (ap (λ z. z ∷ n ∷ []) (sym one) ∙ ap (λ z. a ∷ z ∷ []) (sym two))
 
-module _ (p : Site) (v : TermsView) (job : IsToElaborate p v) (site : IsSite p v) (x : Applications) (h : AreApplications p v x) where
+module _ (p : Site) (v : TermsView) (job : IsToElaborate p v) (rule : rule_of_command p ≡ Rule.Cong) (site : IsSite p v) (x : Applications) (h : AreApplications p v x) where
   pub add_matched : (y : Matched) → y.left ≡ x.left → y.right ≡ x.right → y.lefts.now ≡ x.lefts.items → y.rights.now ≡ x.rights.items
       → AreMatchedArguments p v x.lefts.items x.rights.items → IsMatched p v y
   add_matched y left right lefts rights matched =
       let k = h.linked in
-      matched_here p v job site h.literal h.clause k.head k.ts k.us h.some h.literal_refers k.premises k.are y
+      matched_here p v job (by_cong p rule) site h.literal h.clause k.head k.ts k.us h.some h.literal_refers k.premises k.are y
       (subst (λ r. RefersTo p.symbols.now v r (applied k.head k.ts)) (sym left) h.left_refers)
       (subst (λ r. RefersTo p.symbols.now v r (applied k.head k.us)) (sym right) h.right_refers)
       (subst (λ rs. ReferToAll p.symbols.now v rs k.ts) (sym lefts) k.lefts_refer) (subst (λ rs. ReferToAll p.symbols.now v rs k.us) (sym rights) k.rights_refer)
@@ -70,7 +75,7 @@ module _ (p : Site) (v : TermsView) (job : IsToElaborate p v) (site : IsSite p v
       (subst (ReferToAll p.symbols.now v x.rights.items) k.other h.linked.rights_refer) in
       let left_is : applied h.linked.head h.linked.ts ≡ equality k.a k.b = ap (λ z. applied z h.linked.ts) k.equal ∙ ap (applied (operator Op.Equal)) k.one in
       let right_is : applied h.linked.head h.linked.us ≡ equality k.c k.d = ap (λ z. applied z h.linked.us) k.equal ∙ ap (applied (operator Op.Equal)) k.other in
-      crossed_here p v job site h.literal h.clause k.a k.b k.c k.d
+      crossed_here p v job (by_cong p rule) site h.literal h.clause k.a k.b k.c k.d
       (subst (λ z. RefersTo p.symbols.now v h.literal (equality (equality k.a k.b) z)) right_is
       (subst (λ z. RefersTo p.symbols.now v h.literal (equality z (applied h.linked.head h.linked.us))) left_is h.literal_refers)) h.linked.premises h.linked.are y
       (subst (λ r. RefersTo p.symbols.now v r (equality k.a k.b)) (sym left) (subst (RefersTo p.symbols.now v x.left) left_is h.left_refers))

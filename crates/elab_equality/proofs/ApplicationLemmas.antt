@@ -20,10 +20,10 @@ use Rattle.equality_steps.proofs.SiteLemmas.{sides_fit, sides_turned}
 use Rattle.equality_ways.proofs.Places.{contains_of_get, contains_of_left, zip_contained}
 use Rattle.flip_steps.specs.Subterms.{IsWithin, whole, argument}
 use Rattle.flip_steps.proofs.SubtermLemmas.{argument_sorted, within_free}
-use Rattle.equality_blocks.specs.Commands.{IsLiteralOfCommand, IsToElaborate, clause_of_command, literals_of_command}
+use Rattle.equality_blocks.specs.Commands.{IsLiteralOfCommand, IsToElaborate, clause_of_command, literals_of_command, rule_of_command}
 use Rattle.equality_blocks.specs.Counts.{literal}
-use Rattle.equality_blocks.specs.Made.{IsMadeFor, left, equated, exchanged, paired, stated}
-use Rattle.equality_blocks.specs.Pairs.{AreLinkedEitherWay, ArePaired, arguments, inner, linked, outer, sides, turned}
+use Rattle.equality_blocks.specs.Made.{IsMadeFor, left, equated, paired, stated}
+use Rattle.equality_blocks.specs.Pairs.{AreMatched, ArePaired, IsOfCongruence, arguments, inner, linked, outer, reversed, turned}
 use Rattle.equality_blocks.specs.Pairs.{equated as linked_equated}
 use Rattle.elab_equality.specs.declared.matching.Crossed.{Crossed}
 use Rattle.elab_equality.specs.declared.matching.Matched.{Matched}
@@ -74,11 +74,11 @@ module _ (p : Site) (v : TermsView) (job : IsToElaborate p v) (site : IsSite p v
   pub both_fit : AreSides p l r
   both_fit = sides_fit p l r (literal_fits p v job (equality l r) own)
 
-  either : AreLinkedEitherWay p v l r
-  either = inl (linked_equated (inl own))
+  matched : IsOfCongruence (rule_of_command p) → AreMatched p v l r
+  matched rule = inl (record { rule = rule; before = []; reference = root; clause = clause; refers = refers })
 
   pub whole_made : IsMadeFor p v (equality l r)
-  whole_made = stated (equality l r) (paired l r (equality l r) (linked l r either) equated)
+  whole_made = stated (equality l r) (paired l r (equality l r) (inl (linked l r (linked_equated (inl own)))) equated)
 
   left_within : (t : Term) → IsWithin l t → IsWithin (equality l r) t
   left_within t h = within_within (equality l r) l t (argument (equality l r) l whole (contains_head l (r ∷ []))) h
@@ -124,11 +124,11 @@ module _ (p : Site) (v : TermsView) (job : IsToElaborate p v) (site : IsSite p v
       linked = linked_by;
     }
 
-    pair_here : (k : ℕ) (a b : ℕ) (t u : Term) → slice_get (arguments_of l) k ≡ Some t → slice_get (arguments_of r) k ≡ Some u → RefersTo p.symbols.now v a t
+    pair_here : AreMatched p v l r → (k : ℕ) (a b : ℕ) (t u : Term) → slice_get (arguments_of l) k ≡ Some t → slice_get (arguments_of r) k ≡ Some u → RefersTo p.symbols.now v a t
         → RefersTo p.symbols.now v b u → IsLinked ps t u → IsPair p v a b
-    pair_here k a b t u e d first second linked_by =
+    pair_here by k a b t u e d first second linked_by =
         pair_of a b t u (contains_of_get (arguments_of l) k t e) (contains_of_get (arguments_of r) k u d)
-        (arguments l r t u either (record { place = k; left = e; right = d })) first second linked_by
+        (inl (arguments l r t u by (record { place = k; left = e; right = d }))) first second linked_by
 
     pairs_along : (ls bs : List ℕ) (ts us : List Term) → ReferToAll p.symbols.now v ls ts → ReferToAll p.symbols.now v bs us → AllZip (IsLinked ps) ts us
         → ((k : ℕ) (a b : ℕ) (t u : Term) → slice_get ts k ≡ Some t → slice_get us k ≡ Some u → RefersTo p.symbols.now v a t → RefersTo p.symbols.now v b u
@@ -146,11 +146,11 @@ module _ (p : Site) (v : TermsView) (job : IsToElaborate p v) (site : IsSite p v
     )
 
 -- the two sides, whose arguments are linked place by place
-pub matched_here : (p : Site) (v : TermsView) → IsToElaborate p v → IsSite p v → (root : ℕ) → clause_of_command p ≡ root ∷ [] → (head : Head) (ts us : List Term) → ts ≢ []
+pub matched_here : (p : Site) (v : TermsView) → IsToElaborate p v → IsOfCongruence (rule_of_command p) → IsSite p v → (root : ℕ) → clause_of_command p ≡ root ∷ [] → (head : Head) (ts us : List Term) → ts ≢ []
     → RefersTo p.symbols.now v root (equality (applied head ts) (applied head us)) → (ps : List (List Term)) → ArePremises p v ps → (x : Matched)
     → RefersTo p.symbols.now v x.left (applied head ts) → RefersTo p.symbols.now v x.right (applied head us) → ReferToAll p.symbols.now v x.lefts.now ts
     → ReferToAll p.symbols.now v x.rights.now us → AllZip (IsLinked ps) ts us → IsMatched p v x
-matched_here p v job site root clause head ts us some refers ps are x left_refers right_refers lefts rights zipped =
+matched_here p v job rule site root clause head ts us some refers ps are x left_refers right_refers lefts rights zipped =
     let l = applied head ts in
     let r = applied head us in
     record {
@@ -165,35 +165,35 @@ matched_here p v job site root clause head ts us some refers ps are x left_refer
       sides = both_fit p v job site root clause l r refers;
       made = whole_made p v job site root clause l r refers;
       pairs = pairs_along p v job site root clause l r refers ps are x.lefts.now x.rights.now ts us lefts rights zipped
-          (λ k a b t u e d first second linked_by. pair_here p v job site root clause l r refers ps are k a b t u
+          (λ k a b t u e d first second linked_by. pair_here p v job site root clause l r refers ps are (matched p v job site root clause l r refers rule) k a b t u
           (subst (λ xs. slice_get xs k ≡ Some t) (sym (arguments_are head ts)) e) (subst (λ xs. slice_get xs k ≡ Some u) (sym (arguments_are head us)) d)
           first second linked_by);
     }
 
 -- two equalities, whose sides are linked crosswise
-pub crossed_here : (p : Site) (v : TermsView) → IsToElaborate p v → IsSite p v → (root : ℕ) → clause_of_command p ≡ root ∷ [] → (a b c d : Term)
+pub crossed_here : (p : Site) (v : TermsView) → IsToElaborate p v → IsOfCongruence (rule_of_command p) → IsSite p v → (root : ℕ) → clause_of_command p ≡ root ∷ [] → (a b c d : Term)
     → RefersTo p.symbols.now v root (equality (equality a b) (equality c d)) → (ps : List (List Term)) → ArePremises p v ps → (x : Crossed)
     → RefersTo p.symbols.now v x.left (equality a b) → RefersTo p.symbols.now v x.right (equality c d) → RefersTo p.symbols.now v x.a a → RefersTo p.symbols.now v x.b b
     → RefersTo p.symbols.now v x.c c → RefersTo p.symbols.now v x.d d → IsLinked ps a d → IsLinked ps b c → IsCrossed p v x
 unfolding pair_of
-crossed_here p v job site root clause a b c d refers ps are x left_refers right_refers a_refers b_refers c_refers d_refers outer_by inner_by =
+crossed_here p v job rule site root clause a b c d refers ps are x left_refers right_refers a_refers b_refers c_refers d_refers outer_by inner_by =
     let l = equality a b in
     let r = equality c d in
     let both = both_fit p v job site root clause l r refers in
-    let way = either p v job site root clause l r refers in
+    let way = matched p v job site root clause l r refers rule in
     let first : Contains (arguments_of l) a = contains_head a (b ∷ []) in
     let second : Contains (arguments_of l) b = contains_later a b (b ∷ []) (contains_head b []) in
     let third : Contains (arguments_of r) c = contains_head c (d ∷ []) in
     let fourth : Contains (arguments_of r) d = contains_later c d (d ∷ []) (contains_head d []) in
     record {
-      outer = pair_of p v job site root clause l r refers ps are x.a x.d a d first fourth (outer a b c d way) a_refers d_refers outer_by;
-      inner = pair_of p v job site root clause l r refers ps are x.b x.c b c second third (inner a b c d way) b_refers c_refers inner_by;
+      outer = pair_of p v job site root clause l r refers ps are x.a x.d a d first fourth (inl (outer a b c d way)) a_refers d_refers outer_by;
+      inner = pair_of p v job site root clause l r refers ps are x.b x.c b c second third (inl (inner a b c d way)) b_refers c_refers inner_by;
       left_refers = left_refers;
       right_refers = right_refers;
       left_sides = sides_fit p a b (subst (λ s. IsSideAt p s l) (equality_bool a b both.sort both.left.0) both.left);
       right_sides = sides_fit p c d (subst (λ s. IsSideAt p s r) (equality_bool c d both.sort both.right.0) both.right);
-      turned = stated (equality b a) (paired (equality b a) r (equality b a) (turned a b r way) left);
-      exchanged = stated (equality l (equality b a)) (paired a b (equality l (equality b a)) (sides a b r way) exchanged);
-      through = stated (equality (equality b a) r) (paired (equality b a) r (equality (equality b a) r) (turned a b r way) equated);
+      turned = stated (equality b a) (paired (equality b a) r (equality b a) (inl (turned a b c d way)) left);
+      exchanged = stated (equality l (equality b a)) (paired l (equality b a) (equality l (equality b a)) (inl (reversed a b c d way)) equated);
+      through = stated (equality (equality b a) r) (paired (equality b a) r (equality (equality b a) r) (inl (turned a b c d way)) equated);
       made = whole_made p v job site root clause l r refers;
     }

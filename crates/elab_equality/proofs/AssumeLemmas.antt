@@ -180,8 +180,8 @@ module _ (p : Site) (v : TermsView) (h : IsToElaborate p v) (rule : rule_of_comm
 
   paired_here : ArePaired p v k.first_is.term k.term
   paired_here =
-      pair_linked k.first_is.term k.term
-      (inl (linked_assumed (record { reference = first; first = k.first_is; refers = k.first_is.refers })))
+      inl (pair_linked k.first_is.term k.term
+      (linked_assumed (record { reference = first; first = k.first_is; refers = k.first_is.refers })))
 
   pub assumed_flips : AreFlips p v first assumed
   assumed_flips = record {
@@ -222,7 +222,7 @@ module _ (p : Site) (v : TermsView) (h : IsToElaborate p v) (rule : rule_of_comm
     right_refers = k.refers;
     fits = first_fits;
     left_made = made_stated k.first_is.term (made_paired k.first_is.term k.term k.first_is.term paired_here pair_left);
-    denied_made = made_denied k.first_is.term (made_paired k.first_is.term k.term k.first_is.term paired_here pair_left);
+    denied_made = made_denied k.first_is.term k.term paired_here;
     right_made = made_stated k.term (made_literal k.term assumed_literal);
   }
 

@@ -169,7 +169,7 @@ module _ (p : Site) (v : TermsView) (h : IsToElaborate p v) where
         left_in = side_in t s t a k left (contains_head t (s ∷ []));
         right_in = side_in t s s b k right (contains_later t s (s ∷ []) (contains_head s []));
         sides = sides_fit p t s (literal_fits p v h (equality t s) k);
-        paired = linked t s (inl (pairs.equated (inl k)));
+        paired = inl (linked t s (pairs.equated (inl k)));
         premises = premise_clauses h.proof p.command;
         are = premises_stand p v h;
         linked = inr (inl there);
@@ -184,7 +184,7 @@ module _ (p : Site) (v : TermsView) (h : IsToElaborate p v) where
         left_in = side_in s t t a k left (contains_later s t (t ∷ []) (contains_head t []));
         right_in = side_in s t s b k right (contains_head s (t ∷ []));
         sides = sides_turned p s t (sides_fit p s t (literal_fits p v h (equality s t) k));
-        paired = linked t s (inr (pairs.equated (inl k)));
+        paired = inr (linked s t (pairs.equated (inl k)));
         premises = premise_clauses h.proof p.command;
         are = premises_stand p v h;
         linked = inr (inr there);

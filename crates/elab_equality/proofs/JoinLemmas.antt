@@ -20,7 +20,8 @@ use Rattle.flip_steps.specs.Units.{AddsUnits}
 use Rattle.flip_steps.proofs.OrderLemmas.{refers_later}
 use Rattle.flip_steps.proofs.UnitLemmas.{units_extend, units_more}
 use Rattle.equality_blocks.specs.Counts.{IsCellOf}
-use Rattle.equality_blocks.specs.Made.{IsMadeFor, IsPlacedFor, joined, paired, stated}
+use Rattle.equality_blocks.specs.Made.{IsMadeFor, IsPlacedFor}
+use Rattle.equality_blocks.proofs.JoinedTerms.{joined_made}
 use Rattle.equality_blocks.proofs.StayLemmas.{paired_later}
 use Rattle.elab_equality.specs.declared.work.Work.{Work}
 use Rattle.elab_equality.specs.Linked.{AreFlips, IsInCommand}
@@ -42,8 +43,11 @@ within_within t u _ h (argument x a k there) = argument x a (within_within t u x
 module _ (p : Site) (u v : TermsView) (a b : Work) (x y : ℕ) (h : IsWork p u a) (pair : AreFlips p u x y) (keeps : KeepsTerms u v) (one : IsOneToOne v.pass) (table : IsTable p.symbols.now) where
   made_joined : (t : Term) → IsMadeToJoin p.symbols.now v x y t → IsMadeFor p v t
   made_joined t k =
-      stated t (paired pair.left pair.right t (paired_later p u v keeps pair.left pair.right pair.paired)
-      (joined x y t (refers_later p.symbols.now u v x pair.left keeps pair.left_refers) (refers_later p.symbols.now u v y pair.right keeps pair.right_refers) k))
+      let left_in = in_command_later p u v keeps x pair.left_in in
+      let right_in = in_command_later p u v keeps y pair.right_in in
+      joined_made p v (λ q r a b first second. equal_where p.symbols.now v table one q r a b first second) x y pair.left pair.right
+      (refers_later p.symbols.now u v x pair.left keeps pair.left_refers) (refers_later p.symbols.now u v y pair.right keeps pair.right_refers)
+      (paired_later p u v keeps pair.left pair.right pair.paired) left_in.root right_in.root left_in.is left_in.stands right_in.is right_in.stands t k
 
   cell_in : (z r : ℕ) → IsInCommand p u z → IsCellWithin p.symbols.now v z r → IsCellOf p v r
   cell_in z r inside k =

@@ -111,7 +111,7 @@ module _ (bound : AreImagesBound) (are_sorted : AreImagesSorted) (p : Site) (v :
     right_refers = h.left_is.image_refers;
     made = stated (equality h.left_is.term h.left_is.image)
         (paired h.left_is.term h.left_is.image (equality h.left_is.term h.left_is.image)
-        (linked h.left_is.term h.left_is.image (inl (put_in_one h.left_is.put_in))) equated);
+        (inl (linked h.left_is.term h.left_is.image (put_in_one h.left_is.put_in))) equated);
   }
 
   pub last_same : AreSameInContext p v x.right_image x.right
@@ -134,7 +134,7 @@ module _ (bound : AreImagesBound) (are_sorted : AreImagesSorted) (p : Site) (v :
     right_refers = h.right_is.refers;
     made = stated (equality h.right_is.image h.right_is.term)
         (paired h.right_is.image h.right_is.term (equality h.right_is.image h.right_is.term)
-        (linked h.right_is.image h.right_is.term (inr (put_in_one h.right_is.put_in))) equated);
+        (inr (linked h.right_is.term h.right_is.image (put_in_one h.right_is.put_in))) equated);
   }
 
   in_command : (r q : ℕ) (i : IsImageOf p v r q) → IsInCommand p v q
@@ -177,7 +177,7 @@ module _ (bound : AreImagesBound) (are_sorted : AreImagesSorted) (p : Site) (v :
       left = image_fits bound are_sorted p v c x.left x.left_image h.left_is both.sort left_of left_closed;
       right = image_fits bound are_sorted p v c x.right x.right_image h.right_is both.sort right_of right_closed;
     };
-    paired = linked h.left_is.image h.right_is.image (inl (put_in_both (record {
+    paired = inl (linked h.left_is.image h.right_is.image (put_in_both (record {
       left = h.left_is.term;
       right = h.right_is.term;
       equated = clause_equated;

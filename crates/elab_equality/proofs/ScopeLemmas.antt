@@ -122,7 +122,7 @@ module _ (law : AreAnchorsOfScopes) (p : Site) (u : TermsView) (job : IsToElabor
     image_made : (v : TermsView) → KeepsTerms u v → IsPlacedFor p v side_image
     image_made v keeps =
         inl (stated side_image (paired side.term side_image side_image
-        (linked side.term side_image (inl (put_in_one (put_in_later p u v keeps side.term side_image put_here)))) right))
+        (inl (linked side.term side_image (put_in_one (put_in_later p u v keeps side.term side_image put_here)))) right))
 
     pub image_of : (v : TermsView) → KeepsTerms u v → (q : ℕ) → RefersTo p.symbols.now v q side_image → IsImageOf p v r q
     image_of v keeps q refers = record {

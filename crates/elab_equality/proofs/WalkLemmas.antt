@@ -149,7 +149,7 @@ module _ (p : Site) (v : TermsView) (sides : List (Option (ℕ × ℕ))) (given 
         right = e.0;
         left_refers = one.2.1.1;
         right_refers = one.2.1.0;
-        made = stated (equality e.1 e.0) (paired e.0 e.1 (equality e.1 e.0) (linked e.0 e.1 (inl (equated (inl literal)))) turned);
+        made = stated (equality e.1 e.0) (paired e.0 e.1 (equality e.1 e.0) (inl (linked e.0 e.1 (equated (inl literal)))) turned);
       }
 
 -- a way, as far as it has been walked

@@ -241,6 +241,7 @@ impl Work {
         x: &Applications,
     ) -> Result<Link, RuleStop>
         requires job { IsToElaborate at.now terms.old }
+        requires rule { rule_of_command at.now ≡ Rule.Cong }
         requires work { IsWork at.now terms.old self.old }
         requires given { IsGiven at.now terms.old given.now }
         requires applications { AreApplications at.now terms.old x.now }

@@ -20,14 +20,15 @@ use Rattle.readable_proofs.specs.Names.{Vocabulary}
 use Rattle.readable_proofs.specs.TermsOver.{IsTermOver, AreTermsOver}
 use Rattle.equality_steps.specs.declared.site.Site.{Site}
 use Rattle.flip_steps.specs.Forms.{IsFormOf, AreFormsOf}
-use Rattle.flip_steps.specs.Stages.{StandsBefore, IsStage, itself, refilled, formed, IsMadeFrom, IsMadeToJoin}
+use Rattle.flip_steps.specs.Stages.{StandsBefore, IsStage, itself, refilled, formed as stage_formed, IsMadeFrom}
 use Rattle.flip_steps.specs.Stages.{IsMadeFor as IsMadeForTerm, stage, equated as stages_equated}
 use Rattle.flip_steps.specs.Subterms.{IsWithin, whole, argument, with_arguments}
 use Rattle.equality_blocks.specs.Commands.{IsLiteralOfCommand, clause_of_command}
-use Rattle.equality_blocks.specs.Made.{IsMadeForPair, left, right, equated as pair_equated, turned as pair_turned, exchanged, joined}
-use Rattle.equality_blocks.specs.Made.{IsStatedFor, paired, literal, IsMadeFor, stated, denied}
-use Rattle.equality_blocks.specs.Pairs.{AreAssumed, AreEquated, AreImplied, AreLinkedBy, AreLinkedEitherWay, IsPutIn}
-use Rattle.equality_blocks.specs.Pairs.{equated, implied, assumed, put_in_one, put_in_both, ArePaired, linked, arguments, sides, outer, inner, turned}
+use Rattle.equality_blocks.specs.Counts.{IsRootOf, literal as root_literal, asserted as root_asserted, side as root_side}
+use Rattle.equality_blocks.specs.Made.{IsMadeForPair, left, right, equated as pair_equated, turned as pair_turned, exchanged}
+use Rattle.equality_blocks.specs.Made.{IsStatedFor, paired, literal, formed, IsMadeFor, stated, denied, apart}
+use Rattle.equality_blocks.specs.Pairs.{AreAssumed, AreConcluded, AreEquated, AreImplied, AreLinkedBy, AreMatched, AreOrdered, ArePaired, IsPutIn}
+use Rattle.equality_blocks.specs.Pairs.{equated, implied, assumed, put_in_one, put_in_both, linked, arguments, outer, inner, reversed, turned}
 
 -- of the law of `flip_steps`
 abbrev pub FormsAreEqual : Type 0
@@ -104,7 +105,7 @@ module _ (n : Vocabulary) where
     stage_over : (t x : Term) → IsStage s v t x → IsTermOver n t → IsTermOver n x
     stage_over t _ itself h = h
     stage_over t _ (refilled us f) h = refilled_over t us f h
-    stage_over t _ (formed f is) h = flips_over t f (law s v t f is) h
+    stage_over t _ (stage_formed f is) h = flips_over t f (law s v t f is) h
 
     for_term_over : (t x : Term) → IsMadeForTerm s v t x → IsTermOver n t → IsTermOver n x
     for_term_over t _ (stage x k) h = stage_over t x k h
@@ -120,21 +121,12 @@ module _ (n : Vocabulary) where
           let here = within_over m.stands.whole m.stands.term m.stands.within whole_over in
           for_term_over m.made.term x m.made.made (one_over m.from m.stands.term m.made.term m.stands.refers m.made.refers here)
 
-      to_join_over : (a b : ℕ) (t u x : Term) → RefersTo s v a t → RefersTo s v b u → IsTermOver n t → IsTermOver n u → IsMadeToJoin s v a b x
-          → IsTermOver n x
-      to_join_over a b t u x first second h k (inl (inl m)) = from_over a t x first h m
-      to_join_over a b t u x first second h k (inl (inr m)) = from_over b u x second k m
-      to_join_over a b t u x first second h k (inr m) =
-          subst (IsTermOver n) (sym m.is)
-          (equality_over m.left m.right (one_over a t m.left first m.left_refers h) (one_over b u m.right second m.right_refers k))
-
-      for_pair_over : (t u x : Term) → IsTermOver n t → IsTermOver n u → IsMadeForPair s v t u x → IsTermOver n x
-      for_pair_over t u _ h k left = h
-      for_pair_over t u _ h k right = k
-      for_pair_over t u _ h k pair_equated = equality_over t u h k
-      for_pair_over t u _ h k pair_turned = equality_over u t k h
-      for_pair_over t u _ h k exchanged = equality_over (equality t u) (equality u t) (equality_over t u h k) (equality_over u t k h)
-      for_pair_over t u _ h k (joined a b x first second m) = to_join_over a b t u x first second h k m
+  for_pair_over : (t u x : Term) → IsTermOver n t → IsTermOver n u → IsMadeForPair t u x → IsTermOver n x
+  for_pair_over t u _ h k left = h
+  for_pair_over t u _ h k right = k
+  for_pair_over t u _ h k pair_equated = equality_over t u h k
+  for_pair_over t u _ h k pair_turned = equality_over u t k h
+  for_pair_over t u _ h k exchanged = equality_over (equality t u) (equality u t) (equality_over t u h k) (equality_over u t k h)
 
   at_place : (xs : List Term) (k : ℕ) (x : Term) → slice_get xs k ≡ Some x → Contains xs x
   at_place [] k x e = absurd (cc)
@@ -198,26 +190,49 @@ module _ (n : Vocabulary) where
     linked_over t u (put_in_one h) = put_in_over t u h
     linked_over t u (put_in_both h) = ((put_in_over h.left t h.left_put_in).1, (put_in_over h.right u h.right_put_in).1)
 
-    either_over : (t u : Term) → AreLinkedEitherWay p v t u → AreOver t u
-    either_over t u (inl h) = linked_over t u h
-    either_over t u (inr h) = let o = linked_over u t h in (o.1, o.0)
+    concluded_over : (t u : Term) → AreConcluded p v t u → AreOver t u
+    concluded_over t u h =
+        let there = subst (λ rs. Contains rs h.reference) (sym h.clause)
+        (Contains-append_right h.before (h.reference ∷ []) h.reference (contains_head h.reference [])) in
+        let o = of_clause h.reference (equality t u) there h.refers in
+        (o.0, o.1.0)
 
-    paired_over : (t u : Term) → ArePaired p v t u → AreOver t u
-    paired_over _ _ (linked t u h) = either_over t u h
-    paired_over _ _ (arguments t u x y h k) =
-        let o = either_over t u h in (
+    matched_over : (t u : Term) → AreMatched p v t u → AreOver t u
+    matched_over t u (inl h) = concluded_over t u h
+    matched_over t u (inr h) = implied_over t u h
+
+    ordered_over : (t u : Term) → AreOrdered p v t u → AreOver t u
+    ordered_over _ _ (linked t u h) = linked_over t u h
+    ordered_over _ _ (arguments t u x y h k) =
+        let o = matched_over t u h in (
           argument_over t x (at_place (arguments_of t) k.place x k.left) o.0,
           argument_over u y (at_place (arguments_of u) k.place y k.right) o.1,
         )
-    paired_over _ _ (sides a b u h) = let o = either_over (equality a b) u h in (o.0.0, o.0.1.0)
-    paired_over _ _ (outer a b d f h) = let o = either_over (equality a b) (equality d f) h in (o.0.0, o.1.1.0)
-    paired_over _ _ (inner a b d f h) = let o = either_over (equality a b) (equality d f) h in (o.0.1.0, o.1.0)
-    paired_over _ _ (turned a b u h) = let o = either_over (equality a b) u h in (equality_over b a o.0.1.0 o.0.0, o.1)
+    ordered_over _ _ (outer a b c d h) = let o = matched_over (equality a b) (equality c d) h in (o.0.0, o.1.1.0)
+    ordered_over _ _ (inner a b c d h) = let o = matched_over (equality a b) (equality c d) h in (o.0.1.0, o.1.0)
+    ordered_over _ _ (reversed a b c d h) = let o = matched_over (equality a b) (equality c d) h in (o.0, equality_over b a o.0.1.0 o.0.0)
+    ordered_over _ _ (turned a b c d h) = let o = matched_over (equality a b) (equality c d) h in (equality_over b a o.0.1.0 o.0.0, o.1)
+
+    paired_over : (t u : Term) → ArePaired p v t u → AreOver t u
+    paired_over t u (inl h) = ordered_over t u h
+    paired_over t u (inr h) = let o = ordered_over u t h in (o.1, o.0)
+
+    root_over : (root : ℕ) (x : Term) → IsRootOf p v root → IsMadeFrom p.symbols.now v root x → IsTermOver n x
+    root_over root x (root_literal among) made =
+        let t = made.stands.whole in
+        from_over law p.symbols.now v table known root t x made.stands.whole_refers
+        (literals t (record { reference = root; among = among; refers = made.stands.whole_refers })) made
+    root_over root x (root_asserted u first) made =
+        from_over law p.symbols.now v table known root first.term x first.refers
+        (assumed_over first.term u (record { reference = root; first = first; refers = first.refers })).0 made
+    root_over root x (root_side t u put refers) made = from_over law p.symbols.now v table known root u x refers (put_in_over t u put).1 made
 
     stated_over : (x : Term) → IsStatedFor p v x → IsTermOver n x
-    stated_over _ (paired t u x h k) = let o = paired_over t u h in for_pair_over law p.symbols.now v table known t u x o.0 o.1 k
+    stated_over _ (paired t u x h k) = let o = paired_over t u h in for_pair_over t u x o.0 o.1 k
     stated_over _ (literal x h) = literals x h
+    stated_over _ (formed root x h k) = root_over root x h k
 
     pub made_over : (x : Term) → IsMadeFor p v x → IsTermOver n x
     made_over _ (stated x h) = stated_over x h
-    made_over _ (denied x h) = denial_over x (stated_over x h)
+    made_over _ (denied t u h) = denial_over t (paired_over t u h).0
+    made_over _ (apart t u h) = let o = paired_over t u h in denial_over (equality t u) (equality_over t u o.0 o.1)

@@ -38,7 +38,7 @@ use Rattle.equality_steps.proofs.LawLemmas.{may_be_added, own_same, step_literal
 use Rattle.equality_blocks.specs.Blocks.{EndsInClause, IsBlockFor}
 use Rattle.equality_blocks.specs.Commands.{IsToElaborate, in_check_mode}
 use Rattle.equality_blocks.specs.Made.{AreMadeSteps, IsMadeFor, IsMadeStep, StandsForMade}
-use Rattle.equality_blocks.proofs.LowLemmas.{JoinIsLow, StandForOne, made_low}
+use Rattle.equality_blocks.proofs.LowLemmas.{FromIsLow, StandForOne, made_low}
 
 pub last_place : {X : Type 0} (before : List X) (last : X) (block : List X) → block ≡ before ++ last ∷ [] → slice_get block (length block - 1) ≡ Some last
 last_place before last block e =
@@ -76,14 +76,14 @@ module _ (p : Site) (v : TermsView) (table : IsTable p.symbols.now) (one : IsOne
       (made_pivots ps qs h.1 (λ y has. f y (contains_later x y ps has)))
 
 -- none of the terms of steps that are made for a command is too high
-pub steps_low : JoinIsLow → StandForOne → (p : Site) (v : TermsView) (c : Checking) (proof : ProofItems Var Term) (steps : List AddedStep) → IsToElaborate p v
+pub steps_low : FromIsLow → StandForOne → (p : Site) (v : TermsView) (c : Checking) (proof : ProofItems Var Term) (steps : List AddedStep) → IsToElaborate p v
     → StandForItems p.symbols.now v p.proof.now proof → ReferToAll p.symbols.now v p.asserted.now c.assertions → AreMadeSteps p v steps
     → (h : ℕ) → All (λ t. height t ≤ h) c.assertions → IsLowProof h proof → (number : ℕ) (a : AddedStep) → slice_get steps number ≡ Some a
     → (ts : List Term) (ps : List (Term × Bool)) → ReferToAll p.symbols.now v a.clause ts → AllZip (IsPivotOf p.symbols.now v) a.pivots ps
     → All (λ t. height t ≤ 2 * h + 10) ts × All (λ (q : Term × Bool). height q.0 ≤ 2 * h + 10) ps
-steps_low join_low one_of p v c proof steps command stand refer made h assertions low number a there ts ps clause pivots =
+steps_low from_low one_of p v c proof steps command stand refer made h assertions low number a there ts ps clause pivots =
     let holds : (t : Term) → IsMadeFor p v t → height t ≤ 2 * h + 10 =
-    λ x is_made. made_low join_low one_of p v proof c.assertions h x command stand refer assertions low is_made in
+    λ x is_made. made_low from_low one_of p v proof c.assertions h x command stand refer assertions low is_made in
     let one = made number a there in (
       made_all p v command.table command.known (λ t. height t ≤ 2 * h + 10) holds a.clause ts clause one.literals,
       made_pivots p v command.table command.known (λ t. height t ≤ 2 * h + 10) holds a.pivots ps pivots one.pivots,
@@ -102,10 +102,10 @@ module _ (p : Site) (v : TermsView) (c : Checking) (proof : ProofItems Var Term)
         (strict_step p v c block (length block - 1) a h.steps refer there));
   }
 
-  pub block_fits : JoinIsLow → StandForOne → IsFittingBlock p.symbols.now v c p.proof.now proof p.command block
-  block_fits join_low one_of = record {
+  pub block_fits : FromIsLow → StandForOne → IsFittingBlock p.symbols.now v c p.proof.now proof p.command block
+  block_fits from_low one_of = record {
     literals = λ sorted number a there below j stands. step_literals p v block number a j h.command.table h.command.known h.steps there stands;
-    low = steps_low join_low one_of p v c proof block h.command stand refer h.made;
+    low = steps_low from_low one_of p v c proof block h.command stand refer h.made;
   }
 
 -- a command that is Ok in check mode may be replaced

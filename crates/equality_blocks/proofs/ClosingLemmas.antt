@@ -34,7 +34,7 @@ use Rattle.equality_steps.proofs.LawLemmas.{may_be_added, step_literals, strict_
 use Rattle.equality_steps.proofs.StepLemmas.{get_below}
 use Rattle.equality_blocks.specs.Blocks.{IsClosingBlockFor, IsClosingStep}
 use Rattle.equality_blocks.proofs.BlockLemmas.{last_place, not_empty, replaced_there, steps_low}
-use Rattle.equality_blocks.proofs.LowLemmas.{JoinIsLow, StandForOne}
+use Rattle.equality_blocks.proofs.LowLemmas.{FromIsLow, StandForOne}
 
 -- the places of a list with an item behind it
 module _ {X : Type 0} where
@@ -126,13 +126,13 @@ module _ (p : Site) (v : TermsView) (c : Checking) (proof : ProofItems Var Term)
         (same_some (sym (last_place h.before h.last block h.is) ∙ there)) (last_closes one_of);
   }
 
-  pub closing_fits : JoinIsLow → StandForOne → IsFittingBlock p.symbols.now v c p.proof.now proof p.command block
-  closing_fits join_low one_of = record {
+  pub closing_fits : FromIsLow → StandForOne → IsFittingBlock p.symbols.now v c p.proof.now proof p.command block
+  closing_fits from_low one_of = record {
     literals = λ sorted number a there below j stands.
         step_literals p v h.before number a j h.command.table h.command.known h.steps (earlier number a there below)
         (subst (λ x. StandsForJudged p.symbols.now v x j)
         (sym (looked_there number a (earlier number a there below) (own_anchors p.proof.now p.command))) stands);
-    low = steps_low join_low one_of p v c proof block h.command stand refer h.made;
+    low = steps_low from_low one_of p v c proof block h.command stand refer h.made;
   }
 
 module _ (p : Site) (v : TermsView) (line : Line ℕ ℕ) (block : List AddedStep) (there : slice_get (lines_in outermost p.proof.now) p.command ≡ Some line)

@@ -16,15 +16,14 @@ use Rattle.rule_model.specs.Proofs.{ProofItems}
 use Rattle.elaboration_laws.specs.StrictBlocks.{AnchorsStand}
 use Rattle.equality_steps.specs.declared.site.Site.{Site}
 use Rattle.flip_steps.specs.Memory.{IsCellWithin}
-use Rattle.flip_steps.specs.Stages.{StandsBefore, IsStage, itself, refilled, formed, IsMadeAt, StandsIn, IsMadeFrom, IsEqualityOf, IsMadeToJoin}
+use Rattle.flip_steps.specs.Stages.{StandsBefore, IsStage, itself, refilled, formed as stage_formed, IsMadeAt, StandsIn, IsMadeFrom}
 use Rattle.flip_steps.specs.Stages.{IsMadeFor as IsMadeForTerm, stage, equated as stages_equated}
 use Rattle.flip_steps.proofs.OrderLemmas.{form_more, forms_more}
 use Rattle.equality_blocks.specs.Commands.{IsLiteralOfCommand}
 use Rattle.equality_blocks.specs.Counts.{IsFew, IsRootOf, literal as root_literal, asserted, side}
-use Rattle.equality_blocks.specs.Made.{IsMadeForPair, left, right, equated as pair_equated, turned as pair_turned, exchanged, joined}
-use Rattle.equality_blocks.specs.Made.{IsStatedFor, paired, literal, IsMadeFor, stated, denied, IsImageFor, IsPlacedFor}
-use Rattle.equality_blocks.specs.Pairs.{AreEquated, AreImplied, IsOther, IsFirstAsserted, AreAssumed, IsPutIn, AreBothPutIn, AreLinkedBy, AreLinkedEitherWay}
-use Rattle.equality_blocks.specs.Pairs.{equated, implied, assumed, put_in_one, put_in_both, ArePaired, linked, arguments, sides, outer, inner, turned}
+use Rattle.equality_blocks.specs.Made.{IsStatedFor, paired, literal, formed, IsMadeFor, stated, denied, apart, IsImageFor, IsPlacedFor}
+use Rattle.equality_blocks.specs.Pairs.{AreConcluded, AreEquated, AreImplied, AreLinkedBy, AreMatched, AreOrdered, ArePaired, IsFirstAsserted, IsPutIn}
+use Rattle.equality_blocks.specs.Pairs.{equated, implied, assumed, put_in_one, put_in_both, linked, arguments, outer, inner, reversed, turned}
 
 module _ (s : Table) (v w : TermsView) (more : Grows v.pass w.pass) where
   pub refers_more : (r : ℕ) (t : Term) → RefersTo s v r t → RefersTo s w r t
@@ -53,7 +52,7 @@ module _ (s : Table) (v w : TermsView) (more : Grows v.pass w.pass) where
   stage_more : (t x : Term) → IsStage s v t x → IsStage s w t x
   stage_more t _ itself = itself
   stage_more t _ (refilled us h) = refilled us (forms_more (StandsBefore s v) (StandsBefore s w) before_more _ us h)
-  stage_more t _ (formed f h) = formed f (form_more (StandsBefore s v) (StandsBefore s w) before_more t f h)
+  stage_more t _ (stage_formed f h) = stage_formed f (form_more (StandsBefore s v) (StandsBefore s w) before_more t f h)
 
   made_for_more : (t x : Term) → IsMadeForTerm s v t x → IsMadeForTerm s w t x
   made_for_more t _ (stage x h) = stage x (stage_more t x h)
@@ -78,25 +77,6 @@ module _ (s : Table) (v w : TermsView) (more : Grows v.pass w.pass) where
       made = made_for_more h.made.term x h.made.made;
     };
   }
-
-  to_join_more : (a b : ℕ) (x : Term) → IsMadeToJoin s v a b x → IsMadeToJoin s w a b x
-  to_join_more a b x (inl (inl h)) = inl (inl (made_from_more a x h))
-  to_join_more a b x (inl (inr h)) = inl (inr (made_from_more b x h))
-  to_join_more a b x (inr h) = inr (record {
-    left = h.left;
-    right = h.right;
-    left_refers = refers_more a h.left h.left_refers;
-    right_refers = refers_more b h.right h.right_refers;
-    is = h.is;
-  })
-
-  pair_more : (t u x : Term) → IsMadeForPair s v t u x → IsMadeForPair s w t u x
-  pair_more t u _ left = left
-  pair_more t u _ right = right
-  pair_more t u _ pair_equated = pair_equated
-  pair_more t u _ pair_turned = pair_turned
-  pair_more t u _ exchanged = exchanged
-  pair_more t u _ (joined a b x h k made) = joined a b x (refers_more a t h) (refers_more b u k) (to_join_more a b x made)
 
 module _ (p : Site) (v w : TermsView) (more : Grows v.pass w.pass) where
   abbrev refers : (r : ℕ) (t : Term) → RefersTo p.symbols.now v r t → RefersTo p.symbols.now w r t
@@ -158,25 +138,45 @@ module _ (p : Site) (v w : TermsView) (more : Grows v.pass w.pass) where
     right_put_in = put_in_more h.right u h.right_put_in;
   })
 
-  either_more : (t u : Term) → AreLinkedEitherWay p v t u → AreLinkedEitherWay p w t u
-  either_more t u (inl h) = inl (linked_more t u h)
-  either_more t u (inr h) = inr (linked_more u t h)
+  concluded_more : (t u : Term) → AreConcluded p v t u → AreConcluded p w t u
+  concluded_more t u h = record {
+    rule = h.rule;
+    before = h.before;
+    reference = h.reference;
+    clause = h.clause;
+    refers = refers h.reference (equality t u) h.refers;
+  }
+
+  matched_more : (t u : Term) → AreMatched p v t u → AreMatched p w t u
+  matched_more t u (inl h) = inl (concluded_more t u h)
+  matched_more t u (inr h) = inr (implied_more t u h)
+
+  ordered_more : (t u : Term) → AreOrdered p v t u → AreOrdered p w t u
+  ordered_more _ _ (linked t u h) = linked t u (linked_more t u h)
+  ordered_more _ _ (arguments t u x y h at) = arguments t u x y (matched_more t u h) at
+  ordered_more _ _ (outer a b c d h) = outer a b c d (matched_more (equality a b) (equality c d) h)
+  ordered_more _ _ (inner a b c d h) = inner a b c d (matched_more (equality a b) (equality c d) h)
+  ordered_more _ _ (reversed a b c d h) = reversed a b c d (matched_more (equality a b) (equality c d) h)
+  ordered_more _ _ (turned a b c d h) = turned a b c d (matched_more (equality a b) (equality c d) h)
 
   pub paired_more : (t u : Term) → ArePaired p v t u → ArePaired p w t u
-  paired_more _ _ (linked t u h) = linked t u (either_more t u h)
-  paired_more _ _ (arguments t u x y h at) = arguments t u x y (either_more t u h) at
-  paired_more _ _ (sides a b u h) = sides a b u (either_more (equality a b) u h)
-  paired_more _ _ (outer a b c d h) = outer a b c d (either_more (equality a b) (equality c d) h)
-  paired_more _ _ (inner a b c d h) = inner a b c d (either_more (equality a b) (equality c d) h)
-  paired_more _ _ (turned a b u h) = turned a b u (either_more (equality a b) u h)
+  paired_more t u (inl h) = inl (ordered_more t u h)
+  paired_more t u (inr h) = inr (ordered_more u t h)
+
+  pub root_more : (r : ℕ) → IsRootOf p v r → IsRootOf p w r
+  root_more r (root_literal h) = root_literal h
+  root_more r (asserted t h) = asserted t (first_more t r h)
+  root_more r (side t u h k) = side t u (put_in_more t u h) (refers r u k)
 
   stated_more : (x : Term) → IsStatedFor p v x → IsStatedFor p w x
-  stated_more _ (paired t u x h k) = paired t u x (paired_more t u h) (pair_more p.symbols.now v w more t u x k)
+  stated_more _ (paired t u x h k) = paired t u x (paired_more t u h) k
   stated_more _ (literal x h) = literal x (literal_more x h)
+  stated_more _ (formed root x h k) = formed root x (root_more root h) (made_from_more p.symbols.now v w more root x k)
 
   pub made_more : (x : Term) → IsMadeFor p v x → IsMadeFor p w x
   made_more _ (stated x h) = stated x (stated_more x h)
-  made_more _ (denied x h) = denied x (stated_more x h)
+  made_more _ (denied t u h) = denied t u (paired_more t u h)
+  made_more _ (apart t u h) = apart t u (paired_more t u h)
 
   pub placed_more : (x : Term) → IsPlacedFor p v x → IsPlacedFor p w x
   placed_more x (inl h) = inl (made_more x h)
@@ -186,11 +186,6 @@ module _ (p : Site) (v w : TermsView) (more : Grows v.pass w.pass) where
     stand = items_more p.symbols.now v w more p.proof.now h.proof h.stand;
     image = h.image;
   })
-
-  pub root_more : (r : ℕ) → IsRootOf p v r → IsRootOf p w r
-  root_more r (root_literal h) = root_literal h
-  root_more r (asserted t h) = asserted t (first_more t r h)
-  root_more r (side t u h k) = side t u (put_in_more t u h) (refers r u k)
 
   pub few_more : (n : ℕ) → IsFew p v n → IsFew p w n
   few_more n h = record {

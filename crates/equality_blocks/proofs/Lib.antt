@@ -9,3 +9,4 @@ pub mod BlockLemmas
 pub mod ClosingLemmas
 pub mod EndLemmas
 pub mod FewLemmas
+pub mod JoinedTerms

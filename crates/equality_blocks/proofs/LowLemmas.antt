@@ -28,13 +28,14 @@ use Rattle.elaboration_laws.proofs.Anchors.{own_list}
 use Rattle.elaboration_laws.proofs.Lowering.{low_at}
 use Rattle.elaboration_laws.proofs.Ones.{one_anchors, one_clause}
 use Rattle.equality_steps.specs.declared.site.Site.{Site}
-use Rattle.flip_steps.specs.Stages.{IsMadeToJoin}
+use Rattle.flip_steps.specs.Stages.{IsMadeFrom}
 use Rattle.equality_blocks.specs.Commands.{IsToElaborate, IsLiteralOfCommand, clause_of_command}
-use Rattle.equality_blocks.specs.Made.{IsMadeForPair, left, right, equated, turned, exchanged, joined, IsStatedFor, paired, IsMadeFor, stated, denied}
-use Rattle.equality_blocks.specs.Made.{literal as stated_literal}
-use Rattle.equality_blocks.specs.Pairs.{AreAssumed, AreEquated, AreImplied, AreLinkedBy, AreLinkedEitherWay, ArePaired, IsPutIn}
-use Rattle.equality_blocks.specs.Pairs.{assumed, implied, put_in_one, put_in_both, linked, arguments, sides, outer, inner}
-use Rattle.equality_blocks.specs.Pairs.{equated as linked_equated, turned as paired_turned}
+use Rattle.equality_blocks.specs.Counts.{IsRootOf, literal as root_literal, asserted as root_asserted, side as root_side}
+use Rattle.equality_blocks.specs.Made.{IsMadeForPair, left, right, equated, turned as turned_pair, exchanged, IsStatedFor, paired, formed}
+use Rattle.equality_blocks.specs.Made.{literal as stated_literal, IsMadeFor, stated, denied, apart}
+use Rattle.equality_blocks.specs.Pairs.{AreAssumed, AreConcluded, AreEquated, AreImplied, AreLinkedBy, AreMatched, AreOrdered, ArePaired, IsPutIn}
+use Rattle.equality_blocks.specs.Pairs.{assumed, implied, put_in_one, put_in_both, linked, arguments, outer, inner, reversed, turned}
+use Rattle.equality_blocks.specs.Pairs.{equated as linked_equated}
 use Rattle.equality_blocks.proofs.LiteralLemmas.{literal_low, own_anchors_stand, referred_among, within_terms}
 
 -- terms that are put in for variables make a term higher by their height at most
@@ -92,10 +93,10 @@ unfolding height highest
 negation_height t = omega arith
 
 -- of the law of `flip_steps`
-abbrev pub JoinIsLow : Type 0
-JoinIsLow =
-    (s : Table) (v : TermsView) → IsTable s → IsOneToOne v.pass → (a b : ℕ) (x t u : Term) → IsMadeToJoin s v a b x →
-    RefersTo s v a t → RefersTo s v b u → height x ≤ max (height t) (height u) + 1
+abbrev pub FromIsLow : Type 0
+FromIsLow =
+    (s : Table) (v : TermsView) → IsTable s → IsOneToOne v.pass → (root : ℕ) (x t : Term) → IsMadeFrom s v root x → RefersTo s v root t →
+    height x ≤ height t + 1
 
 -- of the law of `proof_store`
 abbrev pub StandForOne : Type 0
@@ -115,7 +116,7 @@ record AreBelow (n : ℕ) (t u : Term) : Type 0 where
   pub left : height t ≤ n
   pub right : height u ≤ n
 
-module _ (join_low : JoinIsLow) (p : Site) (v : TermsView) (c : IsToElaborate p v) (n : ℕ) (low : IsLowProof n c.proof)
+module _ (from_low : FromIsLow) (p : Site) (v : TermsView) (c : IsToElaborate p v) (n : ℕ) (low : IsLowProof n c.proof)
     (assertions_low : All (λ a. height a ≤ n) c.assertions) where
   literal_below : (t : Term) → IsLiteralOfCommand p v t → height t ≤ n
   literal_below t h = literal_low p v c n low t h
@@ -198,49 +199,61 @@ module _ (join_low : JoinIsLow) (p : Site) (v : TermsView) (c : IsToElaborate p 
   linked_below t u (put_in_one h) = let b = put_in_below t u h in let x = b.0 in record { left = omega (arith, x); right = b.1 }
   linked_below t u (put_in_both h) = record { left = (put_in_below h.left t h.left_put_in).1; right = (put_in_below h.right u h.right_put_in).1 }
 
-  either_below : (t u : Term) → AreLinkedEitherWay p v t u → AreBelow (2 * n) t u
-  either_below t u (inl h) = linked_below t u h
-  either_below t u (inr h) = let b = linked_below u t h in record { left = b.right; right = b.left }
+  concluded_below : (t u : Term) → AreConcluded p v t u → AreBelow n t u
+  concluded_below t u h =
+      let there = subst (λ rs. Contains rs h.reference) (sym h.clause)
+      (Contains-append_right h.before (h.reference ∷ []) h.reference (contains_head h.reference [])) in
+      let whole = of_clause h.reference (equality t u) there h.refers in
+      let e = equality_height t u in
+      record { left = omega (arith, whole, e); right = omega (arith, whole, e) }
 
-  paired_below : (t u : Term) → ArePaired p v t u → AreBelow (2 * n) t u
-  paired_below _ _ (linked t u h) = either_below t u h
-  paired_below _ _ (arguments t u x y h k) =
-      let b = either_below t u h in
+  matched_below : (t u : Term) → AreMatched p v t u → AreBelow n t u
+  matched_below t u (inl h) = concluded_below t u h
+  matched_below t u (inr h) = implied_below t u h
+
+  crossed_below : (a b c d x y : Term) → AreMatched p v (equality a b) (equality c d) → (height x ≤ max (height a) (height b) + 1)
+      → (height y ≤ max (height c) (height d) + 1) → AreBelow n x y
+  crossed_below a b c d x y h first second =
+      let k = matched_below (equality a b) (equality c d) h in
+      let one = k.left in
+      let other = k.right in
+      let e = equality_height a b in
+      let f = equality_height c d in
+      record { left = omega (arith, one, e, first); right = omega (arith, other, f, second) }
+
+  twice : (t u : Term) → AreBelow n t u → AreBelow (2 * n) t u
+  twice t u b = let x = b.left in let y = b.right in record { left = omega (arith, x); right = omega (arith, y) }
+
+  ordered_below : (t u : Term) → AreOrdered p v t u → AreBelow (2 * n) t u
+  ordered_below _ _ (linked t u h) = linked_below t u h
+  ordered_below _ _ (arguments t u x y h k) =
+      let b = matched_below t u h in
       let first = b.left in
       let second = b.right in
       let one = argument_less t x k.place k.left in
       let other = argument_less u y k.place k.right in
       record { left = omega (arith, first, one); right = omega (arith, second, other) }
-  paired_below _ _ (sides a b u h) =
-      let x = (either_below (equality a b) u h).left in
+  ordered_below _ _ (outer a b c d h) = twice a d (crossed_below a b c d a d h (omega arith) (omega arith))
+  ordered_below _ _ (inner a b c d h) = twice b c (crossed_below a b c d b c h (omega arith) (omega arith))
+  ordered_below _ _ (reversed a b c d h) =
+      let k = (matched_below (equality a b) (equality c d) h).left in
       let e = equality_height a b in
-      record { left = omega (arith, x, e); right = omega (arith, x, e) }
-  paired_below _ _ (outer a b d f h) =
-      let k = either_below (equality a b) (equality d f) h in
-      let x = k.left in
-      let y = k.right in
-      let e = equality_height a b in
-      let g = equality_height d f in
-      record { left = omega (arith, x, e); right = omega (arith, y, g) }
-  paired_below _ _ (inner a b d f h) =
-      let k = either_below (equality a b) (equality d f) h in
-      let x = k.left in
-      let y = k.right in
-      let e = equality_height a b in
-      let g = equality_height d f in
-      record { left = omega (arith, x, e); right = omega (arith, y, g) }
-  paired_below _ _ (paired_turned a b u h) =
-      let k = either_below (equality a b) u h in
-      let x = k.left in
-      let e = equality_height a b in
-      let g = equality_height b a in
-      record { left = omega (arith, x, e, g); right = k.right }
+      let f = equality_height b a in
+      record { left = omega (arith, k); right = omega (arith, k, e, f) }
+  ordered_below _ _ (turned a b c d h) =
+      let e = equality_height b a in
+      let f = equality_height c d in
+      twice (equality b a) (equality c d) (crossed_below a b c d (equality b a) (equality c d) h (omega (arith, e)) (omega (arith, f)))
 
-  for_pair_below : (t u x : Term) → AreBelow (2 * n) t u → IsMadeForPair p.symbols.now v t u x → height x ≤ 2 * n + 2
+  paired_below : (t u : Term) → ArePaired p v t u → AreBelow (2 * n) t u
+  paired_below t u (inl h) = ordered_below t u h
+  paired_below t u (inr h) = let b = ordered_below u t h in record { left = b.right; right = b.left }
+
+  for_pair_below : (t u x : Term) → AreBelow (2 * n) t u → IsMadeForPair t u x → height x ≤ 2 * n + 2
   for_pair_below t u _ b left = let y = b.left in omega (arith, y)
   for_pair_below t u _ b right = let y = b.right in omega (arith, y)
   for_pair_below t u _ b equated = let y = b.left in let z = b.right in let e = equality_height t u in omega (arith, y, z, e)
-  for_pair_below t u _ b turned = let y = b.left in let z = b.right in let e = equality_height u t in omega (arith, y, z, e)
+  for_pair_below t u _ b turned_pair = let y = b.left in let z = b.right in let e = equality_height u t in omega (arith, y, z, e)
   for_pair_below t u _ b exchanged =
       let y = b.left in
       let z = b.right in
@@ -248,24 +261,43 @@ module _ (join_low : JoinIsLow) (p : Site) (v : TermsView) (c : IsToElaborate p 
       let f = equality_height u t in
       let g = equality_height (equality t u) (equality u t) in
       omega (arith, y, z, e, f, g)
-  for_pair_below t u _ b (joined q r x first second made) =
-      let y = b.left in
-      let z = b.right in
-      let j = join_low p.symbols.now v c.table c.known q r x t u made first second in
-      omega (arith, y, z, j)
+
+  from_below : (root : ℕ) (x t : Term) → IsMadeFrom p.symbols.now v root x → RefersTo p.symbols.now v root t → height t ≤ 2 * n → height x ≤ 2 * n + 2
+  from_below root x t made refers low = let h = from_low p.symbols.now v c.table c.known root x t made refers in omega (arith, h, low)
+
+  formed_below : (root : ℕ) (x : Term) → IsRootOf p v root → IsMadeFrom p.symbols.now v root x → height x ≤ 2 * n + 2
+  formed_below root x (root_literal among) made =
+      let t = made.stands.whole in
+      let h = literal_below t (record { reference = root; among = among; refers = made.stands.whole_refers }) in
+      from_below root x t made made.stands.whole_refers (omega (arith, h))
+  formed_below root x (root_asserted u first) made =
+      let t = made.stands.whole in
+      let h = assertion_below root t
+      (subst (λ rs. Contains rs root) (sym first.asserted) (Contains-append_right first.before (root ∷ first.after) root (contains_head root first.after)))
+      made.stands.whole_refers in
+      from_below root x t made made.stands.whole_refers (omega (arith, h))
+  formed_below root x (root_side t u put refers) made = from_below root x u made refers (put_in_below t u put).1
 
   stated_below : (x : Term) → IsStatedFor p v x → height x ≤ 2 * n + 2
   stated_below _ (paired t u x h k) = for_pair_below t u x (paired_below t u h) k
   stated_below _ (stated_literal x h) = let y = literal_below x h in omega (arith, y)
+  stated_below _ (formed root x h k) = formed_below root x h k
 
   made_below : (x : Term) → IsMadeFor p v x → height x ≤ 2 * n + 10
   made_below _ (stated x h) = let y = stated_below x h in omega (arith, y)
-  made_below _ (denied x h) = let y = stated_below x h in let e = negation_height x in omega (arith, y, e)
+  made_below _ (denied t u h) = let y = (paired_below t u h).left in let e = negation_height t in omega (arith, y, e)
+  made_below _ (apart t u h) =
+      let b = paired_below t u h in
+      let y = b.left in
+      let z = b.right in
+      let e = equality_height t u in
+      let f = negation_height (equality t u) in
+      omega (arith, y, z, e, f)
 
-pub made_low : JoinIsLow → StandForOne → (p : Site) (v : TermsView) (proof : ProofItems Var Term) (assertions : List Term) (n : ℕ) (x : Term)
+pub made_low : FromIsLow → StandForOne → (p : Site) (v : TermsView) (proof : ProofItems Var Term) (assertions : List Term) (n : ℕ) (x : Term)
     → IsToElaborate p v → StandForItems p.symbols.now v p.proof.now proof → ReferToAll p.symbols.now v p.asserted.now assertions
     → All (λ a. height a ≤ n) assertions → IsLowProof n proof → IsMadeFor p v x → height x ≤ 2 * n + 10
-made_low join_low one_of p v proof assertions n x c stand refer low_assertions low made =
+made_low from_low one_of p v proof assertions n x c stand refer low_assertions low made =
     let same_proof = one_of p.symbols.now v p.proof.now proof c.proof c.table c.known stand c.stand in
     let same_assertions = one_clause p.symbols.now v c.known (one_term p.symbols.now c.table) p.asserted.now assertions c.assertions refer c.asserted in
-    made_below join_low p v c n (subst (IsLowProof n) same_proof low) (subst (All (λ a. height a ≤ n)) same_assertions low_assertions) x made
+    made_below from_low p v c n (subst (IsLowProof n) same_proof low) (subst (All (λ a. height a ≤ n)) same_assertions low_assertions) x made

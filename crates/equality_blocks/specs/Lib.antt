@@ -1,5 +1,5 @@
 pub mod Commands
 pub mod Pairs
-pub mod Made
 pub mod Counts
+pub mod Made
 pub mod Blocks

@@ -3,35 +3,37 @@ use Rattle.std.specs.Prelude.{◌≡◌, ◌⊎◌, ℕ, Bool, List, slice_get, 
 use Rattle.term_model.specs.Flips.{equality}
 use Rattle.term_model.specs.Terms.{Var, Term, not_of}
 use Rattle.term_pool.specs.Views.{TermsView, RefersTo}
-use Rattle.sym_table.specs.Table.{Table}
 use Rattle.proof_contexts.specs.OpenAnchors.{IsAnchorImage}
 use Rattle.proof_store.specs.AddedSteps.{AddedStep}
 use Rattle.proof_store.specs.Meaning.{StandForItems}
 use Rattle.rule_model.specs.declared.rules.Rule.{Rule}
 use Rattle.rule_model.specs.Proofs.{ProofItems}
 use Rattle.equality_steps.specs.declared.site.Site.{Site}
-use Rattle.flip_steps.specs.Stages.{IsMadeToJoin}
+use Rattle.flip_steps.specs.Stages.{IsMadeFrom}
 use Rattle.equality_blocks.specs.Commands.{IsLiteralOfCommand, rule_of_command}
+use Rattle.equality_blocks.specs.Counts.{IsRootOf}
 use Rattle.equality_blocks.specs.Pairs.{ArePaired}
 
--- x is one of two terms, an equality of them, says that the order of its sides does not matter, or is made to join the two
-pub data IsMadeForPair (s : Table) (v : TermsView) (t u : Term) : Term → Type 0 where
-  left : IsMadeForPair s v t u t
-  right : IsMadeForPair s v t u u
-  equated : IsMadeForPair s v t u (equality t u)
-  turned : IsMadeForPair s v t u (equality u t)
-  exchanged : IsMadeForPair s v t u (equality (equality t u) (equality u t))
-  joined : (a b : ℕ) (x : Term) → RefersTo s v a t → RefersTo s v b u → IsMadeToJoin s v a b x → IsMadeForPair s v t u x
+-- x is one of two terms, an equality of them, or says that the order of its sides does not matter
+pub data IsMadeForPair (t u : Term) : Term → Type 0 where
+  left : IsMadeForPair t u t
+  right : IsMadeForPair t u u
+  equated : IsMadeForPair t u (equality t u)
+  turned : IsMadeForPair t u (equality u t)
+  exchanged : IsMadeForPair t u (equality (equality t u) (equality u t))
 
--- x is so made for a pair of the command, or is a literal of it or of a premise's clause
+-- x is so made for a pair of the command, is a literal of it or of a premise's clause, or is what `flip_steps` makes of what stands in
+-- a term of the command
 pub data IsStatedFor (p : Site) (v : TermsView) : Term → Type 0 where
-  paired : (t u x : Term) → ArePaired p v t u → IsMadeForPair p.symbols.now v t u x → IsStatedFor p v x
+  paired : (t u x : Term) → ArePaired p v t u → IsMadeForPair t u x → IsStatedFor p v x
   literal : (x : Term) → IsLiteralOfCommand p v x → IsStatedFor p v x
+  formed : (root : ℕ) (x : Term) → IsRootOf p v root → IsMadeFrom p.symbols.now v root x → IsStatedFor p v x
 
--- so is x, or the term of which it is the negation
+-- so is x; or it denies one of two terms that are paired, or that they are equal
 pub data IsMadeFor (p : Site) (v : TermsView) : Term → Type 0 where
   stated : (x : Term) → IsStatedFor p v x → IsMadeFor p v x
-  denied : (x : Term) → IsStatedFor p v x → IsMadeFor p v (not_of x)
+  denied : (t u : Term) → ArePaired p v t u → IsMadeFor p v (not_of t)
+  apart : (t u : Term) → ArePaired p v t u → IsMadeFor p v (not_of (equality t u))
 
 -- the image of a variable that an anchor binds, which a refl may put in
 pub record IsImageFor (p : Site) (v : TermsView) (t : Term) : Type 0 where

@@ -1,6 +1,6 @@
--- Public. The pairs of terms that a command equates, and those that are joined on the way: arguments at one place, sides of an
--- equality, and an equality with its sides exchanged.
-use Rattle.std.specs.Prelude.{◌≡◌, ◌⊎◌, ◌++◌, [], ◌∷◌, ℕ, List, slice_get, Some, Contains}
+-- Public. The pairs of terms that a command equates, and those that are equated on the way: by a rule of congruence, arguments at one
+-- place, and of two equalities sides crosswise and the first one with its sides exchanged.
+use Rattle.std.specs.Prelude.{⊤, ◌≡◌, ◌⊎◌, ◌++◌, [], ◌∷◌, ℕ, List, slice_get, Some, Contains}
 use Rattle.term_model.specs.Flips.{equality, EqualUpToFlips}
 use Rattle.term_model.specs.Terms.{Var, Term, not_of}
 use Rattle.term_pool.specs.Reading.{arguments_of}
@@ -77,9 +77,24 @@ pub data AreLinkedBy (p : Site) (v : TermsView) (t u : Term) : Type 0 where
   put_in_one : IsPutIn p v t u → AreLinkedBy p v t u
   put_in_both : AreBothPutIn p v t u → AreLinkedBy p v t u
 
--- in either order
-abbrev pub AreLinkedEitherWay : Site → TermsView → Term → Term → Type 0
-AreLinkedEitherWay p v t u = AreLinkedBy p v t u ⊎ AreLinkedBy p v u t
+-- the rules that conclude from equal arguments
+abbrev pub IsOfCongruence : Rule → Type 0
+IsOfCongruence Rule.Cong = ⊤
+IsOfCongruence Rule.EqCongruent = ⊤
+IsOfCongruence Rule.EqCongruentPred = ⊤
+IsOfCongruence rule = ⊥
+
+-- the clause of a command by such a rule ends in the equality of the two terms
+pub record AreConcluded (p : Site) (v : TermsView) (t u : Term) : Type 0 where
+  pub rule : IsOfCongruence (rule_of_command p)
+  pub before : List ℕ
+  pub reference : ℕ
+  pub clause : clause_of_command p ≡ before ++ reference ∷ []
+  pub refers : RefersTo p.symbols.now v reference (equality t u)
+
+-- by such a rule the clause says that the two terms are equal, or that the one gives the other
+abbrev pub AreMatched : Site → TermsView → Term → Term → Type 0
+AreMatched p v t u = AreConcluded p v t u ⊎ AreImplied p v t u
 
 -- x and y are arguments of t and u at one place
 pub record AreAtOnePlace (t u x y : Term) : Type 0 where
@@ -87,12 +102,17 @@ pub record AreAtOnePlace (t u x y : Term) : Type 0 where
   pub left : slice_get (arguments_of t) place ≡ Some x
   pub right : slice_get (arguments_of u) place ≡ Some y
 
--- Two terms that may be joined for the command: it links them; they are arguments of linked terms at one place; they are the two sides
--- of a linked equality; they are sides of two linked equalities, crosswise; or the one is a linked equality with its sides exchanged.
-pub data ArePaired (p : Site) (v : TermsView) : Term → Term → Type 0 where
-  linked : (t u : Term) → AreLinkedEitherWay p v t u → ArePaired p v t u
-  arguments : (t u x y : Term) → AreLinkedEitherWay p v t u → AreAtOnePlace t u x y → ArePaired p v x y
-  sides : (a b u : Term) → AreLinkedEitherWay p v (equality a b) u → ArePaired p v a b
-  outer : (a b c d : Term) → AreLinkedEitherWay p v (equality a b) (equality c d) → ArePaired p v a d
-  inner : (a b c d : Term) → AreLinkedEitherWay p v (equality a b) (equality c d) → ArePaired p v b c
-  turned : (a b u : Term) → AreLinkedEitherWay p v (equality a b) u → ArePaired p v (equality b a) u
+-- Two terms that may be equated for the command: it links them; they are arguments of matched terms at one place; or two equalities are
+-- matched, which may be linked crosswise: then they are sides of the two, crosswise, or the first one and the same with its sides
+-- exchanged, or this and the second one.
+pub data AreOrdered (p : Site) (v : TermsView) : Term → Term → Type 0 where
+  linked : (t u : Term) → AreLinkedBy p v t u → AreOrdered p v t u
+  arguments : (t u x y : Term) → AreMatched p v t u → AreAtOnePlace t u x y → AreOrdered p v x y
+  outer : (a b c d : Term) → AreMatched p v (equality a b) (equality c d) → AreOrdered p v a d
+  inner : (a b c d : Term) → AreMatched p v (equality a b) (equality c d) → AreOrdered p v b c
+  reversed : (a b c d : Term) → AreMatched p v (equality a b) (equality c d) → AreOrdered p v (equality a b) (equality b a)
+  turned : (a b c d : Term) → AreMatched p v (equality a b) (equality c d) → AreOrdered p v (equality b a) (equality c d)
+
+-- in either order
+abbrev pub ArePaired : Site → TermsView → Term → Term → Type 0
+ArePaired p v t u = AreOrdered p v t u ⊎ AreOrdered p v u t

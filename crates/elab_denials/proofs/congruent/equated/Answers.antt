@@ -60,7 +60,7 @@ returns-clause-begun c =
     let given = c.requires.given in
     let q = c.in-Some-sides_of.sides in
     some_map (IsMatchOf p v given.sides q.0 q.1) (IsBegun p v c.args.table.now) c.in_ok-found.found
-    (λ m found. begun_here p v one c.args.table.now c.in-Some.split.0.now c.in-Some.split.1 literal.means q given m (own_literals p v c.requires.job) split
+    (λ m found. begun_here p v one c.requires.rule c.args.table.now c.in-Some.split.0.now c.in-Some.split.1 literal.means q given m (own_literals p v c.requires.job) split
     literal.refers both found) ((rw c.in-Some-sides_of.ensures.same at c.in_ok-found.ensures.matched) given.sides given.given.is_table)
 
 pub returns-clause-none : goal.returns-clause-none

@@ -1,3 +1,4 @@
+use Rattle.std.proofs.Common.{inl}
 use Rattle.rule_model.specs.Reading.{clause_at, premise_clauses}
 use Rattle.elab_denials.proofs.CongruentLemmas.{congruent_met, own_clause}
 use Rattle.elab_denials.proofs.congruent.planned.Goals as goal
@@ -9,3 +10,6 @@ unreachable-requires c =
     let h = c.requires.job in
     (rw (c.in_ok-table.ensures.same, c.in_default.is) at c.in_ok-found.ensures.none) (premise_clauses h.proof p.command) (clause_at h.proof p.command) (own_clause p v h)
     (congruent_met p v h c.requires.rule)
+
+pub equated-requires-clause-rule : goal.equated-requires-clause-rule
+equated-requires-clause-rule c = inl c.requires.rule

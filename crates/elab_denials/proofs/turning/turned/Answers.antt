@@ -5,9 +5,9 @@ use Rattle.term_model.specs.Terms.{not_of}
 use Rattle.equality_steps.proofs.SiteLemmas.{equality_fits, sides_turned}
 use Rattle.equality_steps.specs.Sites.{IsLiteralAt}
 use Rattle.flip_steps.proofs.OrderLemmas.{keeps_then}
-use Rattle.equality_blocks.specs.Made.{denied, stated}
+use Rattle.equality_blocks.specs.Made.{apart, stated}
 use Rattle.equality_blocks.proofs.StayLemmas.{made_later}
-use Rattle.elab_denials.proofs.OwingLemmas.{equality_made, turned_made}
+use Rattle.elab_denials.proofs.OwingLemmas.{equality_made}
 use Rattle.elab_denials.proofs.Results.{handed_on}
 use Rattle.elab_denials.proofs.WorkLemmas.{done_then, equality_later, exchanged_at, later, one_side, other_side, went_then, work_later}
 use Rattle.elab_denials.proofs.turning.turned.Goals as goal
@@ -109,7 +109,7 @@ implied-requires-clause-made c =
       other_refers = later p c.equality-2.new.terms c.symmetric.new.terms third c.in_ok-other.other (equality h.left h.right)
           (c.in_ok-other.ensures.refers h.left h.right (later p c.args.terms.now c.equality.new.terms first c.args.a h.left h.left_refers)
           (later p c.args.terms.now c.equality.new.terms first c.args.b h.right h.right_refers));
-      denied_made = made_later p v w all (not_of (equality h.right h.left)) (denied (equality h.right h.left) (turned_made p v c.args.a c.args.b h));
+      denied_made = made_later p v w all (not_of (equality h.right h.left)) (apart h.right h.left h.back);
       other_made = made_later p v w all (equality h.left h.right) (stated (equality h.left h.right) (equality_made p v c.args.a c.args.b h));
     }
 

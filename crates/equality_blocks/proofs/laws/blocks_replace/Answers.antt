@@ -6,7 +6,7 @@ returns-clause-strict c p v checking proof block stand refer h = block_strict p 
 
 pub returns-clause-fitting : goal.returns-clause-fitting
 returns-clause-fitting c p v checking proof block stand refer h =
-    block_fits p v checking proof stand refer block h c.what_is_made_is_low.ensures.join c.proofs_stand_for_one.ensures.one
+    block_fits p v checking proof stand refer block h c.what_is_made_is_low.ensures.from c.proofs_stand_for_one.ensures.one
 
 pub returns-clause-added : goal.returns-clause-added
 returns-clause-added c p v line block there h = block_added p v line block there h

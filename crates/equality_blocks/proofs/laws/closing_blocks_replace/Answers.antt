@@ -6,7 +6,7 @@ returns-clause-strict c p v checking proof block stand refer h = closing_strict 
 
 pub returns-clause-fitting : goal.returns-clause-fitting
 returns-clause-fitting c p v checking proof block stand refer h =
-    closing_fits p v checking proof stand refer block h c.what_is_made_is_low.ensures.join c.proofs_stand_for_one.ensures.one
+    closing_fits p v checking proof stand refer block h c.what_is_made_is_low.ensures.from c.proofs_stand_for_one.ensures.one
 
 pub returns-clause-added : goal.returns-clause-added
 returns-clause-added c p v line block there h = closing_added p v line block there h

@@ -27,7 +27,7 @@ match_all-requires-clause-matched c =
     let p = c.args.at.now in
     let v = c.args.terms.now in
     rw c.in_ok-matched.ensures.same
-    (add_matched p v c.requires.job c.requires.work.block.site c.args.x.now c.requires.applications _ refl refl c.deref-then-matched.ensures.value c.deref-then-matched-2.ensures.value
+    (add_matched p v c.requires.job c.requires.rule c.requires.work.block.site c.args.x.now c.requires.applications _ refl refl c.deref-then-matched.ensures.value c.deref-then-matched-2.ensures.value
     (matched_as p v c.deref.result.now c.deref-2.result.now c.args.x.now.lefts.items c.args.x.now.rights.items c.deref.ensures.value c.deref-2.ensures.value
     (true_then c.in_ok-matched.matched (AreMatchedArguments p v c.deref.result.now c.deref-2.result.now) c.if-matched.true c.in_ok-matched.ensures.matched)))
 
@@ -47,10 +47,10 @@ pub index-requires-2 : goal.index-requires-2
 index-requires-2 c =
     let p = c.args.at.now in
     let v = c.args.terms.now in
-    let t = crossed_twos p v c.requires.job c.requires.work.block.site c.args.x.now c.requires.applications
+    let t = crossed_twos p v c.requires.job c.requires.rule c.requires.work.block.site c.args.x.now c.requires.applications
     (crossed_as p v c.deref.result.now c.deref-2.result.now c.args.x.now.lefts.items c.args.x.now.rights.items c.deref.ensures.value c.deref-2.ensures.value
     (false_then c.in_ok-matched.matched (AreCrossedArguments p v c.deref.result.now c.deref-2.result.now) c.if-matched.false c.in_ok-matched.ensures.crossed)) in
-    let long = twos_long p v c.requires.job c.requires.work.block.site c.args.x.now c.requires.applications t in
+    let long = twos_long p v c.requires.job c.requires.rule c.requires.work.block.site c.args.x.now c.requires.applications t in
     let here = long.0 in
     omega (arith, here)
 
@@ -58,10 +58,10 @@ pub index-requires-4 : goal.index-requires-4
 index-requires-4 c =
     let p = c.args.at.now in
     let v = c.args.terms.now in
-    let t = crossed_twos p v c.requires.job c.requires.work.block.site c.args.x.now c.requires.applications
+    let t = crossed_twos p v c.requires.job c.requires.rule c.requires.work.block.site c.args.x.now c.requires.applications
     (crossed_as p v c.deref.result.now c.deref-2.result.now c.args.x.now.lefts.items c.args.x.now.rights.items c.deref.ensures.value c.deref-2.ensures.value
     (false_then c.in_ok-matched.matched (AreCrossedArguments p v c.deref.result.now c.deref-2.result.now) c.if-matched.false c.in_ok-matched.ensures.crossed)) in
-    let long = twos_long p v c.requires.job c.requires.work.block.site c.args.x.now c.requires.applications t in
+    let long = twos_long p v c.requires.job c.requires.rule c.requires.work.block.site c.args.x.now c.requires.applications t in
     let here = long.1 in
     omega (arith, here)
 
@@ -69,13 +69,13 @@ pub cross-requires-clause-crossed : goal.cross-requires-clause-crossed
 cross-requires-clause-crossed c =
     let p = c.args.at.now in
     let v = c.args.terms.now in
-    let t = crossed_twos p v c.requires.job c.requires.work.block.site c.args.x.now c.requires.applications
+    let t = crossed_twos p v c.requires.job c.requires.rule c.requires.work.block.site c.args.x.now c.requires.applications
     (crossed_as p v c.deref.result.now c.deref-2.result.now c.args.x.now.lefts.items c.args.x.now.rights.items c.deref.ensures.value c.deref-2.ensures.value
     (false_then c.in_ok-matched.matched (AreCrossedArguments p v c.deref.result.now c.deref-2.result.now) c.if-matched.false c.in_ok-matched.ensures.crossed)) in
-    let are = twos_are p v c.requires.job c.requires.work.block.site c.args.x.now c.requires.applications t c.index.result.now c.index-2.result.now
+    let are = twos_are p v c.requires.job c.requires.rule c.requires.work.block.site c.args.x.now c.requires.applications t c.index.result.now c.index-2.result.now
     c.index-3.result.now c.index-4.result.now c.index.ensures c.index-2.ensures c.index-3.ensures c.index-4.ensures in
     rw c.in_ok-matched.ensures.same
-    (add_crossed p v c.requires.job c.requires.work.block.site c.args.x.now c.requires.applications _ refl refl
+    (add_crossed p v c.requires.job c.requires.rule c.requires.work.block.site c.args.x.now c.requires.applications _ refl refl
     (crossed_as p v c.deref.result.now c.deref-2.result.now c.args.x.now.lefts.items c.args.x.now.rights.items c.deref.ensures.value c.deref-2.ensures.value
     (false_then c.in_ok-matched.matched (AreCrossedArguments p v c.deref.result.now c.deref-2.result.now) c.if-matched.false c.in_ok-matched.ensures.crossed)) are.0 are.1)
 
@@ -83,9 +83,9 @@ pub returns-clause-done : goal.returns-clause-done
 returns-clause-done c =
     let p = c.args.at.now in
     let v = c.args.terms.now in
-    let t = crossed_twos p v c.requires.job c.requires.work.block.site c.args.x.now c.requires.applications
+    let t = crossed_twos p v c.requires.job c.requires.rule c.requires.work.block.site c.args.x.now c.requires.applications
     (crossed_as p v c.deref.result.now c.deref-2.result.now c.args.x.now.lefts.items c.args.x.now.rights.items c.deref.ensures.value c.deref-2.ensures.value
     (false_then c.in_ok-matched.matched (AreCrossedArguments p v c.deref.result.now c.deref-2.result.now) c.if-matched.false c.in_ok-matched.ensures.crossed)) in
-    let long = twos_long p v c.requires.job c.requires.work.block.site c.args.x.now c.requires.applications t in
+    let long = twos_long p v c.requires.job c.requires.rule c.requires.work.block.site c.args.x.now c.requires.applications t in
     let here = long.0 in
     done_more p v c.cross.new.terms c.args.self.now c.cross.new.self _ _ c.cross.result (omega (arith, here)) (rw c.in_ok-matched.ensures.same at c.cross.ensures.done)
