@@ -1,4 +1,4 @@
--- A chain through premises, one of them more.
+-- Cited by crates above. A chain through premises, one of them more.
 use Rattle.std.proofs.Common.{◌≡◌, ◌≢◌, ◌↔◌, ◌<◌, ◌+◌, ℕ, zero, suc, inl, inr, false, List, [], ◌∷◌, length, take, drop}
 use Rattle.std.proofs.Common.{get_or, nat_eq, ◌-◌, refl, sym, ap, subst, Contains, IsTrue, arith}
 use Rattle.std.specs.Global.{Vec}

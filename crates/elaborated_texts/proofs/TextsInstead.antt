@@ -1,4 +1,4 @@
--- Cited by crates above. What is said in place of an elaboration.
+-- Private. What is said in place of an elaboration.
 use Rattle.std.proofs.Common.{◌⊎◌, inl, inr, ℕ, List, None}
 use Rattle.command_words.specs.declared.request.Options.{Options}
 use Rattle.judged_texts.specs.declared.judgement.Judgement.{Judgement}

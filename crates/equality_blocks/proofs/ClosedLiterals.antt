@@ -1,4 +1,4 @@
--- Private. In a well-formed, well-sorted proof the literals of a step and of its premises' clauses may stand where the
+-- Cited by crates above. In a well-formed, well-sorted proof the literals of a step and of its premises' clauses may stand where the
 -- step belongs; and no premise's literal is higher than those of the proof.
 use Rattle.std.proofs.Common.{◌≡◌, ◌<◌, ◌≤◌, inr, ℕ, slice_get, Some, refl, sym, ◌∙◌, ap, subst, arith, Contains}
 use Rattle.std.proofs.lemmas.List.Elements.{All-contains, All-from_recursion}

@@ -1,4 +1,4 @@
--- Private. What a command meets that is Ok in check mode, by a rule that no step which closes a scope has.
+-- Cited by crates above. What a command meets that is Ok in check mode, by a rule that no step which closes a scope has.
 use Rattle.std.proofs.Common.{◌≡◌, ℕ, false, Option, Some, None, refl, sym, ◌∙◌, subst}
 use Rattle.term_pool.specs.Views.{TermsView}
 use Rattle.rule_model.specs.declared.kinds.Family.{Family}

@@ -1,4 +1,4 @@
--- Private. Steps whose last one has the literal of the command are in its place.
+-- Cited by crates above. Steps whose last one has the literal of the command are in its place.
 use Rattle.std.proofs.Common.{◌≡◌, ◌-◌, ℕ, List, [], ◌∷◌, ◌++◌, length, slice_get, Some, None, refl, sym, ◌∙◌, ap, subst}
 use Rattle.pair_pool.specs.Views.{IsOneToOne}
 use Rattle.sym_table.specs.Table.{IsTable}

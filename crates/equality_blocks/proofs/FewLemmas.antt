@@ -1,4 +1,5 @@
--- Private. Terms have a number of cells, an application has as many arguments at most, and so steps for a command are few.
+-- Cited by crates above. Terms have a number of cells, an application has as many arguments at most, and so steps for a command are
+-- few.
 use Rattle.std.proofs.Common.{◌≡◌, ◌≢◌, ◌<◌, ◌≤◌, ◌+◌, ◌*◌, ◌⊎◌, inl, inr, ℕ, Bool, true, false, List, [], ◌∷◌, ◌++◌, length, nat_eq, Contains}
 use Rattle.std.proofs.Common.{refl, sym, ◌∙◌, ap, subst, arith}
 use Rattle.std.proofs.lemmas.Bool.{eqb-true, eq-eqb, true≢false}

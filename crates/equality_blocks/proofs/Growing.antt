@@ -1,4 +1,4 @@
--- Private. What is made for a command, and how many steps are few for it, stays so as more is known of the terms.
+-- Cited by crates above. What is made for a command, and how many steps are few for it, stays so as more is known of the terms.
 use Rattle.std.proofs.Common.{◌≡◌, ◌⊎◌, inl, inr, ℕ, List, [], ◌∷◌, slice_get, Some, Contains}
 use Rattle.std.specs.List.{AllZip}
 use Rattle.pair_pool.specs.Trees.{Tree}

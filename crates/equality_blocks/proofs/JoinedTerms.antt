@@ -1,4 +1,4 @@
--- Private. What is made to join two paired terms, which stand in terms of the command, is made for the command.
+-- Cited by crates above. What is made to join two paired terms, which stand in terms of the command, is made for the command.
 use Rattle.std.proofs.Common.{◌≡◌, inl, inr, ℕ, sym, refl, subst}
 use Rattle.term_model.specs.Flips.{equality}
 use Rattle.term_model.specs.Terms.{Term}

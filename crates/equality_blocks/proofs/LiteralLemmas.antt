@@ -1,4 +1,4 @@
--- Private. The literals of a command over terms, and where steps may be added for it.
+-- Cited by crates above. The literals of a command over terms, and where steps may be added for it.
 use Rattle.std.proofs.Common.{◌≡◌, ◌<◌, ◌≤◌, ◌⊎◌, inl, inr, ℕ, List, [], ◌∷◌, ◌++◌, map, flat_map, All, Contains, refl, sym, ◌∙◌, subst}
 use Rattle.std.specs.List.{AllZip, AllByRecursion}
 use Rattle.std.proofs.lemmas.List.Elements.{All-contains_itself, All-weaker, Contains-append_cases}

@@ -1,4 +1,4 @@
--- Private. How high the terms are that are made for a command.
+-- Cited by crates above. How high the terms are that are made for a command.
 use Rattle.std.proofs.Common.{◌≡◌, ◌≤◌, ◌<◌, ◌+◌, ◌*◌, ◌⊎◌, inl, inr, ℕ, Bool, true, false, not, max, List, [], ◌∷◌, ◌++◌, flat_map}
 use Rattle.std.proofs.Common.{Option, Some, None, All, Contains, sym, ap, subst, arith, cond}
 use Rattle.std.specs.List.{AllByRecursion}

@@ -1,4 +1,4 @@
--- Private. What is asked of a command, and said of steps in its place, goes on being so as more terms are known.
+-- Cited by crates above. What is asked of a command, and said of steps in its place, goes on being so as more terms are known.
 use Rattle.std.proofs.Common.{ℕ, List}
 use Rattle.std.specs.List.{AllZip}
 use Rattle.pair_pool.specs.Views.{IsOneToOne}

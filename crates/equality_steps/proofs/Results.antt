@@ -1,4 +1,4 @@
--- Private. What is said of results.
+-- Cited by crates above. What is said of results.
 use Rattle.std.proofs.Common.{◌≡◌, Result, Ok, Err, IfOk, IfErr, OnOk, OnErr, IsErrAnd, sym, subst}
 
 pub if_ok : {A E : Type 0} (r : Result A E) (P Q : A → Type 0) → ((a : A) → P a → Q a) → IfOk r P → IfOk r Q

@@ -1,4 +1,4 @@
--- Terms that may stand at a site: equalities and their sides, and negations.
+-- Cited by crates above. Terms that may stand at a site: equalities and their sides, and negations.
 use Rattle.std.proofs.Common.{◌≡◌, inl, inr, ◌&&◌, Bool, true, false, List, [], ◌∷◌, Some, refl, sym, ap, subst}
 use Rattle.std.proofs.lemmas.Bool.{eqb-true, eq-eqb, true≢false}
 use Rattle.term_model.specs.declared.symbols.Op.{Op}

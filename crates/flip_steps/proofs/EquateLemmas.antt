@@ -1,4 +1,4 @@
--- Private. What is asked of the steps that say that an application is equal to its form.
+-- Cited by crates above. What is asked of the steps that say that an application is equal to its form.
 use Rattle.std.proofs.Common.{◌≡◌, ◌≢◌, ◌≤◌, ◌+◌, ◌⊎◌, inl, inr, ℕ, Bool, true, ◌&&◌, List, [], ◌∷◌, Option, Some, refl, sym, ◌∙◌, ap, subst, arith}
 use Rattle.pair_pool.specs.Views.{IsOneToOne}
 use Rattle.proof_store.specs.AddedSteps.{AddedStep}

@@ -1,4 +1,4 @@
--- Private. The laws of forms over a relation: one form, and what a form has of its term.
+-- Cited by crates above. The laws of forms over a relation: one form, and what a form has of its term.
 use Rattle.std.proofs.Common.{◌≡◌, ◌⊎◌, inl, inr, refl, sym, ◌∙◌, ap, subst, arith, max, ◌+◌, List, [], ◌∷◌, Bool, true, ◌&&◌, Some}
 use Rattle.term_model.specs.declared.symbols.Op.{Op}
 use Rattle.term_model.specs.declared.symbols.Sort.{Sort}

@@ -1,4 +1,4 @@
--- Private. What is known of the arguments of an application, and that it stays.
+-- Cited by crates above. What is known of the arguments of an application, and that it stays.
 use Rattle.std.proofs.Common.{◌≡◌, ◌≢◌, ◌<◌, ◌^◌, inl, inr, ℕ, Bool, true, false, List, [], ◌∷◌, ◌++◌, map, Option, Some, None, nat_lt, nat_eq}
 use Rattle.std.proofs.Common.{unwrap_or}
 use Rattle.std.proofs.Common.{if◌then◌else◌, Contains, refl, sym, ◌∙◌, ap, subst, arith}

@@ -1,4 +1,4 @@
--- Private. What is said of results that are handed on.
+-- Cited by crates above. What is said of results that are handed on.
 use Rattle.std.proofs.Common.{◌≡◌, refl, Result, Ok, Err, IfOk, IfErr, OnErr, IsErrAnd, Option, Some, None, IfSome, IfNone, IsSome, sym, subst}
 
 pub if_err : {A E : Type 0} (r : Result A E) (P : E → Type 0) → ((e : E) → P e) → IfErr r P

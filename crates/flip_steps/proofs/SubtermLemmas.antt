@@ -1,4 +1,4 @@
--- Private. What stands in a term outside lets, and a term with other arguments: sorts, free variables, heights.
+-- Cited by crates above. What stands in a term outside lets, and a term with other arguments: sorts, free variables, heights.
 use Rattle.std.proofs.Common.{◌≡◌, ◌≤◌, ◌<◌, ◌⊎◌, inl, inr, max, sym, subst, ap, arith, Contains}
 use Rattle.std.proofs.lemmas.List.Elements.{All-contains}
 use Rattle.term_model.specs.FreeVariables.{IsFree, IsFreeAmong}

@@ -1,4 +1,4 @@
--- Private. Steps with clauses of one literal: none, one, and some behind others.
+-- Cited by crates above. Steps with clauses of one literal: none, one, and some behind others.
 use Rattle.std.proofs.Common.{◌≡◌, ◌+◌, List, [], ◌∷◌, ◌++◌, length, append_assoc, sym, ◌∙◌, ap}
 use Rattle.std.proofs.lemmas.List.{append-nil, length-append}
 use Rattle.std.specs.List.{AllByRecursion}

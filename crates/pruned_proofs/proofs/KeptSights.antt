@@ -1,4 +1,4 @@
--- What can be seen where a command that is kept stands: of what could be seen before, what is kept.
+-- Cited by crates above. What can be seen where a command that is kept stands: of what could be seen before, what is kept.
 use Rattle.std.proofs.Common.{◌≡◌, ◌+◌, ◌⊎◌, inl, inr, ℕ, Bool, true, false, List, [], ◌∷◌, ◌++◌, map, Contains, refl, sym, ◌∙◌, ap, subst, arith, if◌then◌else◌}
 use Rattle.std.proofs.lemmas.List.{append-nil}
 use Rattle.term_model.proofs.Lists.{contains_none, contains_cases, contains_head, contains_later}

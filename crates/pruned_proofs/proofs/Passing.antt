@@ -1,4 +1,4 @@
--- Each command of what is left is Ok for the assertions that it uses, where the proof's commands are Ok.
+-- Cited by crates above. Each command of what is left is Ok for the assertions that it uses, where the proof's commands are Ok.
 use Rattle.std.proofs.Common.{◌≡◌, ◌<◌, ◌≤◌, ◌⊎◌, inl, inr, ℕ, zero, suc, Bool, true, false, List, [], ◌∷◌, ◌++◌, map, flat_map, length, replicate, slice_get, Option, Some, None, All, Any, Contains, refl, sym, ◌∙◌, ap, subst, arith}
 use Rattle.std.specs.Option.{option_map_or}
 use Rattle.std.proofs.lemmas.List.Elements.{All-contains}
