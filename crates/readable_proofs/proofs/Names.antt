@@ -110,6 +110,8 @@ operator_word Op.Ite = record { usable = refl; no_let = refl; no_mark = refl; be
 operator_word Op.Minus = record { usable = refl; no_let = refl; no_mark = refl; between = refl; built_in = refl }
 operator_word Op.Plus = record { usable = refl; no_let = refl; no_mark = refl; between = refl; built_in = refl }
 operator_word Op.Times = record { usable = refl; no_let = refl; no_mark = refl; between = refl; built_in = refl }
+operator_word Op.Div = record { usable = refl; no_let = refl; no_mark = refl; between = refl; built_in = refl }
+operator_word Op.Mod = record { usable = refl; no_let = refl; no_mark = refl; between = refl; built_in = refl }
 operator_word Op.LessEq = record { usable = refl; no_let = refl; no_mark = refl; between = refl; built_in = refl }
 operator_word Op.Less = record { usable = refl; no_let = refl; no_mark = refl; between = refl; built_in = refl }
 operator_word Op.GreaterEq = record { usable = refl; no_let = refl; no_mark = refl; between = refl; built_in = refl }

@@ -72,6 +72,11 @@ divides Op.Div ts = has_divisor ts
 divides Op.Mod ts = has_divisor ts
 divides _ ts = true
 
+-- whether the term itself, but for what is inside it, divides so
+abbrev pub divides_rightly : Term → Bool
+divides_rightly (operation op ts) = divides op ts
+divides_rightly _ = true
+
 -- the sort of an operator applied to these arguments, which are of these sorts, or none
 abbrev pub operation_sort : Op → Terms → List Sort → Option Sort
 operation_sort op ts ss = if divides op ts then application_sort op ss else None
