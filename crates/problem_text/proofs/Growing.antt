@@ -83,10 +83,12 @@ module _ (P : Script → Type 0) (after_term : (t : Term) (s : Script) → P s �
     pub kept_term : (f : Form) (p : Place) (s : Script) → P s → Keeps P (term_from f p s)
     kept_term (faulty cause place) p s h = (h, tt)
     kept_term (number place n) p s h = kept_settled SortMismatch p.settings.limit place (Some (record { tree = numeral n; sort = Sort.Int })) s h
-    kept_term (symbol n) p s h = by_meaning n.place (meaning_of p s n.name) s _ h (λ m. kept_settled SortMismatch p.settings.limit n.place (meaning_applied m []) s h)
+    kept_term (symbol n) p s h = by_meaning n.place (meaning_of p s n.name) s _ h
+        (λ m. kept_settled SortMismatch p.settings.limit n.place (meaning_applied m []) s h)
     kept_term (application place head fs) p s h =
         by_meaning head.place (meaning_of p s head.name) s _ h
-        (λ m. keeps_then P (terms_from fs p s) _ (kept_terms fs p s h).0 (λ ts end k. kept_settled (refusal_of m ts) p.settings.limit place (meaning_applied m ts) end k))
+        (λ m. keeps_then P (terms_from fs p s) _ (kept_terms fs p s h).0
+            (λ ts end k. kept_settled (refusal_of m ts) p.settings.limit place (meaning_applied m ts) end k))
     kept_term (let_form place bs body) p s h =
         keeps_then P (bounds_from bs [] p s) _ (kept_bounds bs [] p s h).0
         (λ bound end k. keeps_then P (term_from body (place_inside bound p) end) _ (kept_term body (place_inside bound p) end k).0

@@ -102,7 +102,8 @@ applied-fits (function f) ts fit h = go (call_sort f (sorts_of ts)) refl
     go (Some s) e = record { sorts = sorts_of ts; arguments = arguments-fit ts h; is = e }
 applied-fits (operator op) ts fit h = go (operation_sort op (trees ts) (sorts_of ts)) refl
   where
-    go : (o : Option Sort) → operation_sort op (trees ts) (sorts_of ts) ≡ o → IfSome (option_map (λ s. record { tree = operation op (trees ts); sort = s }) o) IsTyped
+    go : (o : Option Sort) → operation_sort op (trees ts) (sorts_of ts) ≡ o
+        → IfSome (option_map (λ s. record { tree = operation op (trees ts); sort = s }) o) IsTyped
     go None e = tt
     go (Some s) e = record { sorts = sorts_of ts; arguments = arguments-fit ts h; is = e }
 

@@ -73,7 +73,8 @@ module _ (limit : Option ℕ) where
   abbrev within : Place → Place
   within p = record p { settings = with_limit limit p.settings }
 
-  same_settled : (cause : Cause) (first : Option ℕ) (place : ℕ) (o : Option Typed) (s : Script) → Same s (settled cause first place o s) (settled cause limit place o s)
+  same_settled : (cause : Cause) (first : Option ℕ) (place : ℕ) (o : Option Typed) (s : Script)
+      → Same s (settled cause first place o s) (settled cause limit place o s)
   same_settled cause first place None s = tt
   same_settled cause first place (Some t) s = go (is_low first (height t.tree))
     where

@@ -1,5 +1,6 @@
 -- Public. What a symbol means where it stands in a term (SMT-LIB 2.6, on binders and on signatures).
-use Rattle.std.specs.Prelude.{ℕ, Bool, false, if◌then◌else◌, List, [], ◌∷◌, ◌++◌, map, zip, bytes_eq, find, Option, Some, None, is_some, option_map, option_and_then}
+use Rattle.std.specs.Prelude.{ℕ, Bool, false, if◌then◌else◌, List, [], ◌∷◌, ◌++◌, map}
+use Rattle.std.specs.Prelude.{zip, bytes_eq, find, Option, Some, None, is_some, option_map, option_and_then}
 use Rattle.std.specs.Option.{option_or, option_map_or}
 use Rattle.std.specs.List.{list_all}
 use Rattle.sexpr.specs.declared.causes.Cause.{Cause}

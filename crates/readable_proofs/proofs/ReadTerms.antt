@@ -16,7 +16,8 @@ use Rattle.term_model.proofs.Tests.{var_eq_decides}
 use Rattle.text_items.specs.ItemShapes.{Name}
 use Rattle.problem_text.specs.Forms.{Form, faulty, number, symbol, application, let_form, annotated, Forms, no_forms, form, LetBinds, no_binds, bind}
 use Rattle.problem_text.specs.Limits.{is_low, AreLow}
-use Rattle.problem_text.specs.Names.{Bound, Place, itself, innermost, is_bound, Meaning, meaning_of, meaning_applied, refusal_of, let_bindings_of, place_inside, let_term}
+use Rattle.problem_text.specs.Names.{Bound, Place, itself, innermost, is_bound, Meaning}
+use Rattle.problem_text.specs.Names.{meaning_of, meaning_applied, refusal_of, let_bindings_of, place_inside, let_term}
 use Rattle.problem_text.specs.Outcomes.{Outcome, done, refuse, and_then}
 use Rattle.problem_text.specs.PrintedTerms.{BindsSome}
 use Rattle.problem_text.specs.Scripts.{Script, is_taken, with_named, with_term, with_let_name}
@@ -229,14 +230,17 @@ mutual
       (λ m fit. settled_own SortMismatch p s s n.place (meaning_applied m []) own (grown_same s) (λ k. k) (applied_own p s m [] fit tt))
   term_own (application place head fs) p s good own here =
       with_meaning_own p (IsReadTerm p s) head.place (meaning_of p s head.name) s
-      (λ m. and_then (terms_from fs p s) (λ ts after. settled (refusal_of m ts) p.settings.limit place (meaning_applied m ts) after)) (meaning_own p s head.name own here)
-      (λ m fit. reads_then (AreReadTerms p s) (IsReadTerm p s) (terms_from fs p s) (λ ts after. settled (refusal_of m ts) p.settings.limit place (meaning_applied m ts) after)
+      (λ m. and_then (terms_from fs p s) (λ ts after. settled (refusal_of m ts) p.settings.limit place (meaning_applied m ts) after))
+          (meaning_own p s head.name own here)
+      (λ m fit. reads_then (AreReadTerms p s) (IsReadTerm p s) (terms_from fs p s)
+          (λ ts after. settled (refusal_of m ts) p.settings.limit place (meaning_applied m ts) after)
       (terms_own fs p s good own here)
       (λ ts after h. settled_own (refusal_of m ts) p s after place (meaning_applied m ts) h.own h.grown h.low
       (applied_own p after m ts (meaning_still p s after m h.grown fit) h.terms)))
   term_own (let_form place bs body) p s good own here =
       reads_then (AreReadBounds bs [] p s) (IsReadTerm p s) (bounds_from bs [] p s)
-      (λ bound after. and_then (term_from body (place_inside bound p) after) (λ t last. settled SortMismatch p.settings.limit place (Some (let_term p bound t)) last))
+      (λ bound after. and_then (term_from body (place_inside bound p) after)
+          (λ t last. settled SortMismatch p.settings.limit place (Some (let_term p bound t)) last))
       (bounds_own bs [] p s good.1 own here)
       (λ bound after h. reads_then (IsReadTerm (place_inside bound p) after) (IsReadTerm p s) (term_from body (place_inside bound p) after)
       (λ t last. settled SortMismatch p.settings.limit place (Some (let_term p bound t)) last)

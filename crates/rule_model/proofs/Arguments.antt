@@ -38,7 +38,8 @@ terms_are_truths (term t ts) (s ∷ ss) h e = (
 )
 
 pub all_arguments_are_truths : (op : Op) (ts : Terms) → are_truths op ≡ true → IsOf (operation op ts) Sort.Bool → AllByRecursion (λ t. IsOf t Sort.Bool) (list_of ts)
-all_arguments_are_truths op ts e h = terms_are_truths ts h.sorts h.arguments (sorts_are_truths op h.sorts Sort.Bool e (operation_application op ts h.sorts Sort.Bool h.is))
+all_arguments_are_truths op ts e h = terms_are_truths ts h.sorts h.arguments
+    (sorts_are_truths op h.sorts Sort.Bool e (operation_application op ts h.sorts Sort.Bool h.is))
 
 choices : (c s t : Term) (ss : List Sort) → AreOf (terms_of (c ∷ s ∷ t ∷ [])) ss → choice_sort ss ≡ Some Sort.Bool → IsOf c Sort.Bool × IsOf s Sort.Bool × IsOf t Sort.Bool
 choices c s t [] h e = absurd h

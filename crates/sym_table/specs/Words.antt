@@ -32,7 +32,8 @@ built_in_words =
     codes "true" ∷ codes "false" ∷ codes "not" ∷ codes "=>" ∷ codes "and" ∷ codes "or" ∷ codes "xor" ∷ codes "="
     ∷ codes "distinct" ∷ codes "ite" ∷ codes "-" ∷ codes "+" ∷ codes "*" ∷ codes "div" ∷ codes "mod" ∷ codes "<="
     ∷ codes "<" ∷ codes ">=" ∷ codes ">" ∷ codes "let" ∷ codes "!" ∷ codes "Bool" ∷ codes "Int" ∷ codes "forall" ∷ codes "exists"
-    ∷ codes "choice" ∷ codes "lambda" ∷ codes "match" ∷ codes "_" ∷ codes "as" ∷ codes "abs" ∷ codes "/" ∷ codes "to_real" ∷ codes "to_int" ∷ codes "is_int" ∷ codes "divisible" ∷ []
+    ∷ codes "choice" ∷ codes "lambda" ∷ codes "match" ∷ codes "_" ∷ codes "as" ∷ codes "abs" ∷ codes "/"
+    ∷ codes "to_real" ∷ codes "to_int" ∷ codes "is_int" ∷ codes "divisible" ∷ []
 
 -- the name is one of them
 abbrev pub IsBuiltIn : List ℕ → Type 0

@@ -91,7 +91,8 @@ arithmetic_sort op ss s = elim [ inl e ↦ rw e here | inr (inl e) ↦ rw e here
     here : (when (at_least 1 Sort.Int ss) Sort.Int ≡ Some s) ↔ (AtLeast 1 Sort.Int ss × (s ≡ Sort.Int))
     here = when_decides (at_least 1 Sort.Int ss) Sort.Int s (at_least_decides 1 Sort.Int ss)
 
-pub division_sort : (op : Op) (ss : List Sort) (s : Sort) → (op ≡ Op.Div) ⊎ (op ≡ Op.Mod) → (application_sort op ss ≡ Some s) ↔ ((ss ≡ Sort.Int ∷ Sort.Int ∷ []) × (s ≡ Sort.Int))
+pub division_sort : (op : Op) (ss : List Sort) (s : Sort) → (op ≡ Op.Div) ⊎ (op ≡ Op.Mod)
+    → (application_sort op ss ≡ Some s) ↔ ((ss ≡ Sort.Int ∷ Sort.Int ∷ []) × (s ≡ Sort.Int))
 division_sort op ss s = elim [ inl e ↦ rw e here | inr e ↦ rw e here ]
   where
     here : (when (sorts_eq (Sort.Int ∷ Sort.Int ∷ []) ss) Sort.Int ≡ Some s) ↔ ((ss ≡ Sort.Int ∷ Sort.Int ∷ []) × (s ≡ Sort.Int))

@@ -28,7 +28,8 @@ is_a_divisor t (n, some, inr e) = ap is_divisor e ∙ is_not_zero n some
 pub divisor_decides : (t : Term) → (is_divisor t ≡ true) ↔ ((n : ℕ) × (n ≢ 0) × ((t ≡ numeral n) ⊎ (t ≡ operation Op.Minus (terms_of (numeral n ∷ [])))))
 divisor_decides t = (divisor_is t, is_a_divisor t)
 
-pub divided_terms : (op : Op) (ts : Terms) (s : Sort) → (op ≡ Op.Div) ⊎ (op ≡ Op.Mod) → IsOf (operation op ts) s → (t : Term) × (u : Term) × (ts ≡ terms_of (t ∷ u ∷ [])) × IsOf t Sort.Int × (is_divisor u ≡ true)
+pub divided_terms : (op : Op) (ts : Terms) (s : Sort) → (op ≡ Op.Div) ⊎ (op ≡ Op.Mod) → IsOf (operation op ts) s
+    → (t : Term) × (u : Term) × (ts ≡ terms_of (t ∷ u ∷ [])) × IsOf t Sort.Int × (is_divisor u ≡ true)
 divided_terms op ts s which h =
     go ts h.sorts h.arguments ((division_sort op h.sorts s which).0 (operation_application op ts h.sorts s h.is)).0
     (two op ts which (operation_divides op ts h.sorts s h.is))
@@ -37,13 +38,15 @@ divided_terms op ts s which h =
     two op ts (inl e) f = let g : divides Op.Div ts ≡ true = rw e at f in g
     two op ts (inr e) f = let g : divides Op.Mod ts ≡ true = rw e at f in g
 
-    from : (ts : Terms) → AreOf ts (Sort.Int ∷ Sort.Int ∷ []) → has_divisor ts ≡ true → (t : Term) × (u : Term) × (ts ≡ terms_of (t ∷ u ∷ [])) × IsOf t Sort.Int × (is_divisor u ≡ true)
+    from : (ts : Terms) → AreOf ts (Sort.Int ∷ Sort.Int ∷ []) → has_divisor ts ≡ true
+        → (t : Term) × (u : Term) × (ts ≡ terms_of (t ∷ u ∷ [])) × IsOf t Sort.Int × (is_divisor u ≡ true)
     from no_terms are d = absurd are
     from (term t no_terms) are d = absurd are.1
     from (term t (term u no_terms)) are d = (t, u, refl, are.0, d)
     from (term t (term u (term v ts))) are d = absurd are.1.1
 
-    go : (ts : Terms) (ss : List Sort) → AreOf ts ss → ss ≡ (Sort.Int ∷ Sort.Int ∷ []) → has_divisor ts ≡ true → (t : Term) × (u : Term) × (ts ≡ terms_of (t ∷ u ∷ [])) × IsOf t Sort.Int × (is_divisor u ≡ true)
+    go : (ts : Terms) (ss : List Sort) → AreOf ts ss → ss ≡ (Sort.Int ∷ Sort.Int ∷ []) → has_divisor ts ≡ true
+        → (t : Term) × (u : Term) × (ts ≡ terms_of (t ∷ u ∷ [])) × IsOf t Sort.Int × (is_divisor u ≡ true)
     go ts ss are e = let k : AreOf ts (Sort.Int ∷ Sort.Int ∷ []) = rw e at are in from ts k
 
 pub other_operations : (op : Op) (ts : Terms) (ss : List Sort) → op ≢ Op.Div → op ≢ Op.Mod → operation_sort op ts ss ≡ application_sort op ss
@@ -51,6 +54,7 @@ other_operations Op.Div ts ss h g = absurd (h refl)
 other_operations Op.Mod ts ss h g = absurd (g refl)
 other_operations _ ts ss h g = refl
 
-pub operation_sorts : (op : Op) (ts : Terms) (ss : List Sort) (s : Sort) → (operation_sort op ts ss ≡ Some s) ↔ ((divides op ts ≡ true) × (application_sort op ss ≡ Some s))
+pub operation_sorts : (op : Op) (ts : Terms) (ss : List Sort) (s : Sort)
+    → (operation_sort op ts ss ≡ Some s) ↔ ((divides op ts ≡ true) × (application_sort op ss ≡ Some s))
 operation_sorts op ts ss s =
     (λ e. (operation_divides op ts ss s e, operation_application op ts ss s e), λ h. application_operation op ts ss s h.0 h.1)

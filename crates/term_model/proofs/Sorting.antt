@@ -86,11 +86,13 @@ operation_application op ts ss u = go (divides op ts)
     go true e = e
     go false e = cc
 
-pub application_operation : (op : Op) (ts : Terms) (ss : List Sort) (u : Sort) → divides op ts ≡ true → application_sort op ss ≡ Some u → operation_sort op ts ss ≡ Some u
+pub application_operation : (op : Op) (ts : Terms) (ss : List Sort) (u : Sort) → divides op ts ≡ true → application_sort op ss ≡ Some u
+    → operation_sort op ts ss ≡ Some u
 application_operation op ts ss u e h = ap (λ b. if b then application_sort op ss else None) e ∙ h
 
 -- so where the divisors are alike the sorts are
-pub operation_again : (op : Op) (ts us : Terms) (ss : List Sort) (u : Sort) → (divides op ts ≡ true → divides op us ≡ true) → operation_sort op ts ss ≡ Some u → operation_sort op us ss ≡ Some u
+pub operation_again : (op : Op) (ts us : Terms) (ss : List Sort) (u : Sort) → (divides op ts ≡ true → divides op us ≡ true)
+    → operation_sort op ts ss ≡ Some u → operation_sort op us ss ≡ Some u
 operation_again op ts us ss u h e =
     application_operation op us ss u (h (operation_divides op ts ss u e)) (operation_application op ts ss u e)
 

@@ -1,5 +1,6 @@
 -- Public. The meanings of the operators, as the declarations of the theories Core and Ints of SMT-LIB 2.6 fix them.
-use Rattle.std.specs.Prelude.{ℤ, pos, zero, suc, ◌+ℤ◌, ◌-ℤ◌, ◌*ℤ◌, neg_ℤ, int_le, int_lt, Bool, true, false, not, ◌&&◌, ◌||◌, List, [], ◌∷◌, map, fold, if◌then◌else◌}
+use Rattle.std.specs.Prelude.{ℤ, pos, zero, suc, ◌+ℤ◌, ◌-ℤ◌, ◌*ℤ◌, neg_ℤ, int_le, int_lt, Bool}
+use Rattle.std.specs.Prelude.{true, false, not, ◌&&◌, ◌||◌, List, [], ◌∷◌, map, fold, if◌then◌else◌}
 use Rattle.std.specs.Int.{int_div_euclid, int_rem_euclid}
 use Rattle.std.specs.List.{list_all, list_any}
 use Rattle.term_model.specs.declared.symbols.Op.{Op}

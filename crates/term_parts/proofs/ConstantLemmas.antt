@@ -44,7 +44,8 @@ pub record IsMinus (s : Table) (v : TermsView) (a : ℕ) (t : Term) : Type 0 whe
   pub refers : RefersTo s v a inner
   pub is : t ≡ operation Op.Minus (term inner no_terms)
 
-pub minus_refers : (s : Table) (v : TermsView) (a : ℕ) (t : Term) → IsOver Op.Minus 1 t → ((x : Term) → slice_get (arguments_of t) 0 ≡ Some x → RefersTo s v a x) → IsMinus s v a t
+pub minus_refers : (s : Table) (v : TermsView) (a : ℕ) (t : Term) → IsOver Op.Minus 1 t
+    → ((x : Term) → slice_get (arguments_of t) 0 ≡ Some x → RefersTo s v a x) → IsMinus s v a t
 minus_refers s v a t over argument =
     let one = over_one Op.Minus t over in
     record { inner = one.0; refers = argument one.0 (ap (λ y. slice_get (arguments_of y) 0) one.1); is = one.1 }

@@ -115,7 +115,8 @@ module _ (items : ItemsView) (g : WholeReading) (s : Table) (v : TermsView) (r :
   number_comes : (place n : ℕ) (p : Place) (sc : Script) → p.settings.limit ≡ Some most_height
       → term_from (number place n) p sc ≡ done (record { tree = numeral n; sort = Sort.Int }) (with_term (numeral n) sc)
   unfolding term_from height
-  number_comes place n p sc limited = ap (λ (limit : Option ℕ). settled SortMismatch limit place (Some (record { tree = numeral n; sort = Sort.Int })) sc) limited
+  number_comes place n p sc limited = ap (λ (limit : Option ℕ). settled SortMismatch limit place
+      (Some (record { tree = numeral n; sort = Sort.Int })) sc) limited
 
   pub number_goes : (z : Table) (c : Value) (n : ℤ) → Top (Layer.Number n) → AddsNoSymbols s z → IsNumber z c n
       → Goes items g v (both z v) r (Ok (Turn.Use c (k + 1)))

@@ -86,7 +86,8 @@ module _ (items : ItemsView) (g : WholeReading) (s : Table) (v : TermsView) (r :
         expected = meaning_applied m (read ++ h.term ∷ []);
         cause = refusal_of m (read ++ h.term ∷ []);
         waiting = rest;
-        comes = ap (λ (limit : Option ℕ). resumed rest (settled (refusal_of m (read ++ h.term ∷ [])) limit opened.place (meaning_applied m (read ++ h.term ∷ [])) h.script))
+        comes = ap (λ (limit : Option ℕ). resumed rest
+            (settled (refusal_of m (read ++ h.term ∷ [])) limit opened.place (meaning_applied m (read ++ h.term ∷ [])) h.script))
             (sym (limit_so h.place.settings r.replaces_lets h.stands.settings))
             ∙ sym (last_argument_read rest opened.place m read h.term h.place h.script)
             ∙ ap (λ (fs : Forms). resumed (arguments opened.place m read fs h.place ∷ rest) (done h.term h.script)) (sym none)

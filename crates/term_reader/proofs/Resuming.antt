@@ -70,7 +70,8 @@ next_argument_read ws place m read t f fs p s =
     ∙ next_argument ws place m (read ++ t ∷ []) f fs p s
 
 pub last_argument_read : (ws : List Waiting) (place : ℕ) (m : Meaning) (read : List Typed) (t : Typed) (p : Place) (s : Script)
-    → resumed (arguments place m read no_forms p ∷ ws) (done t s) ≡ resumed ws (settled (refusal_of m (read ++ t ∷ [])) p.settings.limit place (meaning_applied m (read ++ t ∷ [])) s)
+    → resumed (arguments place m read no_forms p ∷ ws) (done t s)
+    ≡ resumed ws (settled (refusal_of m (read ++ t ∷ [])) p.settings.limit place (meaning_applied m (read ++ t ∷ [])) s)
 unfolding terms_from
 last_argument_read ws place m read t p s = refl
 

@@ -52,7 +52,8 @@ module _ (s : Table) (old new : TermsView) (cause : Cause) (place : ℕ) (o : Op
   expected_read : (t : Term) → IsExpected o t → IsReadBy terms_read Settled t
   expected_read t (d, is, same) =
       subst (λ (e : Option Typed). IsReadBy terms_read (settled cause (Some most_height) place e sc) t) (sym is)
-      (subst (λ (u : Term). IsReadBy terms_read (settled cause (Some most_height) place (Some d) sc) u) same (settled_is_read [] cause (Some most_height) place d sc))
+      (subst (λ (u : Term). IsReadBy terms_read (settled cause (Some most_height) place (Some d) sc) u) same
+      (settled_is_read [] cause (Some most_height) place d sc))
 
   pub made_settles : (made : Option Value) (result : Result Value ReadFault) → Makes old (both s new) o (Ok made)
       → (IsMade (both s new) o (Ok made) → SettlesTerm (both s new) cause place o sc result)

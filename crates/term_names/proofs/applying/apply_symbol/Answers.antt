@@ -1,6 +1,7 @@
 use Rattle.std.proofs.Common.{arith, ap, map, sym, ◌+◌, ◌∙◌}
 use Rattle.term_names.specs.declared.faults.ReadFault.{ReadFault}
-use Rattle.term_names.proofs.AppliedSymbols.{symbol-below, symbol-head, values-known, values-refer, not-applied, not-divided, application-made, application-full}
+use Rattle.term_names.proofs.AppliedSymbols.{symbol-below, symbol-head, values-known, values-refer}
+use Rattle.term_names.proofs.AppliedSymbols.{not-applied, not-divided, application-made, application-full}
 use Rattle.term_names.proofs.MadeTerms.{handed_on}
 use Rattle.term_names.proofs.ValueLists.{greatest-low}
 use Rattle.term_names.proofs.applying.apply_symbol.Goals as goal

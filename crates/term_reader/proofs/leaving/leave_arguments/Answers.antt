@@ -23,7 +23,8 @@ pub returns-in_err-term-clause-leaves : goal.returns-in_err-term-clause-leaves
 returns-in_err-term-clause-leaves c = λ items g h.
     let p = err_from_is_err_and c.from_residual-in_err-term.result c.from_residual-in_err-term.ensures.1 in
     rw (p.1, p.2)
-    (arguments_refused _ _ _ _ _ _ _ _ h refl _ _ c.in_ok-push.ensures.pushed _ c.in_ok-made.ensures.makes _ (c.cause_of-cause.ensures c.args.terms.now) _ c.in_err-term.ensures _)
+    (arguments_refused _ _ _ _ _ _ _ _ h refl _ _ c.in_ok-push.ensures.pushed _ c.in_ok-made.ensures.makes
+    _ (c.cause_of-cause.ensures c.args.terms.now) _ c.in_err-term.ensures _)
 
 pub returns-clause-leaves : goal.returns-clause-leaves
 returns-clause-leaves c = λ items g h.
