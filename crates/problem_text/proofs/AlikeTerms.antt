@@ -84,11 +84,11 @@ mutual
       subst (λ m. EndAlike (term_from (symbol n) p s) (with_meaning 0 m u (λ m. settled SortMismatch p.settings.limit 0 (meaning_applied m []) u)))
       (same_meaning p s u n.name same)
       (meaning_alike n.place 0 (meaning_of p s n.name) s u _ _ same
-          (λ m. settled_alike SortMismatch p.settings.limit n.place 0 (meaning_applied m []) s u same))
+      (λ m. settled_alike SortMismatch p.settings.limit n.place 0 (meaning_applied m []) s u same))
   term_alike (application place head fs) p s u same =
       subst (λ m. EndAlike (term_from (application place head fs) p s)
       (with_meaning 0 m u (λ m. and_then (terms_from (forms_unplaced fs) p u)
-          (λ ts last. settled (refusal_of m ts) p.settings.limit 0 (meaning_applied m ts) last))))
+      (λ ts last. settled (refusal_of m ts) p.settings.limit 0 (meaning_applied m ts) last))))
       (same_meaning p s u head.name same)
       (meaning_alike head.place 0 (meaning_of p s head.name) s u _ _ same
       (λ m. alike_then (terms_from fs p s) (terms_from (forms_unplaced fs) p u) _ _ (terms_alike fs p s u same)

@@ -88,7 +88,7 @@ module _ (P : Script → Type 0) (after_term : (t : Term) (s : Script) → P s �
     kept_term (application place head fs) p s h =
         by_meaning head.place (meaning_of p s head.name) s _ h
         (λ m. keeps_then P (terms_from fs p s) _ (kept_terms fs p s h).0
-            (λ ts end k. kept_settled (refusal_of m ts) p.settings.limit place (meaning_applied m ts) end k))
+        (λ ts end k. kept_settled (refusal_of m ts) p.settings.limit place (meaning_applied m ts) end k))
     kept_term (let_form place bs body) p s h =
         keeps_then P (bounds_from bs [] p s) _ (kept_bounds bs [] p s h).0
         (λ bound end k. keeps_then P (term_from body (place_inside bound p) end) _ (kept_term body (place_inside bound p) end k).0

@@ -105,7 +105,7 @@ symbol-applied s k m ts sort (inr (op, here, e)) h rightly =
       record {
         expected = ap (λ o. option_map (λ z. record { tree = operation op (trees ts); sort = z }) o)
             (application_operation op (trees ts) (sorts_of ts) sort
-                (sym (rightly (operation op (trees ts)) (here, list_of-terms_of (map (λ u. u.tree) ts)))) (sym given));
+            (sym (rightly (operation op (trees ts)) (here, list_of-terms_of (map (λ u. u.tree) ts)))) (sym given));
         is = record { application = (here, list_of-terms_of (map (λ u. u.tree) ts)); high = refl; plain = λ p. p };
       },
     )

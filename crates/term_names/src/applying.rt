@@ -95,7 +95,10 @@ fn why_not_symbol(symbols: &Symbols, leaf: u32, sorts: &[Sort]) -> Cause
 {
     symbols.leaves_differ();
     match symbols.kind(leaf) {
-        Kind::Op(_) if check_app(symbols, leaf, sorts).is_some() => Cause::LeftOut,
+        Kind::Op(_) => match check_app(symbols, leaf, sorts) {
+            Some(_) => Cause::LeftOut,
+            None => Cause::SortMismatch,
+        },
         _ => Cause::SortMismatch,
     }
 }

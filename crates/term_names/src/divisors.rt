@@ -1,6 +1,6 @@
 //! What `div` and `mod` divide by: a constant other than zero.
 ghost use Rattle.std.specs.Prelude.{◌≡◌, List};
-ghost use Rattle.term_model.specs.Sorts.{is_divisor, divides_rightly as spec_divides};
+ghost use Rattle.term_model.specs.Sorts as spec;
 ghost use Rattle.term_model.specs.Terms.{Term};
 ghost use Rattle.term_pool.specs.Building.{IsAppliedLeaf};
 ghost use Rattle.term_pool.specs.Views.{IsTerm, RefersTo, ReferToAll};
@@ -24,7 +24,7 @@ pub(crate) fn divides_rightly(
     requires head { IsHead symbols.now head }
     requires args { (ts : List Term) × ReferToAll symbols.now terms.old args.now ts }
     ensures divides { (ts : List Term) (t : Term) → ReferToAll symbols.now terms.old args.now ts → IsAppliedLeaf symbols.now head ts t →
-        result ≡ spec_divides t }
+        result ≡ spec.divides_rightly t }
     ensures same { terms.new ≡ terms.old }
 {
     match symbols.kind(head) {
@@ -39,7 +39,7 @@ pub(crate) fn divides_rightly(
 /// Whether a term is a constant other than zero: a numeral, or `(- n)` of one.
 fn is_divisor(symbols: &Symbols, terms: &mut Terms<'_>, r: Ref) -> bool
     requires { IsTerm symbols.now terms.old r }
-    ensures divisor { (t : Term) → RefersTo symbols.now terms.old r t → result ≡ is_divisor t }
+    ensures divisor { (t : Term) → RefersTo symbols.now terms.old r t → result ≡ spec.is_divisor t }
     ensures same { terms.new ≡ terms.old }
 {
     match constant(symbols, terms, r) {
