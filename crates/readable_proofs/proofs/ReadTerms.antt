@@ -231,16 +231,16 @@ mutual
   term_own (application place head fs) p s good own here =
       with_meaning_own p (IsReadTerm p s) head.place (meaning_of p s head.name) s
       (λ m. and_then (terms_from fs p s) (λ ts after. settled (refusal_of m ts) p.settings.limit place (meaning_applied m ts) after))
-          (meaning_own p s head.name own here)
+      (meaning_own p s head.name own here)
       (λ m fit. reads_then (AreReadTerms p s) (IsReadTerm p s) (terms_from fs p s)
-          (λ ts after. settled (refusal_of m ts) p.settings.limit place (meaning_applied m ts) after)
+      (λ ts after. settled (refusal_of m ts) p.settings.limit place (meaning_applied m ts) after)
       (terms_own fs p s good own here)
       (λ ts after h. settled_own (refusal_of m ts) p s after place (meaning_applied m ts) h.own h.grown h.low
       (applied_own p after m ts (meaning_still p s after m h.grown fit) h.terms)))
   term_own (let_form place bs body) p s good own here =
       reads_then (AreReadBounds bs [] p s) (IsReadTerm p s) (bounds_from bs [] p s)
       (λ bound after. and_then (term_from body (place_inside bound p) after)
-          (λ t last. settled SortMismatch p.settings.limit place (Some (let_term p bound t)) last))
+      (λ t last. settled SortMismatch p.settings.limit place (Some (let_term p bound t)) last))
       (bounds_own bs [] p s good.1 own here)
       (λ bound after h. reads_then (IsReadTerm (place_inside bound p) after) (IsReadTerm p s) (term_from body (place_inside bound p) after)
       (λ t last. settled SortMismatch p.settings.limit place (Some (let_term p bound t)) last)

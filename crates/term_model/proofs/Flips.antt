@@ -51,14 +51,18 @@ mutual
       let first = flips_value I r t u h in let rest = flips_values I r ts us hs in rw (first, rest) refl
 
 -- A divisor has no equality, so flips keep it.
+two_terms : (t u : Term) (ts : Terms) → is_divisor (operation Op.Minus (term t (term u ts))) ≡ true → ⊥
+two_terms (numeral n) u ts e = absurd cc
+two_terms _ u ts e = absurd cc
+
 minus_flipped : (ts us : Terms) → AllEqualUpToFlips ts us → is_divisor (operation Op.Minus ts) ≡ true → is_divisor (operation Op.Minus us) ≡ true
 minus_flipped _ _ none e = absurd cc
+minus_flipped _ _ (each t _ _ _ h (each u _ ts _ k ks)) e = absurd (two_terms t u ts e)
 minus_flipped _ _ (each _ _ _ _ (same (numeral n)) none) e = e
 minus_flipped _ _ (each _ _ _ _ (same _) none) e = absurd cc
-minus_flipped _ _ (each _ _ _ _ (operations op ts us h) hs) e = absurd cc
-minus_flipped _ _ (each _ _ _ _ (calls f ts us h) hs) e = absurd cc
-minus_flipped _ _ (each _ _ _ _ (flipped a b c d h k) hs) e = absurd cc
-minus_flipped _ _ (each _ _ _ _ h (each _ _ _ _ k ks)) e = absurd cc
+minus_flipped _ _ (each _ _ _ _ (operations op ts us h) none) e = absurd cc
+minus_flipped _ _ (each _ _ _ _ (calls f ts us h) none) e = absurd cc
+minus_flipped _ _ (each _ _ _ _ (flipped a b c d h k) none) e = absurd cc
 
 divisor_flipped : (t u : Term) → EqualUpToFlips t u → is_divisor t ≡ true → is_divisor u ≡ true
 divisor_flipped _ _ (same t) e = e

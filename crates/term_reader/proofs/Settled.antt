@@ -142,7 +142,7 @@ module _ (items : ItemsView) (g : WholeReading) (s : Table) (v w : TermsView) (p
   settled_goes_on r n made c h cause same settles =
       let x = h.whole in
       let read = made_settles s v w x.cause place x.expected x.script made (Ok c) x.makes
-          (λ is. settles_so s w cause x.cause place made x.expected x.script (Ok c) same is (settles s w x.expected x.script is)) in
+      (λ is. settles_so s w cause x.cause place made x.expected x.script (Ok c) same is (settles s w x.expected x.script is)) in
       let t = read.answer.value in
       answers_whole g.whole (part (Ok made) x) read
       (record {

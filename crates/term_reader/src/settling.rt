@@ -17,11 +17,7 @@ use text_items::refusals::refused;
 const MOST_HEIGHT: u64 = 2000;
 
 /// The term that begins at `place`, where one was made and it is not too high. `cause` is why none was made.
-pub(crate) fn settle(
-    cause: Cause,
-    place: u64,
-    made: Option<Value>,
-) -> Result<Value, ReadFault>
+pub(crate) fn settle(cause: Cause, place: u64, made: Option<Value>) -> Result<Value, ReadFault>
     ensures { (s : Table) (v : TermsView) (o : Option Typed) (sc : Script) → IsMade (both s v) o (Ok made) → SettlesTerm (both s v) cause place o sc result }
 {
     match made {
