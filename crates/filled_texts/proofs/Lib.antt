@@ -1,0 +1,6 @@
+mod OneCheck
+pub mod NotValid
+pub mod Putting
+pub mod ManyQuestions
+pub mod Answered
+pub mod Sound
