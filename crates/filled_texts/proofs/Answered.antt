@@ -48,32 +48,35 @@ is_open proof i text e = open_scope (closes_at proof i) (question_at proof i) te
 
 
 module _ (proof : ProofItems Var Term) where
-  mutual
-    pub answered : (i : ℕ) (statuses : List Status) (old new : List Seat) (filled : List Bool) → ArePut (questions_from proof i statuses) old new filled →
-        list_all (λ is_filled. is_filled) filled ≡ true → (j n : ℕ) → n ≡ i + j → slice_get statuses j ≡ Some Status.Hole → IsAnswered proof n
-    answered i [] old new filled put all j n at e = absurd cc
-    answered i (Status.Hole ∷ statuses) old new filled put all j n at e =
-        first i statuses (question_of proof i) refl old new filled put all j n at e
-    answered i (Status.Ok ∷ statuses) old new filled put all zero n at e = absurd cc
-    answered i (Status.Ok ∷ statuses) old new filled put all (suc j) n at e =
-        answered (suc i) statuses old new filled put all j n (omega (arith, at)) e
-    answered i (Status.Wide ∷ statuses) old new filled put all zero n at e = absurd cc
-    answered i (Status.Wide ∷ statuses) old new filled put all (suc j) n at e =
-        answered (suc i) statuses old new filled put all j n (omega (arith, at)) e
-    answered i (Status.Faulty cause ∷ statuses) old new filled put all zero n at e = absurd cc
-    answered i (Status.Faulty cause ∷ statuses) old new filled put all (suc j) n at e =
-        answered (suc i) statuses old new filled put all j n (omega (arith, at)) e
+  -- what is shown of each list of commands
+  abbrev AreAnswered : ℕ → List Status → Type 0
+  AreAnswered i statuses =
+      (old new : List Seat) (filled : List Bool) → ArePut (questions_from proof i statuses) old new filled → list_all (λ is_filled. is_filled) filled ≡ true →
+      (j n : ℕ) → n ≡ i + j → slice_get statuses j ≡ Some Status.Hole → IsAnswered proof n
 
-    first : (i : ℕ) (statuses : List Status) (question : Option (List ℕ)) → question_of proof i ≡ question → (old new : List Seat) (filled : List Bool) →
-        ArePut (question ∷ questions_from proof (suc i) statuses) old new filled → list_all (λ is_filled. is_filled) filled ≡ true →
-        (j n : ℕ) → n ≡ i + j → slice_get (Status.Hole ∷ statuses) j ≡ Some Status.Hole → IsAnswered proof n
-    first i statuses None is old new [] put all j n at e = absurd put
-    first i statuses None is old new (true ∷ filled) put all j n at e = let no : true ≡ false = put.0 in absurd cc
-    first i statuses None is old new (false ∷ filled) put all j n at e = absurd cc
-    first i statuses (Some text) is old new [] put all j n at e = absurd put
-    first i statuses (Some text) is old new (false ∷ filled) put all j n at e = absurd cc
-    first i statuses (Some text) is old new (true ∷ filled) put all zero n at e =
-        let same : i ≡ n = omega (arith, at) in
-        subst (IsAnswered proof) same (record { question = text; is = is; filled = filled_by_one text old put.0 put.1 })
-    first i statuses (Some text) is old new (true ∷ filled) put all (suc j) n at e =
-        answered (suc i) statuses put.0 new filled put.2 all j n (omega (arith, at)) e
+  first : (i : ℕ) (statuses : List Status) → AreAnswered (suc i) statuses → (question : Option (List ℕ)) → question_of proof i ≡ question →
+      (old new : List Seat) (filled : List Bool) → ArePut (question ∷ questions_from proof (suc i) statuses) old new filled →
+      list_all (λ is_filled. is_filled) filled ≡ true → (j n : ℕ) → n ≡ i + j → slice_get (Status.Hole ∷ statuses) j ≡ Some Status.Hole →
+      IsAnswered proof n
+  first i statuses others None is old new [] put all j n at e = absurd put
+  first i statuses others None is old new (true ∷ filled) put all j n at e = let no : true ≡ false = put.0 in absurd cc
+  first i statuses others None is old new (false ∷ filled) put all j n at e = absurd cc
+  first i statuses others (Some text) is old new [] put all j n at e = absurd put
+  first i statuses others (Some text) is old new (false ∷ filled) put all j n at e = absurd cc
+  first i statuses others (Some text) is old new (true ∷ filled) put all zero n at e =
+      let same : i ≡ n = omega (arith, at) in
+      subst (IsAnswered proof) same (record { question = text; is = is; filled = filled_by_one text old put.0 put.1 })
+  first i statuses others (Some text) is old new (true ∷ filled) put all (suc j) n at e = others put.0 new filled put.2 all j n (omega (arith, at)) e
+
+  pub answered : (i : ℕ) (statuses : List Status) (old new : List Seat) (filled : List Bool) → ArePut (questions_from proof i statuses) old new filled →
+      list_all (λ is_filled. is_filled) filled ≡ true → (j n : ℕ) → n ≡ i + j → slice_get statuses j ≡ Some Status.Hole → IsAnswered proof n
+  answered i [] old new filled put all j n at e = absurd cc
+  answered i (Status.Hole ∷ statuses) old new filled put all j n at e =
+      first i statuses (λ o w f p a k m is h. answered (suc i) statuses o w f p a k m is h) (question_of proof i) refl old new filled put all j n at e
+  answered i (Status.Ok ∷ statuses) old new filled put all zero n at e = absurd cc
+  answered i (Status.Ok ∷ statuses) old new filled put all (suc j) n at e = answered (suc i) statuses old new filled put all j n (omega (arith, at)) e
+  answered i (Status.Wide ∷ statuses) old new filled put all zero n at e = absurd cc
+  answered i (Status.Wide ∷ statuses) old new filled put all (suc j) n at e = answered (suc i) statuses old new filled put all j n (omega (arith, at)) e
+  answered i (Status.Faulty cause ∷ statuses) old new filled put all zero n at e = absurd cc
+  answered i (Status.Faulty cause ∷ statuses) old new filled put all (suc j) n at e =
+      answered (suc i) statuses old new filled put all j n (omega (arith, at)) e

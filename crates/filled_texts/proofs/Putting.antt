@@ -54,7 +54,7 @@ there (x ∷ xs) zero h = (x, refl)
 there (x ∷ xs) (suc i) h = there xs i (omega (arith, h))
 
 module _ (q : List ℕ) (i : ℕ) (old now : List Seat) (r : Reached q i old now) (s : Seat) (at : slice_get now i ≡ Some s) where
-  abbrev next_is : (rest : List Seat) × (r.behind ≡ s ∷ rest)
+  next_is : (rest : List Seat) × (r.behind ≡ s ∷ rest)
   next_is =
       next r.put r.behind s (subst (λ k. slice_get (r.put ++ r.behind) k ≡ Some s) (sym r.place) (subst (λ l. slice_get l i ≡ Some s) r.is at))
 
@@ -67,7 +67,7 @@ module _ (q : List ℕ) (i : ℕ) (old now : List Seat) (r : Reached q i old now
       ∙ (ap (λ k. slice_set (r.put ++ s ∷ next_is.0) k t) (sym r.place) ∙ changed r.put next_is.0 s t)
 
   -- it leaves the question open, and what it is now is known
-  pub passes : (t : Seat) (new : List Seat) → new ≡ r.put ++ t ∷ next_is.0 → LeavesOpen q s t → Reached q (i + 1) old new
+  passes : (t : Seat) (new : List Seat) → new ≡ r.put ++ t ∷ next_is.0 → LeavesOpen q s t → Reached q (i + 1) old new
   passes t new is h = record {
     before = r.before ++ s ∷ [];
     put = r.put ++ t ∷ [];
