@@ -91,6 +91,15 @@ arithmetic_sort op ss s = elim [ inl e ↦ rw e here | inr (inl e) ↦ rw e here
     here : (when (at_least 1 Sort.Int ss) Sort.Int ≡ Some s) ↔ (AtLeast 1 Sort.Int ss × (s ≡ Sort.Int))
     here = when_decides (at_least 1 Sort.Int ss) Sort.Int s (at_least_decides 1 Sort.Int ss)
 
+pub division_sort : (op : Op) (ss : List Sort) (s : Sort) → (op ≡ Op.Div) ⊎ (op ≡ Op.Mod)
+    → (application_sort op ss ≡ Some s) ↔ ((ss ≡ Sort.Int ∷ Sort.Int ∷ []) × (s ≡ Sort.Int))
+division_sort op ss s = elim [ inl e ↦ rw e here | inr e ↦ rw e here ]
+  where
+    here : (when (sorts_eq (Sort.Int ∷ Sort.Int ∷ []) ss) Sort.Int ≡ Some s) ↔ ((ss ≡ Sort.Int ∷ Sort.Int ∷ []) × (s ≡ Sort.Int))
+    here =
+        when_decides (sorts_eq (Sort.Int ∷ Sort.Int ∷ []) ss) Sort.Int s
+        (Decides-like (sorts_eq (Sort.Int ∷ Sort.Int ∷ []) ss) sym sym (sorts_eq_decides (Sort.Int ∷ Sort.Int ∷ []) ss))
+
 pub comparison_sort : (op : Op) (ss : List Sort) (s : Sort) → ((op ≡ Op.LessEq) ⊎ (op ≡ Op.Less)) ⊎ ((op ≡ Op.GreaterEq) ⊎ (op ≡ Op.Greater)) → (application_sort op ss ≡ Some s) ↔ (AtLeast 2 Sort.Int ss × (s ≡ Sort.Bool))
 comparison_sort op ss s = elim [ inl (inl e) ↦ rw e here | inl (inr e) ↦ rw e here | inr (inl e) ↦ rw e here | inr (inr e) ↦ rw e here ]
   where

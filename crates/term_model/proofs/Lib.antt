@@ -1,7 +1,9 @@
 pub mod Basics
 pub mod Tests
 pub mod Arities
+pub mod Division
 pub mod Sorting
+pub mod Divisors
 pub mod Coincidence
 pub mod Tables
 pub mod Existence

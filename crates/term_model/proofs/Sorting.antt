@@ -1,5 +1,5 @@
 -- A well-sorted term has one sort, and a value of it.
-use Rattle.std.proofs.Common.{◌≡◌, ℕ, List, [], ◌∷◌, ◌++◌, Bool, true, false, ◌&&◌, ℤ, zero, suc, ◌<◌, length, slice_index_or, Some, None, All, if◌then◌else◌, refl, sym, ◌∙◌, subst, arith}
+use Rattle.std.proofs.Common.{◌≡◌, ℕ, List, [], ◌∷◌, ◌++◌, Bool, true, false, ◌&&◌, ℤ, zero, suc, ◌<◌, length, slice_index_or, Some, None, All, if◌then◌else◌, refl, sym, ap, ◌∙◌, subst, arith}
 use Rattle.std.proofs.lemmas.List.Elements.{All-from_recursion}
 use Rattle.std.specs.List.{AllByRecursion}
 use Rattle.term_model.specs.declared.symbols.Sort.{Sort}
@@ -9,7 +9,7 @@ use Rattle.term_model.specs.Values.{Value, truth, whole, HasSort, HaveSorts, som
 use Rattle.term_model.specs.Operators.{meaning, chosen_value}
 use Rattle.term_model.specs.Interpretations.{Row, RowFits, Interpretation, first_row, values_eq}
 use Rattle.term_model.specs.Meaning.{Valuation, ValuationFits, value_at, value, values, bound}
-use Rattle.term_model.specs.Sorts.{when, sorts_eq, choice_sort, application_sort, call_sort, IsOf, AreOf, AreBound, IsWellSorted}
+use Rattle.term_model.specs.Sorts.{when, sorts_eq, choice_sort, application_sort, call_sort, divides, operation_sort, IsOf, AreOf, AreBound, IsWellSorted}
 use Rattle.term_model.proofs.Basics.{and-left, and-right, then_branch}
 use Rattle.term_model.proofs.Tests.{sort_eq_decides, var_eq_decides, sorts_eq_decides}
 
@@ -71,6 +71,31 @@ choice_has_sort (c ∷ s ∷ t ∷ []) (v ∷ w ∷ x ∷ []) u e h =
     (choice_fits s (as_truth v) w x h.1.0 (subst (λ k. HasSort k x) (sym b.1) h.1.1.0))
 choice_has_sort (c ∷ s ∷ t ∷ []) (v ∷ w ∷ x ∷ y ∷ vs) u e h = absurd h.1.1.1
 
+-- an operation that has a sort divides by a constant other than zero, and has the sort of the application
+pub operation_divides : (op : Op) (ts : Terms) (ss : List Sort) (u : Sort) → operation_sort op ts ss ≡ Some u → divides op ts ≡ true
+operation_divides op ts ss u = go (divides op ts)
+  where
+    go : (b : Bool) → (if b then application_sort op ss else None) ≡ Some u → b ≡ true
+    go true e = refl
+    go false e = cc
+
+pub operation_application : (op : Op) (ts : Terms) (ss : List Sort) (u : Sort) → operation_sort op ts ss ≡ Some u → application_sort op ss ≡ Some u
+operation_application op ts ss u = go (divides op ts)
+  where
+    go : (b : Bool) → (if b then application_sort op ss else None) ≡ Some u → application_sort op ss ≡ Some u
+    go true e = e
+    go false e = cc
+
+pub application_operation : (op : Op) (ts : Terms) (ss : List Sort) (u : Sort) → divides op ts ≡ true → application_sort op ss ≡ Some u
+    → operation_sort op ts ss ≡ Some u
+application_operation op ts ss u e h = ap (λ b. if b then application_sort op ss else None) e ∙ h
+
+-- so where the divisors are alike the sorts are
+pub operation_again : (op : Op) (ts us : Terms) (ss : List Sort) (u : Sort) → (divides op ts ≡ true → divides op us ≡ true)
+    → operation_sort op ts ss ≡ Some u → operation_sort op us ss ≡ Some u
+operation_again op ts us ss u h e =
+    application_operation op us ss u (h (operation_divides op ts ss u e)) (operation_application op ts ss u e)
+
 -- the operators' values have the sorts that the operators have
 pub meaning_has_sort : (op : Op) (ss : List Sort) (vs : List Value) (u : Sort) → application_sort op ss ≡ Some u → HaveSorts ss vs → HasSort u (meaning op vs)
 meaning_has_sort Op.True ss vs u e h = subst (λ k. HasSort k (meaning Op.True vs)) (sym (when-same _ _ u e)) tt
@@ -86,6 +111,8 @@ meaning_has_sort Op.Ite ss vs u e h = choice_has_sort ss vs u e h
 meaning_has_sort Op.Minus ss vs u e h = subst (λ k. HasSort k (meaning Op.Minus vs)) (sym (when-same _ _ u e)) tt
 meaning_has_sort Op.Plus ss vs u e h = subst (λ k. HasSort k (meaning Op.Plus vs)) (sym (when-same _ _ u e)) tt
 meaning_has_sort Op.Times ss vs u e h = subst (λ k. HasSort k (meaning Op.Times vs)) (sym (when-same _ _ u e)) tt
+meaning_has_sort Op.Div ss vs u e h = subst (λ k. HasSort k (meaning Op.Div vs)) (sym (when-same _ _ u e)) tt
+meaning_has_sort Op.Mod ss vs u e h = subst (λ k. HasSort k (meaning Op.Mod vs)) (sym (when-same _ _ u e)) tt
 meaning_has_sort Op.LessEq ss vs u e h = subst (λ k. HasSort k (meaning Op.LessEq vs)) (sym (when-same _ _ u e)) tt
 meaning_has_sort Op.Less ss vs u e h = subst (λ k. HasSort k (meaning Op.Less vs)) (sym (when-same _ _ u e)) tt
 meaning_has_sort Op.GreaterEq ss vs u e h = subst (λ k. HasSort k (meaning Op.GreaterEq vs)) (sym (when-same _ _ u e)) tt
@@ -106,7 +133,7 @@ mutual
   value_has_sort I r fits (numeral n) s h = subst (λ k. HasSort k (value I r (numeral n))) (sym h) tt
   value_has_sort I r fits (variable x) s h = subst (λ k. HasSort k (value_at r x)) (sym h) (value_at_fits r x fits)
   value_has_sort I r fits (operation op ts) s h =
-      meaning_has_sort op h.sorts (values I r ts) s h.is (values_have_sorts I r fits ts h.sorts h.arguments)
+      meaning_has_sort op h.sorts (values I r ts) s (operation_application op ts h.sorts s h.is) (values_have_sorts I r fits ts h.sorts h.arguments)
   value_has_sort I r fits (call f ts) s h = call_has_sort I f h.sorts (values I r ts) s h.is
   value_has_sort I r fits (let_in bs t) s h =
       value_has_sort I (bound I r bs ++ r) (fits-append (bound I r bs) r (bound_fits I r fits bs h.0) fits) t s h.1

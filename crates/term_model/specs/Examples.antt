@@ -2,7 +2,7 @@
 use Rattle.std.specs.Prelude.{ℕ, pos, [], ◌∷◌}
 use Rattle.term_model.specs.declared.symbols.Sort.{Sort}
 use Rattle.term_model.specs.declared.symbols.Op.{Op}
-use Rattle.term_model.specs.Terms.{Var, Term, operation, no_terms}
+use Rattle.term_model.specs.Terms.{Var, Term, numeral, operation, no_terms, term}
 use Rattle.term_model.specs.Values.{Value, whole}
 use Rattle.term_model.specs.Interpretations.{FunctionTable}
 
@@ -12,6 +12,10 @@ number n = whole (pos n)
 -- `false`
 abbrev pub falsehood : Term
 falsehood = operation Op.False no_terms
+
+-- `(- n)`
+abbrev pub minus : ℕ → Term
+minus n = operation Op.Minus (term (numeral n) no_terms)
 
 -- the variables `x` and `y` of the sort Int
 abbrev pub x : Var

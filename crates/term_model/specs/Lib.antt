@@ -5,6 +5,7 @@ pub mod Interpretations
 pub mod Meaning
 pub mod Sorts
 pub mod Arities
+pub mod Division
 pub mod FreeVariables
 pub mod Heights
 pub mod Flips

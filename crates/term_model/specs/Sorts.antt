@@ -1,6 +1,7 @@
 -- Public. Well-sorted terms (SMT-LIB 2.6, section of that title): the arities and sorts of the operators, and the sort
--- of a term. That a let names no variable twice is a rule for texts, and no part of this.
-use Rattle.std.specs.Prelude.{◌≡◌, ℕ, List, [], ◌∷◌, length, nat_le, Bool, true, false, ◌&&◌, if◌then◌else◌, Option, Some, None, ⊤}
+-- of a term. That `div` and `mod` divide by a constant other than zero is a part of this, and a rule of this checker. That
+-- a let names no variable twice is a rule for texts, and no part of this.
+use Rattle.std.specs.Prelude.{◌≡◌, ℕ, List, [], ◌∷◌, length, nat_le, Bool, true, false, not, ◌==◌, ◌&&◌, if◌then◌else◌, Option, Some, None, ⊤}
 use Rattle.std.specs.List.{list_all}
 use Rattle.term_model.specs.declared.symbols.Sort.{Sort}
 use Rattle.term_model.specs.declared.symbols.Op.{Op}
@@ -47,10 +48,38 @@ application_sort Op.Ite ss = choice_sort ss
 application_sort Op.Minus ss = when (at_least 1 Sort.Int ss) Sort.Int
 application_sort Op.Plus ss = when (at_least 1 Sort.Int ss) Sort.Int
 application_sort Op.Times ss = when (at_least 1 Sort.Int ss) Sort.Int
+application_sort Op.Div ss = when (sorts_eq (Sort.Int ∷ Sort.Int ∷ []) ss) Sort.Int
+application_sort Op.Mod ss = when (sorts_eq (Sort.Int ∷ Sort.Int ∷ []) ss) Sort.Int
 application_sort Op.LessEq ss = when (at_least 2 Sort.Int ss) Sort.Bool
 application_sort Op.Less ss = when (at_least 2 Sort.Int ss) Sort.Bool
 application_sort Op.GreaterEq ss = when (at_least 2 Sort.Int ss) Sort.Bool
 application_sort Op.Greater ss = when (at_least 2 Sort.Int ss) Sort.Bool
+
+-- a constant other than zero: a numeral, or `(- n)` of one
+abbrev pub is_divisor : Term → Bool
+is_divisor (numeral n) = not (n == 0)
+is_divisor (operation Op.Minus (term (numeral n) no_terms)) = not (n == 0)
+is_divisor _ = false
+
+-- whether the second of the arguments is such a constant
+abbrev pub has_divisor : Terms → Bool
+has_divisor (term m (term n ts)) = is_divisor n
+has_divisor _ = false
+
+-- `div` and `mod` divide by a constant other than zero alone; of the other operators nothing is asked
+abbrev pub divides : Op → Terms → Bool
+divides Op.Div ts = has_divisor ts
+divides Op.Mod ts = has_divisor ts
+divides _ ts = true
+
+-- whether the term itself, but for what is inside it, divides so
+abbrev pub divides_rightly : Term → Bool
+divides_rightly (operation op ts) = divides op ts
+divides_rightly _ = true
+
+-- the sort of an operator applied to these arguments, which are of these sorts, or none
+abbrev pub operation_sort : Op → Terms → List Sort → Option Sort
+operation_sort op ts ss = if divides op ts then application_sort op ss else None
 
 -- the sort of a declared function applied to arguments of these sorts, or none
 abbrev pub call_sort : Fun → List Sort → Option Sort
@@ -67,7 +96,7 @@ abbrev mutual
   pub IsOf : Term → Sort → Type 0
   IsOf (numeral n) s = s ≡ Sort.Int
   IsOf (variable x) s = s ≡ x.sort
-  IsOf (operation op ts) s = IsApplication (AreOf ts) (application_sort op) s
+  IsOf (operation op ts) s = IsApplication (AreOf ts) (operation_sort op ts) s
   IsOf (call f ts) s = IsApplication (AreOf ts) (call_sort f) s
   IsOf (let_in bs t) s = AreBound bs × IsOf t s
 

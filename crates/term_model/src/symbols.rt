@@ -23,6 +23,8 @@ pub enum Op {
     Minus,
     Plus,
     Times,
+    Div,
+    Mod,
     LessEq,
     Less,
     GreaterEq,

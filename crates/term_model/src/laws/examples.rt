@@ -1,7 +1,7 @@
 //! A few values, worked out.
 
 ghost use Rattle.std.specs.Prelude.{◌≡◌, ◌∷◌, [], Bool, true, false, pos, negsuc};
-ghost use Rattle.term_model.specs.Examples.{number, falsehood, x, y, table};
+ghost use Rattle.term_model.specs.Examples.{number, falsehood, minus, x, y, table};
 ghost use Rattle.term_model.specs.Interpretations.{Interpretation, first_row};
 ghost use Rattle.term_model.specs.Meaning.{Valuation, value};
 ghost use Rattle.term_model.specs.Terms.{numeral, variable, operation, let_in, terms_of};
@@ -22,6 +22,19 @@ pub fn operators_on_three()
         value I r (operation Op.Equal (terms_of (numeral 1 ∷ numeral 1 ∷ numeral 2 ∷ []))) ≡ truth false }
     ensures distinct { (I : Interpretation) (r : Valuation) →
         value I r (operation Op.Distinct (terms_of (numeral 1 ∷ numeral 2 ∷ numeral 1 ∷ []))) ≡ truth false }
+{}
+
+/// -7 by 2 is -4 with 1 left, 7 by -2 is -3 with 1 left, and -7 by -2 is 4 with 1 left.
+pub fn divisions()
+    ensures below_zero { (I : Interpretation) (r : Valuation) →
+        (value I r (operation Op.Div (terms_of (minus 7 ∷ numeral 2 ∷ []))) ≡ whole (negsuc 3))
+        × (value I r (operation Op.Mod (terms_of (minus 7 ∷ numeral 2 ∷ []))) ≡ whole (pos 1)) }
+    ensures by_below_zero { (I : Interpretation) (r : Valuation) →
+        (value I r (operation Op.Div (terms_of (numeral 7 ∷ minus 2 ∷ []))) ≡ whole (negsuc 2))
+        × (value I r (operation Op.Mod (terms_of (numeral 7 ∷ minus 2 ∷ []))) ≡ whole (pos 1)) }
+    ensures both { (I : Interpretation) (r : Valuation) →
+        (value I r (operation Op.Div (terms_of (minus 7 ∷ minus 2 ∷ []))) ≡ whole (pos 4))
+        × (value I r (operation Op.Mod (terms_of (minus 7 ∷ minus 2 ∷ []))) ≡ whole (pos 1)) }
 {}
 
 /// In `(let ((x 1)) (let ((x 2) (y x)) (- y x)))` the inner y is the outer x, so the value is -1.

@@ -1,6 +1,7 @@
 //! What the operators of the theory Ints of SMT-LIB 2.6 mean.
 
-ghost use Rattle.std.specs.Prelude.{◌≡◌, ◌∷◌, ◌↔◌, ◌+ℤ◌, ◌-ℤ◌, ◌*ℤ◌, ◌≤ℤ◌, ◌<ℤ◌, neg_ℤ, pos, [], ℕ};
+ghost use Rattle.std.specs.Prelude.{◌≡◌, ◌≢◌, ◌∷◌, ◌↔◌, ◌+ℤ◌, ◌-ℤ◌, ◌*ℤ◌, ◌≤ℤ◌, ◌<ℤ◌, neg_ℤ, pos, [], ℕ, ℤ};
+ghost use Rattle.term_model.specs.Division.{IsDivision};
 ghost use Rattle.term_model.specs.Interpretations.{Interpretation};
 ghost use Rattle.term_model.specs.Meaning.{Valuation, value};
 ghost use Rattle.term_model.specs.Terms.{Term, Terms, numeral, term, operation, terms_of};
@@ -22,6 +23,19 @@ pub fn arithmetic()
     ensures product { (I : Interpretation) (r : Valuation) (s t : Term) →
         value I r (operation Op.Times (terms_of (s ∷ t ∷ [])))
         ≡ whole (as_whole (value I r s) *ℤ as_whole (value I r t)) }
+{}
+
+/// `div` and `mod` of a number by one other than zero are the only quotient and remainder of which the remainder is not
+/// negative, whatever the signs; by zero both are 0.
+pub fn division()
+    ensures values { (I : Interpretation) (r : Valuation) (s t : Term) → as_whole (value I r t) ≢ pos 0 →
+        IsDivision (as_whole (value I r s)) (as_whole (value I r t))
+        (as_whole (value I r (operation Op.Div (terms_of (s ∷ t ∷ [])))))
+        (as_whole (value I r (operation Op.Mod (terms_of (s ∷ t ∷ []))))) }
+    ensures only { (m n q s a b : ℤ) → IsDivision m n q s → IsDivision m n a b → (q ≡ a) × (s ≡ b) }
+    ensures by_zero { (I : Interpretation) (r : Valuation) (s t : Term) → as_whole (value I r t) ≡ pos 0 →
+        (value I r (operation Op.Div (terms_of (s ∷ t ∷ []))) ≡ whole (pos 0))
+        × (value I r (operation Op.Mod (terms_of (s ∷ t ∷ []))) ≡ whole (pos 0)) }
 {}
 
 /// The comparisons of two numbers.

@@ -1,13 +1,13 @@
 //! Sorts of terms and of their values (SMT-LIB 2.6, "Well-sorted terms").
 
-ghost use Rattle.std.specs.Prelude.{◌≡◌, ◌++◌, ◌∷◌, ◌↔◌, ◌⊎◌, ◌<◌, [], Bool, List, ℕ, ℤ, All, Some, length};
+ghost use Rattle.std.specs.Prelude.{◌≡◌, ◌≢◌, ◌++◌, ◌∷◌, ◌↔◌, ◌⊎◌, ◌<◌, [], Bool, true, List, ℕ, ℤ, All, Some, length};
 ghost use Rattle.std.specs.Prelude.{slice_index_or};
 ghost use Rattle.term_model.specs.Arities.{AtLeast, AreAlike};
 ghost use Rattle.term_model.specs.Interpretations.{Interpretation};
 ghost use Rattle.term_model.specs.Meaning.{Valuation, ValuationFits, value, values, bound};
 ghost use Rattle.term_model.specs.Sorts.{IsOf, AreOf, AreBound, IsWellSorted};
-ghost use Rattle.term_model.specs.Sorts.{application_sort, call_sort};
-ghost use Rattle.term_model.specs.Terms.{Var, Fun, Term, Terms, Bindings, list_of};
+ghost use Rattle.term_model.specs.Sorts.{application_sort, call_sort, is_divisor, divides, operation_sort};
+ghost use Rattle.term_model.specs.Terms.{Var, Fun, Term, Terms, Bindings, list_of, terms_of};
 ghost use Rattle.term_model.specs.Terms.{numeral, variable, operation, call, let_in};
 ghost use Rattle.term_model.specs.Terms.{no_terms, term, no_bindings, binding};
 ghost use Rattle.term_model.specs.Values.{Value, HasSort, HaveSorts, truth, whole, some_value};
@@ -26,7 +26,7 @@ pub fn terms_are_well_sorted()
     ensures numeral { (n : ℕ) → IsOf (numeral n) Sort.Int }
     ensures variable { (x : Var) → IsOf (variable x) x.sort }
     ensures operation { (op : Op) (ts : Terms) (ss : List Sort) (s : Sort) →
-        AreOf ts ss → application_sort op ss ≡ Some s → IsOf (operation op ts) s }
+        AreOf ts ss → operation_sort op ts ss ≡ Some s → IsOf (operation op ts) s }
     ensures call { (f : Fun) (ts : Terms) → AreOf ts f.arguments → IsOf (call f ts) f.target }
     ensures let_in { (bs : Bindings) (t : Term) (s : Sort) → AreBound bs → IsOf t s → IsOf (let_in bs t) s }
     ensures no_terms { AreOf no_terms [] }
@@ -81,9 +81,23 @@ pub fn operators_have_arities()
     ensures arithmetic { (op : Op) (ss : List Sort) (s : Sort) →
         (op ≡ Op.Minus) ⊎ ((op ≡ Op.Plus) ⊎ (op ≡ Op.Times)) →
         (application_sort op ss ≡ Some s) ↔ (AtLeast 1 Sort.Int ss × (s ≡ Sort.Int)) }
+    ensures division { (op : Op) (ss : List Sort) (s : Sort) → (op ≡ Op.Div) ⊎ (op ≡ Op.Mod) →
+        (application_sort op ss ≡ Some s) ↔ ((ss ≡ Sort.Int ∷ Sort.Int ∷ []) × (s ≡ Sort.Int)) }
     ensures comparison { (op : Op) (ss : List Sort) (s : Sort) →
         ((op ≡ Op.LessEq) ⊎ (op ≡ Op.Less)) ⊎ ((op ≡ Op.GreaterEq) ⊎ (op ≡ Op.Greater)) →
         (application_sort op ss ≡ Some s) ↔ (AtLeast 2 Sort.Int ss × (s ≡ Sort.Bool)) }
+{}
+
+/// `div` and `mod` are applied to a number and a constant other than zero, which is a numeral or `(- n)` of one; every other
+/// operator to whatever its arity and sorts allow.
+pub fn divisors_are_constants()
+    ensures by { (t : Term) → (is_divisor t ≡ true) ↔ ((n : ℕ) × (n ≢ 0) × ((t ≡ numeral n) ⊎ (t ≡ operation Op.Minus (terms_of (numeral n ∷ []))))) }
+    ensures of { (op : Op) (ts : Terms) (s : Sort) → (op ≡ Op.Div) ⊎ (op ≡ Op.Mod) → IsOf (operation op ts) s →
+        (t : Term) × (u : Term) × (ts ≡ terms_of (t ∷ u ∷ [])) × IsOf t Sort.Int × (is_divisor u ≡ true) }
+    ensures others { (op : Op) (ts : Terms) (ss : List Sort) → op ≢ Op.Div → op ≢ Op.Mod →
+        operation_sort op ts ss ≡ application_sort op ss }
+    ensures same { (op : Op) (ts : Terms) (ss : List Sort) (s : Sort) →
+        (operation_sort op ts ss ≡ Some s) ↔ ((divides op ts ≡ true) × (application_sort op ss ≡ Some s)) }
 {}
 
 /// A declared function is applied to arguments of just the sorts that it is declared with.

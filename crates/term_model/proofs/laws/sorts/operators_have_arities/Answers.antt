@@ -1,4 +1,4 @@
-use Rattle.term_model.proofs.Arities.{constants_sort, negation_sort, one_or_more_sort, two_or_more_sort, equality_sort, choice_sort_of, arithmetic_sort, comparison_sort}
+use Rattle.term_model.proofs.Arities.{constants_sort, negation_sort, one_or_more_sort, two_or_more_sort, equality_sort, choice_sort_of, arithmetic_sort, division_sort, comparison_sort}
 use Rattle.term_model.proofs.laws.sorts.operators_have_arities.Goals as goal
 
 pub returns-clause-constants : goal.returns-clause-constants
@@ -24,3 +24,6 @@ returns-clause-arithmetic c = arithmetic_sort
 
 pub returns-clause-comparison : goal.returns-clause-comparison
 returns-clause-comparison c = comparison_sort
+
+pub returns-clause-division : goal.returns-clause-division
+returns-clause-division c = division_sort
