@@ -36,32 +36,32 @@ IsLeaf-FindsOrAdds old new k l (inr h) =
     ap (λ (t : Table). slice_get t.leaves k) h.2 ∙ ap (slice_get (old.leaves ++ l ∷ [])) h.1 ∙ slice_get-last old.leaves l
 
 -- how many leaves there are
-pub length-leaves_of : (names : List (List ℕ)) (functions : List Function) (variables : List (List ℕ)) (keys : List Symbol) → length (leaves_of names functions variables keys) ≡ 19 + length keys
+pub length-leaves_of : (names : List (List ℕ)) (functions : List Function) (variables : List (List ℕ)) (keys : List Symbol) → length (leaves_of names functions variables keys) ≡ 21 + length keys
 length-leaves_of names functions variables keys =
-    length-append first_leaves (map (leaf_of_key names functions variables) keys) ∙ ap (λ n. 19 + n) (length-map keys (leaf_of_key names functions variables))
+    length-append first_leaves (map (leaf_of_key names functions variables) keys) ∙ ap (λ n. 21 + n) (length-map keys (leaf_of_key names functions variables))
 
 -- where a key is placed, its leaf is found or added
-pub FindsOrAdds-key : (names : List (List ℕ)) (functions : List Function) (variables : List (List ℕ)) (keys more : List Symbol) (sorts : List (List ℕ)) (k : ℕ) (key : Symbol) → AreKeysLinked names functions variables keys → IsInRange (length functions) (length variables) key → PlacesItem keys more k key → FindsOrAdds (table_of names functions variables keys sorts) (table_of names functions variables more sorts) (19 + k) (leaf_of_key names functions variables key)
+pub FindsOrAdds-key : (names : List (List ℕ)) (functions : List Function) (variables : List (List ℕ)) (keys more : List Symbol) (sorts : List (List ℕ)) (k : ℕ) (key : Symbol) → AreKeysLinked names functions variables keys → IsInRange (length functions) (length variables) key → PlacesItem keys more k key → FindsOrAdds (table_of names functions variables keys sorts) (table_of names functions variables more sorts) (21 + k) (leaf_of_key names functions variables key)
 FindsOrAdds-key names functions variables keys more sorts k key h r (inl p) =
     inl (key_leaf names functions variables keys k key p.0, ap (λ ks. table_of names functions variables ks sorts) p.1)
 FindsOrAdds-key names functions variables keys more sorts k key h r (inr p) =
     inr (
       LacksLeaf-key names functions variables keys sorts key h r p.0,
-      ap (λ n. 19 + n) p.1 ∙ sym (length-leaves_of names functions variables keys),
+      ap (λ n. 21 + n) p.1 ∙ sym (length-leaves_of names functions variables keys),
       ap (λ ks. table_of names functions variables ks sorts) p.2 ∙ ap (λ ls. record { leaves = ls; sorts = sorts }) (leaves_of-push names functions variables keys key),
     )
 
 -- the same, by the table that a caller sees
-pub FindsOrAdds-seen : (t : Table) (names : List (List ℕ)) (functions : List Function) (variables : List (List ℕ)) (keys more : List Symbol) (sorts : List (List ℕ)) (k : ℕ) (key : Symbol) → table_of names functions variables keys sorts ≡ t → AreKeysLinked names functions variables keys → IsInRange (length functions) (length variables) key → PlacesItem keys more k key → FindsOrAdds t (table_of names functions variables more sorts) (19 + k) (leaf_of_key names functions variables key)
+pub FindsOrAdds-seen : (t : Table) (names : List (List ℕ)) (functions : List Function) (variables : List (List ℕ)) (keys more : List Symbol) (sorts : List (List ℕ)) (k : ℕ) (key : Symbol) → table_of names functions variables keys sorts ≡ t → AreKeysLinked names functions variables keys → IsInRange (length functions) (length variables) key → PlacesItem keys more k key → FindsOrAdds t (table_of names functions variables more sorts) (21 + k) (leaf_of_key names functions variables key)
 FindsOrAdds-seen t names functions variables keys more sorts k key e h r p =
-    subst (λ (u : Table). FindsOrAdds u (table_of names functions variables more sorts) (19 + k) (leaf_of_key names functions variables key)) e (FindsOrAdds-key names functions variables keys more sorts k key h r p)
+    subst (λ (u : Table). FindsOrAdds u (table_of names functions variables more sorts) (21 + k) (leaf_of_key names functions variables key)) e (FindsOrAdds-key names functions variables keys more sorts k key h r p)
 
-pub length-seen : (t : Table) (names : List (List ℕ)) (functions : List Function) (variables : List (List ℕ)) (keys : List Symbol) (sorts : List (List ℕ)) → table_of names functions variables keys sorts ≡ t → length t.leaves ≡ 19 + length keys
+pub length-seen : (t : Table) (names : List (List ℕ)) (functions : List Function) (variables : List (List ℕ)) (keys : List Symbol) (sorts : List (List ℕ)) → table_of names functions variables keys sorts ≡ t → length t.leaves ≡ 21 + length keys
 length-seen t names functions variables keys sorts e =
     ap (λ (u : Table). length u.leaves) (sym e) ∙ length-leaves_of names functions variables keys
 
 -- there was room for one more key
-pub few-PlacesItem : (t : Table) (names : List (List ℕ)) (functions : List Function) (variables : List (List ℕ)) (keys more : List Symbol) (sorts : List (List ℕ)) (k : ℕ) (key : Symbol) → table_of names functions variables keys sorts ≡ t → length t.leaves < 2 ^ 30 → PlacesItem keys more k key → length more + 19 ≤ 2 ^ 30
+pub few-PlacesItem : (t : Table) (names : List (List ℕ)) (functions : List Function) (variables : List (List ℕ)) (keys more : List Symbol) (sorts : List (List ℕ)) (k : ℕ) (key : Symbol) → table_of names functions variables keys sorts ≡ t → length t.leaves < 2 ^ 30 → PlacesItem keys more k key → length more + 21 ≤ 2 ^ 30
 few-PlacesItem t names functions variables keys more sorts k key e room p =
     omega (arith, length-seen t names functions variables keys sorts e, (length-PlacesItem keys more k key p).1)
 
@@ -70,11 +70,11 @@ pub leaf_of-variable : (names : List (List ℕ)) (functions : List Function) (va
 leaf_of-variable names functions variables n name sort e = ap (λ x. variable x sort) (get_or_from_slice_get variables n name [] e)
 
 -- a name of a variable was placed, and then its key
-pub FindsOrAdds-variable : (t : Table) (names : List (List ℕ)) (functions : List Function) (variables more_variables : List (List ℕ)) (keys more : List Symbol) (sorts : List (List ℕ)) (n k : ℕ) (name : List ℕ) (sort : Sort) → table_of names functions variables keys sorts ≡ t → AreKeysLinked names functions variables keys → PlacesItem variables more_variables n name → PlacesItem keys more k (Symbol.Variable n sort) → FindsOrAdds t (table_of names functions more_variables more sorts) (19 + k) (variable name sort)
+pub FindsOrAdds-variable : (t : Table) (names : List (List ℕ)) (functions : List Function) (variables more_variables : List (List ℕ)) (keys more : List Symbol) (sorts : List (List ℕ)) (n k : ℕ) (name : List ℕ) (sort : Sort) → table_of names functions variables keys sorts ≡ t → AreKeysLinked names functions variables keys → PlacesItem variables more_variables n name → PlacesItem keys more k (Symbol.Variable n sort) → FindsOrAdds t (table_of names functions more_variables more sorts) (21 + k) (variable name sort)
 FindsOrAdds-variable t names functions variables more_variables keys more sorts n k name sort e h p q =
     let at = (length-PlacesItem variables more_variables n name p).2 in
     let same : table_of names functions more_variables keys sorts ≡ t = ap (λ ls. record { leaves = ls; sorts = sorts }) (leaves_of-more_variables names functions variables more_variables keys n name h p) ∙ e in
-    subst (FindsOrAdds t (table_of names functions more_variables more sorts) (19 + k)) (leaf_of-variable names functions more_variables n name sort at) (FindsOrAdds-seen t names functions more_variables keys more sorts k (Symbol.Variable n sort) same (AreLinked-more_variables names functions variables more_variables keys n name h p) (slice_get_within more_variables n name at) q)
+    subst (FindsOrAdds t (table_of names functions more_variables more sorts) (21 + k)) (leaf_of-variable names functions more_variables n name sort at) (FindsOrAdds-seen t names functions more_variables keys more sorts k (Symbol.Variable n sort) same (AreLinked-more_variables names functions variables more_variables keys n name h p) (slice_get_within more_variables n name at) q)
 
 pub AreLinked-variable : (names : List (List ℕ)) (functions : List Function) (variables more_variables : List (List ℕ)) (keys more : List Symbol) (n k : ℕ) (name : List ℕ) (sort : Sort) → AreKeysLinked names functions variables keys → PlacesItem variables more_variables n name → PlacesItem keys more k (Symbol.Variable n sort) → AreKeysLinked names functions more_variables more
 AreLinked-variable names functions variables more_variables keys more n k name sort h p q =
@@ -82,7 +82,7 @@ AreLinked-variable names functions variables more_variables keys more n k name s
     AreLinked-PlacesItem names functions more_variables keys more k (Symbol.Variable n sort) (AreLinked-more_variables names functions variables more_variables keys n name h p) (slice_get_within more_variables n name at) refl q
 
 -- the place of a key fits where there was room
-pub place_fits : (keys more : List Symbol) (k : ℕ) (key : Symbol) → length keys + 19 ≤ 2 ^ 30 → PlacesItem keys more k key → k + 19 ≤ 2 ^ 30
+pub place_fits : (keys more : List Symbol) (k : ℕ) (key : Symbol) → length keys + 21 ≤ 2 ^ 30 → PlacesItem keys more k key → k + 21 ≤ 2 ^ 30
 place_fits keys more k key few (inl p) = omega (arith, slice_get_within keys k key p.0)
 place_fits keys more k key few (inr p) = omega (arith, p.1)
 

@@ -42,7 +42,7 @@ module _ (names more_names : List (List ℕ)) (functions more : List Function) (
       (subst (λ fs. AreKeysLinked (names ++ name ∷ []) fs variables more_keys) (sym a.functions_grown)
       (subst (λ ks. AreKeysLinked (names ++ name ∷ []) (functions ++ f ∷ []) variables ks) (sym a.keys_grown) (AreLinked-push_function names functions variables keys name f h lacks p)))
 
-  pub few-declared : length t.leaves < 2 ^ 30 → length more_keys + 19 ≤ 2 ^ 30
+  pub few-declared : length t.leaves < 2 ^ 30 → length more_keys + 21 ≤ 2 ^ 30
   few-declared room =
       omega (arith, length-seen t names functions variables keys sorts v, ap length a.keys_grown, length-push keys (Symbol.Function (length functions)))
 

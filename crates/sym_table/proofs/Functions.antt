@@ -29,13 +29,13 @@ function_kind (variable name sort) e = refl
 function_kind (numeral n) e = refl
 
 -- a function's leaf, by its number
-pub function_leaf : (names : List (List ℕ)) (functions : List Function) (variables : List (List ℕ)) (keys : List Symbol) (n : ℕ) (name : List ℕ) (f : Function) → AreKeysLinked names functions variables keys → slice_get names n ≡ Some name → slice_get functions n ≡ Some f → slice_get (leaves_of names functions variables keys) (19 + f.place) ≡ Some (function name f.arguments.items f.target)
+pub function_leaf : (names : List (List ℕ)) (functions : List Function) (variables : List (List ℕ)) (keys : List Symbol) (n : ℕ) (name : List ℕ) (f : Function) → AreKeysLinked names functions variables keys → slice_get names n ≡ Some name → slice_get functions n ≡ Some f → slice_get (leaves_of names functions variables keys) (21 + f.place) ≡ Some (function name f.arguments.items f.target)
 function_leaf names functions variables keys n name f h e g =
     key_leaf names functions variables keys f.place (Symbol.Function n) (h.placed n f g) ∙ ap Some (function_at-known names functions n name f e g)
 
-pub IsFunctionNamed-number : (t : Table) (names : List (List ℕ)) (functions : List Function) (variables : List (List ℕ)) (keys : List Symbol) (sorts : List (List ℕ)) (n : ℕ) (name : List ℕ) (f : Function) → table_of names functions variables keys sorts ≡ t → AreKeysLinked names functions variables keys → slice_get names n ≡ Some name → slice_get functions n ≡ Some f → IsFunctionNamed t (19 + f.place) name
+pub IsFunctionNamed-number : (t : Table) (names : List (List ℕ)) (functions : List Function) (variables : List (List ℕ)) (keys : List Symbol) (sorts : List (List ℕ)) (n : ℕ) (name : List ℕ) (f : Function) → table_of names functions variables keys sorts ≡ t → AreKeysLinked names functions variables keys → slice_get names n ≡ Some name → slice_get functions n ≡ Some f → IsFunctionNamed t (21 + f.place) name
 IsFunctionNamed-number t names functions variables keys sorts n name f v h e g =
-    subst (λ (u : Table). IsFunctionNamed u (19 + f.place) name) v
+    subst (λ (u : Table). IsFunctionNamed u (21 + f.place) name) v
     (meets (λ l. IsTrue (is_function l) × (name_of l ≡ name)) _ _ (function_leaf names functions variables keys n name f h e g) (refl, refl))
 
 -- the number of a name is that of a function
@@ -46,17 +46,17 @@ number_in_range names functions n name same e = omega (arith, slice_get_within n
 pub IsFunctionName-number : (t : Table) (names : List (List ℕ)) (functions : List Function) (variables : List (List ℕ)) (keys : List Symbol) (sorts : List (List ℕ)) (n : ℕ) (name : List ℕ) → table_of names functions variables keys sorts ≡ t → AreKeysLinked names functions variables keys → slice_get names n ≡ Some name → IsFunctionName t name
 IsFunctionName-number t names functions variables keys sorts n name v h e =
     let x = function_at-shape names functions n h.named (number_in_range names functions n name h.named e) in
-    (19 + x.1.place, IsFunctionNamed-number t names functions variables keys sorts n name x.1 v h e x.3)
+    (21 + x.1.place, IsFunctionNamed-number t names functions variables keys sorts n name x.1 v h e x.3)
 
 -- leaf k has the key of a function
 abbrev pub HasKey : Table → List (List ℕ) → List Function → List Symbol → ℕ → Type 0
-HasKey t names functions keys k = (j : ℕ) × (n : ℕ) × (name : List ℕ) × (f : Function) × (k ≡ 19 + j) × (slice_get keys j ≡ Some (Symbol.Function n)) × (slice_get names n ≡ Some name) × (slice_get functions n ≡ Some f) × (slice_get t.leaves k ≡ Some (function name f.arguments.items f.target))
+HasKey t names functions keys k = (j : ℕ) × (n : ℕ) × (name : List ℕ) × (f : Function) × (k ≡ 21 + j) × (slice_get keys j ≡ Some (Symbol.Function n)) × (slice_get names n ≡ Some name) × (slice_get functions n ≡ Some f) × (slice_get t.leaves k ≡ Some (function name f.arguments.items f.target))
 
 -- a leaf that stands for a function has one
 pub function_key : (t : Table) (names : List (List ℕ)) (functions : List Function) (variables : List (List ℕ)) (keys : List Symbol) (sorts : List (List ℕ)) (k : ℕ) → table_of names functions variables keys sorts ≡ t → AreKeysLinked names functions variables keys → IsFunctionLeaf t k → HasKey t names functions keys k
 function_key t names functions variables keys sorts k v h m = go (there _ m)
   where
-    by_key : (l : Leaf) → slice_get t.leaves k ≡ Some l → is_function l ≡ true → (j : ℕ) (key : Symbol) → k ≡ 19 + j → slice_get keys j ≡ Some key → l ≡ leaf_of_key names functions variables key → HasKey t names functions keys k
+    by_key : (l : Leaf) → slice_get t.leaves k ≡ Some l → is_function l ≡ true → (j : ℕ) (key : Symbol) → k ≡ 21 + j → slice_get keys j ≡ Some key → l ≡ leaf_of_key names functions variables key → HasKey t names functions keys k
     by_key l e is j (Symbol.Function n) p q same =
         let x = function_at-shape names functions n h.named (h.in_range j (Symbol.Function n) q) in
         (j, n, x.0, x.1, p, q, x.2, x.3, e ∙ ap Some (same ∙ x.4))
@@ -78,28 +78,28 @@ lacks-IsFunctionName t names functions variables keys sorts name v h lacks (k, m
     lacks key.1 (key.6 ∙ ap Some (sym (ap name_of same) ∙ x.2.1))
 
 -- a function's place fits
-pub place_fits-number : (names : List (List ℕ)) (functions : List Function) (variables : List (List ℕ)) (keys : List Symbol) (n : ℕ) (f : Function) → AreKeysLinked names functions variables keys → length keys + 19 ≤ 2 ^ 30 → slice_get functions n ≡ Some f → f.place + 19 ≤ 2 ^ 30
+pub place_fits-number : (names : List (List ℕ)) (functions : List Function) (variables : List (List ℕ)) (keys : List Symbol) (n : ℕ) (f : Function) → AreKeysLinked names functions variables keys → length keys + 21 ≤ 2 ^ 30 → slice_get functions n ≡ Some f → f.place + 21 ≤ 2 ^ 30
 place_fits-number names functions variables keys n f h few e = omega (arith, slice_get_within keys f.place (Symbol.Function n) (h.placed n f e))
 
 -- the item at a place that is some steps behind another
-pub at_place : {X : Type 0} (xs seen : List X) (leaf j : ℕ) (x d : X) → seen ≡ xs → leaf ≡ 19 + j → slice_get xs j ≡ Some x → get_or seen (leaf - 19) d ≡ x
+pub at_place : {X : Type 0} (xs seen : List X) (leaf j : ℕ) (x d : X) → seen ≡ xs → leaf ≡ 21 + j → slice_get xs j ≡ Some x → get_or seen (leaf - 21) d ≡ x
 at_place xs seen leaf j x d e p q =
-    let here : leaf - 19 ≡ j = omega arith in
-    ap (λ s. get_or s (leaf - 19) d) e ∙ ap (λ i. get_or xs i d) here ∙ get_or_from_slice_get xs j x d q
+    let here : leaf - 21 ≡ j = omega arith in
+    ap (λ s. get_or s (leaf - 21) d) e ∙ ap (λ i. get_or xs i d) here ∙ get_or_from_slice_get xs j x d q
 
 -- the number in the key of a function's leaf, where it was read
-pub read_number : (t : Table) (names : List (List ℕ)) (functions : List Function) (variables : List (List ℕ)) (keys : List Symbol) (sorts : List (List ℕ)) (seen : List Symbol) (leaf : ℕ) (d : Symbol) (number : ℕ) → table_of names functions variables keys sorts ≡ t → AreKeysLinked names functions variables keys → IsFunctionLeaf t leaf → seen ≡ keys → get_or seen (leaf - 19) d ≡ Symbol.Function number → (name : List ℕ) × (f : Function) × (slice_get functions number ≡ Some f) × (slice_get t.leaves leaf ≡ Some (function name f.arguments.items f.target))
+pub read_number : (t : Table) (names : List (List ℕ)) (functions : List Function) (variables : List (List ℕ)) (keys : List Symbol) (sorts : List (List ℕ)) (seen : List Symbol) (leaf : ℕ) (d : Symbol) (number : ℕ) → table_of names functions variables keys sorts ≡ t → AreKeysLinked names functions variables keys → IsFunctionLeaf t leaf → seen ≡ keys → get_or seen (leaf - 21) d ≡ Symbol.Function number → (name : List ℕ) × (f : Function) × (slice_get functions number ≡ Some f) × (slice_get t.leaves leaf ≡ Some (function name f.arguments.items f.target))
 read_number t names functions variables keys sorts seen leaf d number v h m e r =
     let key = function_key t names functions variables keys sorts leaf v h m in
     let both : Symbol.Function number ≡ Symbol.Function key.1 = sym r ∙ at_place keys seen leaf key.0 (Symbol.Function key.1) d e key.4 key.5 in
     let same : number ≡ key.1 = cc in
     (key.2, key.3, ap (slice_get functions) same ∙ key.7, key.8)
 
-pub number_below : (t : Table) (names : List (List ℕ)) (functions : List Function) (variables : List (List ℕ)) (keys : List Symbol) (sorts : List (List ℕ)) (seen : List Symbol) (leaf : ℕ) (d : Symbol) (number : ℕ) → table_of names functions variables keys sorts ≡ t → AreKeysLinked names functions variables keys → IsFunctionLeaf t leaf → seen ≡ keys → get_or seen (leaf - 19) d ≡ Symbol.Function number → number < length functions
+pub number_below : (t : Table) (names : List (List ℕ)) (functions : List Function) (variables : List (List ℕ)) (keys : List Symbol) (sorts : List (List ℕ)) (seen : List Symbol) (leaf : ℕ) (d : Symbol) (number : ℕ) → table_of names functions variables keys sorts ≡ t → AreKeysLinked names functions variables keys → IsFunctionLeaf t leaf → seen ≡ keys → get_or seen (leaf - 21) d ≡ Symbol.Function number → number < length functions
 number_below t names functions variables keys sorts seen leaf d number v h m e r =
     slice_get_within functions number _ (read_number t names functions variables keys sorts seen leaf d number v h m e r).2
 
-pub function_meets : (t : Table) (names : List (List ℕ)) (functions : List Function) (variables : List (List ℕ)) (keys : List Symbol) (sorts : List (List ℕ)) (seen : List Symbol) (leaf : ℕ) (d : Symbol) (number : ℕ) (g : Function) → table_of names functions variables keys sorts ≡ t → AreKeysLinked names functions variables keys → IsFunctionLeaf t leaf → seen ≡ keys → get_or seen (leaf - 19) d ≡ Symbol.Function number → g ≡ get_or functions number g → LeafMeets t leaf (λ l. (leaf_arguments l ≡ g.arguments.items) × (target_of l ≡ Some g.target))
+pub function_meets : (t : Table) (names : List (List ℕ)) (functions : List Function) (variables : List (List ℕ)) (keys : List Symbol) (sorts : List (List ℕ)) (seen : List Symbol) (leaf : ℕ) (d : Symbol) (number : ℕ) (g : Function) → table_of names functions variables keys sorts ≡ t → AreKeysLinked names functions variables keys → IsFunctionLeaf t leaf → seen ≡ keys → get_or seen (leaf - 21) d ≡ Symbol.Function number → g ≡ get_or functions number g → LeafMeets t leaf (λ l. (leaf_arguments l ≡ g.arguments.items) × (target_of l ≡ Some g.target))
 function_meets t names functions variables keys sorts seen leaf d number g v h m e r read =
     let x = read_number t names functions variables keys sorts seen leaf d number v h m e r in
     let same : x.1 ≡ g = sym (get_or_from_slice_get functions number x.1 g x.2) ∙ sym read in

@@ -51,24 +51,24 @@ module _ (t : Table) (names : List (List ℕ)) (functions : List Function) (vari
       let x = there _ m in
       absurd (first_is_no_function kind (ap is_first x.2 ∙ first_kind leaf x.0 x.1) f)
 
-  module _ (seen : List Symbol) (d key : Symbol) (same : seen ≡ keys) (low : 19 ≤ leaf) (high : leaf < length t.leaves) (read : get_or seen (leaf - 19) d ≡ key) where
+  module _ (seen : List Symbol) (d key : Symbol) (same : seen ≡ keys) (low : 21 ≤ leaf) (high : leaf < length t.leaves) (read : get_or seen (leaf - 21) d ≡ key) where
     -- the key of a leaf that is none of the first
-    pub below : leaf - 19 < length keys
+    pub below : leaf - 21 < length keys
     below = omega (arith, length-seen t names functions variables keys sorts v)
 
-    pub at_key : slice_get keys (leaf - 19) ≡ Some key
-    at_key = slice_get-get_or keys (leaf - 19) d below ∙ ap Some (ap (λ s. get_or s (leaf - 19) d) (sym same) ∙ read)
+    pub at_key : slice_get keys (leaf - 21) ≡ Some key
+    at_key = slice_get-get_or keys (leaf - 21) d below ∙ ap Some (ap (λ s. get_or s (leaf - 21) d) (sym same) ∙ read)
 
     pub in_range : IsInRange (length functions) (length variables) key
-    in_range = h.in_range (leaf - 19) key at_key
+    in_range = h.in_range (leaf - 21) key at_key
 
-    pub back : 19 + (leaf - 19) ≡ leaf
+    pub back : 21 + (leaf - 21) ≡ leaf
     back = omega arith
 
     pub key_meets : (P : Leaf → Type 0) → P (leaf_of_key names functions variables key) → LeafMeets t leaf P
     key_meets P p =
         subst (λ (u : Table). LeafMeets u leaf P) v
-        (meets P _ _ (ap (slice_get (leaves_of names functions variables keys)) (sym back) ∙ key_leaf names functions variables keys (leaf - 19) key at_key) p)
+        (meets P _ _ (ap (slice_get (leaves_of names functions variables keys)) (sym back) ∙ key_leaf names functions variables keys (leaf - 21) key at_key) p)
 
 -- keys in range stand for functions exactly where they are keys of functions
 is_function-leaf_of : (names : List (List ℕ)) (functions : List Function) (variables : List (List ℕ)) (key : Symbol) → length names ≡ length functions → IsInRange (length functions) (length variables) key → is_function (leaf_of_key names functions variables key) ≡ is_function_key key
@@ -77,21 +77,21 @@ is_function-leaf_of names functions variables (Symbol.Variable n sort) same r = 
 is_function-leaf_of names functions variables (Symbol.Numeral n) same r = refl
 
 -- how many functions are before the leaf of a key
-functions_before-key : (names : List (List ℕ)) (functions : List Function) (variables : List (List ℕ)) (keys : List Symbol) (sorts : List (List ℕ)) (k : ℕ) → AreKeysLinked names functions variables keys → functions_before (table_of names functions variables keys sorts) (19 + k) ≡ count_by is_function_key (take k keys)
+functions_before-key : (names : List (List ℕ)) (functions : List Function) (variables : List (List ℕ)) (keys : List Symbol) (sorts : List (List ℕ)) (k : ℕ) → AreKeysLinked names functions variables keys → functions_before (table_of names functions variables keys sorts) (21 + k) ≡ count_by is_function_key (take k keys)
 functions_before-key names functions variables keys sorts k h =
     ap (count_by is_function) (take-append-add first_leaves (map (leaf_of_key names functions variables) keys) k)
     ∙ sum_by-append (λ l. cond (is_function l) 1 0) first_leaves (take k (map (leaf_of_key names functions variables) keys))
     ∙ zero-add (count_by is_function (take k (map (leaf_of_key names functions variables) keys)))
     ∙ count_by-take-map is_function is_function_key (leaf_of_key names functions variables) keys k (λ j key e. is_function-leaf_of names functions variables key h.named (h.in_range j key e))
 
-module _ (t : Table) (names : List (List ℕ)) (functions : List Function) (variables : List (List ℕ)) (keys : List Symbol) (sorts : List (List ℕ)) (leaf : ℕ) (v : table_of names functions variables keys sorts ≡ t) (h : AreKeysLinked names functions variables keys) (seen : List Symbol) (d key : Symbol) (same : seen ≡ keys) (low : 19 ≤ leaf) (high : leaf < length t.leaves) (read : get_or seen (leaf - 19) d ≡ key) where
+module _ (t : Table) (names : List (List ℕ)) (functions : List Function) (variables : List (List ℕ)) (keys : List Symbol) (sorts : List (List ℕ)) (leaf : ℕ) (v : table_of names functions variables keys sorts ≡ t) (h : AreKeysLinked names functions variables keys) (seen : List Symbol) (d key : Symbol) (same : seen ≡ keys) (low : 21 ≤ leaf) (high : leaf < length t.leaves) (read : get_or seen (leaf - 21) d ≡ key) where
   -- a function's number is how many were declared before
   pub before_key : (n : ℕ) → key ≡ Symbol.Function n → functions_before t leaf ≡ n
   before_key n e =
       ap (λ (u : Table). functions_before u leaf) (sym v)
       ∙ ap (functions_before (table_of names functions variables keys sorts)) (sym (back t names functions variables keys sorts leaf v h seen d key same low high read))
-      ∙ functions_before-key names functions variables keys sorts (leaf - 19) h
-      ∙ h.numbered (leaf - 19) n (at_key t names functions variables keys sorts leaf v h seen d key same low high read ∙ ap Some e)
+      ∙ functions_before-key names functions variables keys sorts (leaf - 21) h
+      ∙ h.numbered (leaf - 21) n (at_key t names functions variables keys sorts leaf v h seen d key same low high read ∙ ap Some e)
 
   pub function_kind : (n : ℕ) → key ≡ Symbol.Function n → LeafMeets t leaf (λ l. Kind.Fun n ≡ kind_of (functions_before t leaf) l)
   function_kind n e =
@@ -104,7 +104,7 @@ module _ (t : Table) (names : List (List ℕ)) (functions : List Function) (vari
       (is_function-leaf_of names functions variables key h.named (in_range t names functions variables keys sorts leaf v h seen d key same low high read) ∙ ap is_function_key e)
 
   -- so it is less than there are keys
-  pub number_fits : (n : ℕ) → key ≡ Symbol.Function n → length keys + 19 ≤ 2 ^ 30 → n < 2 ^ 30
+  pub number_fits : (n : ℕ) → key ≡ Symbol.Function n → length keys + 21 ≤ 2 ^ 30 → n < 2 ^ 30
   number_fits n e few =
       let within : n < length functions = subst (IsInRange (length functions) (length variables)) e (in_range t names functions variables keys sorts leaf v h seen d key same low high read) in
       omega (arith, count_by-le-length is_function_key keys, h.counted)

@@ -47,18 +47,20 @@ operator_place Op.Ite = 11
 operator_place Op.Minus = 12
 operator_place Op.Plus = 13
 operator_place Op.Times = 14
-operator_place Op.LessEq = 15
-operator_place Op.Less = 16
-operator_place Op.GreaterEq = 17
-operator_place Op.Greater = 18
+operator_place Op.Div = 15
+operator_place Op.Mod = 16
+operator_place Op.LessEq = 17
+operator_place Op.Less = 18
+operator_place Op.GreaterEq = 19
+operator_place Op.Greater = 20
 
 kind_place : Kind → ℕ
 kind_place Kind.Nil = 0
 kind_place Kind.Let = 1
 kind_place (Kind.Op op) = operator_place op
-kind_place (Kind.Fun n) = 19
-kind_place (Kind.Var sort) = 19
-kind_place (Kind.Num n) = 19
+kind_place (Kind.Fun n) = 21
+kind_place (Kind.Var sort) = 21
+kind_place (Kind.Num n) = 21
 
 in_place : ℕ → List Leaf → Bool
 in_place n [] = true
@@ -132,14 +134,14 @@ leaves_apart names functions variables keys h j k l m at_j at_k kinds names_same
     range : (i : ℕ) (key : Symbol) → slice_get keys i ≡ Some key → IsInRange (length functions) (length variables) key
     range i key e = h.in_range i key e
 
-    go : (slice_get first_leaves j ≡ Some l) ⊎ ((i : ℕ) × (key : Symbol) × (j ≡ 19 + i) × (slice_get keys i ≡ Some key) × (l ≡ leaf_of_key names functions variables key)) → (slice_get first_leaves k ≡ Some m) ⊎ ((i : ℕ) × (key : Symbol) × (k ≡ 19 + i) × (slice_get keys i ≡ Some key) × (m ≡ leaf_of_key names functions variables key)) → j ≡ k
+    go : (slice_get first_leaves j ≡ Some l) ⊎ ((i : ℕ) × (key : Symbol) × (j ≡ 21 + i) × (slice_get keys i ≡ Some key) × (l ≡ leaf_of_key names functions variables key)) → (slice_get first_leaves k ≡ Some m) ⊎ ((i : ℕ) × (key : Symbol) × (k ≡ 21 + i) × (slice_get keys i ≡ Some key) × (m ≡ leaf_of_key names functions variables key)) → j ≡ k
     go (inl a) (inl b) = sym (first_place j l a) ∙ ap kind_place kinds ∙ first_place k m b
     go (inl a) (inr b) = absurd (true≢false (sym (first_kind j l a) ∙ ap is_first kinds ∙ ap (λ x. is_first (kind_of 0 x)) b.4 ∙ key_kind names functions variables b.1 h.named (range b.0 b.1 b.3)))
     go (inr a) (inl b) = absurd (true≢false (sym (first_kind k m b) ∙ ap is_first (sym kinds) ∙ ap (λ x. is_first (kind_of 0 x)) a.4 ∙ key_kind names functions variables a.1 h.named (range a.0 a.1 a.3)))
     go (inr a) (inr b) =
         let one : a.1 ≡ b.1 = same_key names functions variables keys h a.1 b.1 (range a.0 a.1 a.3) (range b.0 b.1 b.3) (sym (ap (kind_of 0) a.4) ∙ kinds ∙ ap (kind_of 0) b.4) (sym (ap name_of a.4) ∙ names_same ∙ ap name_of b.4) in
         let place = h.keys_apart a.0 b.0 b.1 (a.3 ∙ ap Some one) b.3 in
-        a.2 ∙ ap (λ i. 19 + i) place ∙ sym b.2
+        a.2 ∙ ap (λ i. 21 + i) place ∙ sym b.2
 
 -- no numeral is negative
 numeral_leaf : (names : List (List ℕ)) (functions : List Function) (variables : List (List ℕ)) (key : Symbol) (n : ℤ) → length names ≡ length functions → IsInRange (length functions) (length variables) key → numeral n ≡ leaf_of_key names functions variables key → pos 0 ≤ℤ n

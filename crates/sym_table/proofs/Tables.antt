@@ -23,7 +23,7 @@ function_at-known names functions n name f e g =
 pub first_leaf : (names : List (List ℕ)) (functions : List Function) (variables : List (List ℕ)) (keys : List Symbol) (k : ℕ) (l : Leaf) → slice_get first_leaves k ≡ Some l → slice_get (leaves_of names functions variables keys) k ≡ Some l
 first_leaf names functions variables keys k l e = slice_get-left first_leaves (map (leaf_of_key names functions variables) keys) k l e
 
-pub key_leaf : (names : List (List ℕ)) (functions : List Function) (variables : List (List ℕ)) (keys : List Symbol) (k : ℕ) (key : Symbol) → slice_get keys k ≡ Some key → slice_get (leaves_of names functions variables keys) (19 + k) ≡ Some (leaf_of_key names functions variables key)
+pub key_leaf : (names : List (List ℕ)) (functions : List Function) (variables : List (List ℕ)) (keys : List Symbol) (k : ℕ) (key : Symbol) → slice_get keys k ≡ Some key → slice_get (leaves_of names functions variables keys) (21 + k) ≡ Some (leaf_of_key names functions variables key)
 key_leaf names functions variables keys k key e =
     slice_get-right first_leaves (map (leaf_of_key names functions variables) keys) k
     ∙ slice_get-map (leaf_of_key names functions variables) keys k
@@ -38,7 +38,7 @@ image_item {X} v xs k y g = go (slice_get xs k) refl
     go (Some x) h = (x, h, sym (same_Some _ _ (sym (ap (option_map v) h) ∙ sym (slice_get-map v xs k) ∙ g)))
 
 -- a leaf is one of the first, or that of a key
-pub leaf_cases : (names : List (List ℕ)) (functions : List Function) (variables : List (List ℕ)) (keys : List Symbol) (k : ℕ) (l : Leaf) → slice_get (leaves_of names functions variables keys) k ≡ Some l → (slice_get first_leaves k ≡ Some l) ⊎ ((j : ℕ) × (key : Symbol) × (k ≡ 19 + j) × (slice_get keys j ≡ Some key) × (l ≡ leaf_of_key names functions variables key))
+pub leaf_cases : (names : List (List ℕ)) (functions : List Function) (variables : List (List ℕ)) (keys : List Symbol) (k : ℕ) (l : Leaf) → slice_get (leaves_of names functions variables keys) k ≡ Some l → (slice_get first_leaves k ≡ Some l) ⊎ ((j : ℕ) × (key : Symbol) × (k ≡ 21 + j) × (slice_get keys j ≡ Some key) × (l ≡ leaf_of_key names functions variables key))
 leaf_cases names functions variables keys k l e =
     elim (slice_get-cases first_leaves (map (leaf_of_key names functions variables) keys) k l e) [
       | inl h ↦ inl h

@@ -65,5 +65,5 @@ abbrev pub first_leaves : List Leaf
 first_leaves =
     nil ∷ let_head ∷ operator Op.True ∷ operator Op.False ∷ operator Op.Not ∷ operator Op.Implies ∷ operator Op.And
     ∷ operator Op.Or ∷ operator Op.Xor ∷ operator Op.Equal ∷ operator Op.Distinct ∷ operator Op.Ite
-    ∷ operator Op.Minus ∷ operator Op.Plus ∷ operator Op.Times ∷ operator Op.LessEq ∷ operator Op.Less
-    ∷ operator Op.GreaterEq ∷ operator Op.Greater ∷ []
+    ∷ operator Op.Minus ∷ operator Op.Plus ∷ operator Op.Times ∷ operator Op.Div ∷ operator Op.Mod
+    ∷ operator Op.LessEq ∷ operator Op.Less ∷ operator Op.GreaterEq ∷ operator Op.Greater ∷ []

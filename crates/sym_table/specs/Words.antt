@@ -17,6 +17,8 @@ operator_symbol Op.Ite = codes "ite"
 operator_symbol Op.Minus = codes "-"
 operator_symbol Op.Plus = codes "+"
 operator_symbol Op.Times = codes "*"
+operator_symbol Op.Div = codes "div"
+operator_symbol Op.Mod = codes "mod"
 operator_symbol Op.LessEq = codes "<="
 operator_symbol Op.Less = codes "<"
 operator_symbol Op.GreaterEq = codes ">="
@@ -28,10 +30,10 @@ operator_symbol Op.Greater = codes ">"
 abbrev pub built_in_words : List (List ℕ)
 built_in_words =
     codes "true" ∷ codes "false" ∷ codes "not" ∷ codes "=>" ∷ codes "and" ∷ codes "or" ∷ codes "xor" ∷ codes "="
-    ∷ codes "distinct" ∷ codes "ite" ∷ codes "-" ∷ codes "+" ∷ codes "*" ∷ codes "<=" ∷ codes "<" ∷ codes ">="
-    ∷ codes ">" ∷ codes "let" ∷ codes "!" ∷ codes "Bool" ∷ codes "Int" ∷ codes "forall" ∷ codes "exists"
-    ∷ codes "choice" ∷ codes "lambda" ∷ codes "match" ∷ codes "_" ∷ codes "as" ∷ codes "div" ∷ codes "mod"
-    ∷ codes "abs" ∷ codes "/" ∷ codes "to_real" ∷ codes "to_int" ∷ codes "is_int" ∷ codes "divisible" ∷ []
+    ∷ codes "distinct" ∷ codes "ite" ∷ codes "-" ∷ codes "+" ∷ codes "*" ∷ codes "div" ∷ codes "mod" ∷ codes "<="
+    ∷ codes "<" ∷ codes ">=" ∷ codes ">" ∷ codes "let" ∷ codes "!" ∷ codes "Bool" ∷ codes "Int" ∷ codes "forall" ∷ codes "exists"
+    ∷ codes "choice" ∷ codes "lambda" ∷ codes "match" ∷ codes "_" ∷ codes "as" ∷ codes "abs" ∷ codes "/"
+    ∷ codes "to_real" ∷ codes "to_int" ∷ codes "is_int" ∷ codes "divisible" ∷ []
 
 -- the name is one of them
 abbrev pub IsBuiltIn : List ℕ → Type 0

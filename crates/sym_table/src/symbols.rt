@@ -14,7 +14,7 @@ use std::alloc::Global;
 use std::marker::Model;
 
 /// How many leaves a new table has.
-const FIRST_LEAVES: u32 = 19;
+const FIRST_LEAVES: u32 = 21;
 
 /// A table of symbols. It keeps the allocator that it was made with.
 #[derive(Drop)]
@@ -42,7 +42,7 @@ impl Model for Symbols {
 
     ghost invariant = { λ s.
         AreKeysLinked s.function_names s.functions.items s.variable_names s.leaves
-        × (length s.leaves + 19 ≤ 2 ^ 30)
+        × (length s.leaves + 21 ≤ 2 ^ 30)
         × (length s.sort_names ≤ 2 ^ 30)
         × AreApart s.sort_names };
 }

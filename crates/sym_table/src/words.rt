@@ -45,7 +45,7 @@ static OF_1: [&[u8]; 9] = [b"=", b"-", b"+", b"*", b"<", b">", b"!", b"_", b"/"]
 static OF_2: [&[u8]; 5] = [b"=>", b"or", b"<=", b">=", b"as"];
 
 static OF_3: [&[u8]; 9] = [
-    b"not", b"and", b"xor", b"ite", b"let", b"Int", b"div", b"mod", b"abs",
+    b"not", b"and", b"xor", b"ite", b"div", b"mod", b"let", b"Int", b"abs",
 ];
 
 static OF_4: [&[u8]; 2] = [b"true", b"Bool"];

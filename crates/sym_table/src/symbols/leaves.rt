@@ -92,7 +92,7 @@ impl Symbols {
     }
 }
 
-static FIRST_KINDS: [Kind; 19] = [
+static FIRST_KINDS: [Kind; 21] = [
     Kind::Nil,
     Kind::Let,
     Kind::Op(Op::True),
@@ -108,13 +108,15 @@ static FIRST_KINDS: [Kind; 19] = [
     Kind::Op(Op::Minus),
     Kind::Op(Op::Plus),
     Kind::Op(Op::Times),
+    Kind::Op(Op::Div),
+    Kind::Op(Op::Mod),
     Kind::Op(Op::LessEq),
     Kind::Op(Op::Less),
     Kind::Op(Op::GreaterEq),
     Kind::Op(Op::Greater),
 ];
 
-static FIRST_NAMES: [&[u8]; 19] = [
+static FIRST_NAMES: [&[u8]; 21] = [
     b"",
     b"let",
     b"true",
@@ -130,6 +132,8 @@ static FIRST_NAMES: [&[u8]; 19] = [
     b"-",
     b"+",
     b"*",
+    b"div",
+    b"mod",
     b"<=",
     b"<",
     b">=",
@@ -138,7 +142,7 @@ static FIRST_NAMES: [&[u8]; 19] = [
 
 // The kind of one of the first leaves.
 fn first_kind(leaf: u32) -> Kind
-    requires { leaf < 19 }
+    requires { leaf < 21 }
     ensures { IsSomeAnd (slice_get first_leaves leaf) (λ l. result ≡ kind_of 0 l) }
 {
     FIRST_KINDS[leaf as usize]
@@ -146,7 +150,7 @@ fn first_kind(leaf: u32) -> Kind
 
 // The name of one of the first leaves.
 fn first_name(leaf: u32) -> &'static [u8]
-    requires { leaf < 19 }
+    requires { leaf < 21 }
     ensures { IsSomeAnd (slice_get first_leaves leaf) (λ l. result.now ≡ name_of l) }
 {
     FIRST_NAMES[leaf as usize]

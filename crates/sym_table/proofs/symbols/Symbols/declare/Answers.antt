@@ -55,7 +55,7 @@ pub returns-clause-declared : goal.returns-clause-declared
 returns-clause-declared c =
     let e = c.in_ok-add_function.ensures in
     let added = adds _ _ _ _ _ _ _ _ e.names e.functions e.keys in (
-      ap (λ n. 19 + n) c.len-place.ensures.len ∙ sym (length-seen _ _ _ _ _ _ c.self.view_is),
+      ap (λ n. 21 + n) c.len-place.ensures.len ∙ sym (length-seen _ _ _ _ _ _ c.self.view_is),
       with_leaf-declared _ _ _ _ _ _ _ _ _ _ _ c.self.view_is c.self.invariant.0 added
           ∙ ap (λ sorts. with_leaf c.args.self.now (function c.args.name.now sorts c.args.target)) c.in_ok-arguments.ensures,
     )
