@@ -6,7 +6,7 @@ use Rattle.term_model.specs.declared.symbols.Op.{Op}
 use Rattle.term_model.specs.Terms.{Term, Terms, no_terms, term, operation, list_of, terms_of, sort_eq}
 use Rattle.term_model.specs.Sorts.{sorts_eq, choice_sort, application_sort, IsOf, AreOf}
 use Rattle.term_model.proofs.Basics.{and-left, and-right}
-use Rattle.term_model.proofs.Sorting.{when-true, choice_sort-branches}
+use Rattle.term_model.proofs.Sorting.{when-true, choice_sort-branches, operation_application}
 use Rattle.term_model.proofs.Tests.{sort_eq_decides, sorts_eq_decides}
 
 -- the operators whose arguments are all of Bool
@@ -38,7 +38,8 @@ terms_are_truths (term t ts) (s ∷ ss) h e = (
 )
 
 pub all_arguments_are_truths : (op : Op) (ts : Terms) → are_truths op ≡ true → IsOf (operation op ts) Sort.Bool → AllByRecursion (λ t. IsOf t Sort.Bool) (list_of ts)
-all_arguments_are_truths op ts e h = terms_are_truths ts h.sorts h.arguments (sorts_are_truths op h.sorts Sort.Bool e h.is)
+all_arguments_are_truths op ts e h = terms_are_truths ts h.sorts h.arguments
+    (sorts_are_truths op h.sorts Sort.Bool e (operation_application op ts h.sorts Sort.Bool h.is))
 
 choices : (c s t : Term) (ss : List Sort) → AreOf (terms_of (c ∷ s ∷ t ∷ [])) ss → choice_sort ss ≡ Some Sort.Bool → IsOf c Sort.Bool × IsOf s Sort.Bool × IsOf t Sort.Bool
 choices c s t [] h e = absurd h

@@ -2,12 +2,14 @@
 use Rattle.std.proofs.Common.{◌≡◌, List, [], ◌∷◌, ◌++◌, Bool, true, false, if◌then◌else◌, refl, sym, ◌∙◌, ap, subst, append_assoc}
 use Rattle.std.specs.List.{AllByRecursion}
 use Rattle.term_model.specs.declared.symbols.Sort.{Sort}
+use Rattle.term_model.specs.declared.symbols.Op.{Op}
 use Rattle.term_model.specs.Terms.{Var, var_eq, Term, numeral, variable, operation, call, let_in, Terms, no_terms, term, Bindings, no_bindings, binding}
-use Rattle.term_model.specs.Sorts.{IsOf, AreOf, AreBound}
+use Rattle.term_model.specs.Sorts.{is_divisor, has_divisor, divides, IsOf, AreOf, AreBound}
 use Rattle.term_model.specs.Operators.{meaning}
 use Rattle.term_model.specs.Interpretations.{Interpretation, first_row}
 use Rattle.term_model.specs.Meaning.{Valuation, value_at, value, values, bound}
 use Rattle.term_model.proofs.Tests.{var_eq_decides}
+use Rattle.term_model.proofs.Sorting.{operation_again}
 use Rattle.term_model.proofs.Lists.{all_joined}
 use Rattle.rule_model.specs.Replacement.{Replacement, replaced_by, replaced, replaced_all, replaced_bindings, HasNoLet, HaveNoLet, values_put}
 use Rattle.rule_model.specs.Substitution.{HaveTheirSorts}
@@ -20,14 +22,35 @@ term_at-sort (b ∷ r) x h = go (var_eq b.0 x) refl (term_at-sort r x h.1)
     go true e rest = subst (λ y. IsOf b.1 y.sort) ((var_eq_decides b.0 x).0 e) h.0
     go false e rest = rest
 
+-- a divisor has no variable, so that it stays
+divisor_stays : (r : Replacement) (t : Term) → is_divisor t ≡ true → is_divisor (replaced r t) ≡ true
+unfolding replaced
+divisor_stays r (numeral n) e = e
+divisor_stays r (operation Op.Minus (term (numeral n) no_terms)) e = e
+divisor_stays r _ e = absurd cc
+
+has_divisor_stays : (r : Replacement) (ts : Terms) → has_divisor ts ≡ true → has_divisor (replaced_all r ts) ≡ true
+unfolding replaced
+has_divisor_stays r no_terms e = absurd cc
+has_divisor_stays r (term t no_terms) e = absurd cc
+has_divisor_stays r (term t (term u ts)) e = divisor_stays r u e
+
+divides_stays : (r : Replacement) (op : Op) (ts : Terms) → divides op ts ≡ true → divides op (replaced_all r ts) ≡ true
+divides_stays r Op.Div ts e = has_divisor_stays r ts e
+divides_stays r Op.Mod ts e = has_divisor_stays r ts e
+divides_stays r _ ts e = refl
+
 mutual
   unfolding replaced
 
   pub replaced-sort : (t : Term) (r : Replacement) (s : Sort) → HaveTheirSorts r → IsOf t s → IsOf (replaced r t) s
   replaced-sort (numeral n) r s h e = e
   replaced-sort (variable x) r s h e = subst (IsOf (replaced_by r x)) (sym e) (term_at-sort r x h)
-  replaced-sort (operation op ts) r s h e =
-      record { sorts = e.sorts; arguments = replaced_all-sorts ts r e.sorts h e.arguments; is = e.is }
+  replaced-sort (operation op ts) r s h e = record {
+    sorts = e.sorts;
+    arguments = replaced_all-sorts ts r e.sorts h e.arguments;
+    is = operation_again op ts (replaced_all r ts) e.sorts s (divides_stays r op ts) e.is;
+  }
   replaced-sort (call f ts) r s h e =
       record { sorts = e.sorts; arguments = replaced_all-sorts ts r e.sorts h e.arguments; is = e.is }
   replaced-sort (let_in bs t) r s h e =

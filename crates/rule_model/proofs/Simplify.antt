@@ -6,7 +6,7 @@ use Rattle.term_model.specs.declared.symbols.Sort.{Sort}
 use Rattle.term_model.specs.Flips.{equality}
 use Rattle.term_model.specs.Interpretations.{Interpretation}
 use Rattle.term_model.specs.Meaning.{Valuation, ValuationFits, value}
-use Rattle.term_model.specs.Sorts.{IsOf, AreOf, application_sort, at_least, IsWellSorted}
+use Rattle.term_model.specs.Sorts.{IsOf, AreOf, application_sort, operation_sort, at_least, IsWellSorted}
 use Rattle.term_model.specs.Terms.{sort_eq, Term, numeral, variable, call, let_in, operation, term, no_terms, not_of}
 use Rattle.term_model.specs.Values.{Value, truth, whole, as_truth, as_whole}
 use Rattle.term_model.specs.Unsatisfiable.{MakesTrue}
@@ -205,7 +205,7 @@ number_value I r (let_in bs t) z e = absurd cc
 equality_bool : (t u : Term) (s : Sort) → IsOf (equality t u) s → s ≡ Sort.Bool
 equality_bool t u s h = when-same _ _ s h.is
 
-constant_bool : (op : Op) → application_sort op [] ≡ Some Sort.Bool → IsOf (operation op no_terms) Sort.Bool
+constant_bool : (op : Op) → operation_sort op no_terms [] ≡ Some Sort.Bool → IsOf (operation op no_terms) Sort.Bool
 constant_bool op e = record { sorts = []; arguments = tt; is = e }
 
 truth_false : (x : Bool) → ¬ (truth x ≡ truth true) → truth x ≡ truth false

@@ -1,10 +1,12 @@
 -- What putting terms in comes to: which variables matter and which stay free, and the sort of the result.
 use Rattle.std.proofs.Common.{◌≡◌, List, [], ◌∷◌, Bool, true, false, not, ◌⊎◌, ◌↔◌, cond, if◌then◌else◌, refl, sym, ap, ◌∙◌, subst, inl, inr}
 use Rattle.term_model.specs.declared.symbols.Sort.{Sort}
+use Rattle.term_model.specs.declared.symbols.Op.{Op}
 use Rattle.term_model.specs.Terms.{Var, var_eq, Term, numeral, variable, operation, call, let_in, Terms, no_terms, term, Bindings, no_bindings, binding}
 use Rattle.term_model.specs.FreeVariables.{Binds, IsFree, IsFreeAmong, IsFreeBound, IsClosed}
-use Rattle.term_model.specs.Sorts.{IsOf, AreOf, AreBound}
+use Rattle.term_model.specs.Sorts.{is_divisor, has_divisor, divides, IsOf, AreOf, AreBound}
 use Rattle.term_model.proofs.Basics.{else_branch}
+use Rattle.term_model.proofs.Sorting.{operation_again}
 use Rattle.term_model.proofs.Tests.{var_eq_decides}
 use Rattle.rule_model.specs.Replacement.{Replacement, replaced_by, binds}
 use Rattle.rule_model.specs.Substitution.{unbound, put_in, put_in_all, put_in_bound, Replaces, AreClosed, HaveTheirSorts}
@@ -118,13 +120,32 @@ put_in_others s t h = put_in_agrees t s [] (λ x free. term_at-none s x (h x fre
 pub put_in_closed : (s : Replacement) (t : Term) → IsClosed t → put_in s t ≡ t
 put_in_closed s t closed = put_in_others s t (λ x free. absurd (closed x free))
 
+-- a divisor has no variable, so that it stays
+divisor_put_in : (s : Replacement) (t : Term) → is_divisor t ≡ true → is_divisor (put_in s t) ≡ true
+divisor_put_in s (numeral n) e = e
+divisor_put_in s (operation Op.Minus (term (numeral n) no_terms)) e = e
+divisor_put_in s _ e = absurd cc
+
+has_divisor_put_in : (s : Replacement) (ts : Terms) → has_divisor ts ≡ true → has_divisor (put_in_all s ts) ≡ true
+has_divisor_put_in s no_terms e = absurd cc
+has_divisor_put_in s (term t no_terms) e = absurd cc
+has_divisor_put_in s (term t (term u ts)) e = divisor_put_in s u e
+
+divides_put_in : (s : Replacement) (op : Op) (ts : Terms) → divides op ts ≡ true → divides op (put_in_all s ts) ≡ true
+divides_put_in s Op.Div ts e = has_divisor_put_in s ts e
+divides_put_in s Op.Mod ts e = has_divisor_put_in s ts e
+divides_put_in s _ ts e = refl
+
 -- sorts
 mutual
   pub put_in_sort : (s : Replacement) (t : Term) (sort : Sort) → HaveTheirSorts s → IsOf t sort → IsOf (put_in s t) sort
   put_in_sort s (numeral n) sort h e = e
   put_in_sort s (variable x) sort h e = subst (IsOf (replaced_by s x)) (sym e) (term_at-sort s x h)
-  put_in_sort s (operation op ts) sort h e =
-      record { sorts = e.sorts; arguments = put_in_all_sorts s ts e.sorts h e.arguments; is = e.is }
+  put_in_sort s (operation op ts) sort h e = record {
+    sorts = e.sorts;
+    arguments = put_in_all_sorts s ts e.sorts h e.arguments;
+    is = operation_again op ts (put_in_all s ts) e.sorts sort (divides_put_in s op ts) e.is;
+  }
   put_in_sort s (call f ts) sort h e =
       record { sorts = e.sorts; arguments = put_in_all_sorts s ts e.sorts h e.arguments; is = e.is }
   put_in_sort s (let_in bs t) sort h e = (
