@@ -8,6 +8,7 @@ use Rattle.term_model.specs.declared.symbols.Sort.{Sort}
 use Rattle.term_model.specs.declared.symbols.Op.{Op}
 use Rattle.term_model.specs.Terms.{Var, Fun, Term, Terms, Bindings, numeral, variable, operation, call, let_in, no_terms, term, list_of}
 use Rattle.term_model.specs.Sorts.{IsOf, AreOf, application_sort}
+use Rattle.term_model.proofs.Sorting.{operation_application}
 use Rattle.term_model.proofs.Arities.{choice_sort_of, call_sort_of}
 use Rattle.term_model.specs.Heights.{height, highest}
 use Rattle.term_pool.specs.declared.shape.Shape.{Shape}
@@ -118,7 +119,7 @@ operator_step s k n op u h fixed t sort i head =
     let leaf : IsLeaf s k (operator op) = x.1 ∙ ap Some (operator_leaf n op x.0 x.2) in
     let y = head_operation s k op t leaf head in
     let j : IsOf (operation op y.0) sort = rw y.1 at i in
-    sym (fixed j.sorts sort j.is)
+    sym (fixed j.sorts sort (operation_application op y.0 j.sorts sort j.is))
 
 -- the first branch of a well-sorted `ite`
 record IsBranch (ts : Terms) (sort : Sort) : Type 0 where

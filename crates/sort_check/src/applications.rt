@@ -1,8 +1,8 @@
 //! The sort of an application.
 
-ghost use Rattle.std.specs.Prelude.{◌≡◌, List, IfSome, IfNone};
+ghost use Rattle.std.specs.Prelude.{◌≡◌, List, IfSome, IfNone, true};
 ghost use Rattle.sym_table.specs.Table.{LeafMeets};
-ghost use Rattle.term_model.specs.Sorts.{IsOf, AreOf, IsWellSorted};
+ghost use Rattle.term_model.specs.Sorts.{IsOf, AreOf, IsWellSorted, divides_rightly};
 ghost use Rattle.term_model.specs.Terms.{Term, terms_of};
 ghost use Rattle.term_pool.specs.Building.{IsAppliedLeaf};
 ghost use Rattle.sort_check.specs.Applications.{IsHead, applied_sort};
@@ -17,14 +17,16 @@ use term_model::Sort;
 /// theories Core and Ints).
 ///
 /// The symbol is told by its leaf. No arguments stand for the symbol by itself. Where the arguments are well sorted
-/// and of these sorts, the application is well sorted and of the sort that is returned, and is not well sorted
-/// where none is. Takes time in proportion to the number of sorts, and no memory.
+/// and of these sorts, the application is of the sort that is returned and well sorted, if it does not divide by
+/// anything but a constant other than zero, of which sorts say nothing; and it is not well sorted where none is.
+/// Takes time in proportion to the number of sorts, and no memory.
 pub fn check_app(symbols: &Symbols, head: u32, sorts: &[Sort]) -> Option<Sort>
     requires { IsHead symbols.now head }
     ensures sort { LeafMeets symbols.now head (λ l. result ≡ applied_sort l sorts.now) }
 
-    // What is accepted is well sorted, and what is refused is not.
-    ensures accepted { IfSome result (λ sort. (ts : List Term) (t : Term) → AreOf (terms_of ts) sorts.now → IsAppliedLeaf symbols.now head ts t → IsOf t sort) }
+    // What is accepted is well sorted where it divides by a constant other than zero, and what is refused is not.
+    ensures accepted { IfSome result (λ sort. (ts : List Term) (t : Term) → AreOf (terms_of ts) sorts.now → IsAppliedLeaf symbols.now head ts t →
+        divides_rightly t ≡ true → IsOf t sort) }
     ensures refused { IfNone result ((ts : List Term) (t : Term) → AreOf (terms_of ts) sorts.now → IsAppliedLeaf symbols.now head ts t → IsWellSorted t → ⊥) }
 {
     match symbols.kind(head) {

@@ -1,7 +1,7 @@
 //! What the operators may be applied to, and the sort that comes of it (SMT-LIB 2.6, the theories Core and Ints).
 
-ghost use Rattle.std.specs.Prelude.{◌≡◌, ◌&&◌, List, Some, IfSome, IfNone, length, nat_le};
-ghost use Rattle.term_model.specs.Sorts.{at_least, of_one_sort, choice_sort, application_sort};
+ghost use Rattle.std.specs.Prelude.{◌≡◌, ◌&&◌, ◌∷◌, [], List, Some, IfSome, IfNone, length, nat_le};
+ghost use Rattle.term_model.specs.Sorts.{at_least, of_one_sort, sorts_eq, choice_sort, application_sort};
 ghost use Rattle.term_model.specs.declared.symbols.Op.{Op};
 ghost use Rattle.term_model.specs.declared.symbols.Sort.{Sort};
 
@@ -20,6 +20,7 @@ pub(crate) fn check_operator(op: Op, sorts: &[Sort]) -> Option<Sort>
         Op::Equal | Op::Distinct => sort_when(are_alike(sorts), Sort::Bool),
         Op::Ite => choice(sorts),
         Op::Minus | Op::Plus | Op::Times => sort_when(are_at_least(1, Sort::Int, sorts), Sort::Int),
+        Op::Div | Op::Mod => sort_when(are_two(Sort::Int, sorts), Sort::Int),
         Op::LessEq | Op::Less => sort_when(are_at_least(2, Sort::Int, sorts), Sort::Bool),
         Op::GreaterEq | Op::Greater => sort_when(are_at_least(2, Sort::Int, sorts), Sort::Bool),
     }
@@ -32,7 +33,7 @@ pub(crate) fn fixed_sort(op: Op) -> Option<Sort>
 {
     match op {
         Op::Ite => None,
-        Op::Minus | Op::Plus | Op::Times => Some(Sort::Int),
+        Op::Minus | Op::Plus | Op::Times | Op::Div | Op::Mod => Some(Sort::Int),
         _ => Some(Sort::Bool),
     }
 }
@@ -42,6 +43,16 @@ fn are_at_least(count: usize, sort: Sort, sorts: &[Sort]) -> bool
     ensures { result ≡ at_least count sort sorts.now }
 {
     count <= sorts.len() && all_are(sort, sorts)
+}
+
+/// Whether there are just two sorts, and both are this one.
+fn are_two(sort: Sort, sorts: &[Sort]) -> bool
+    ensures { result ≡ sorts_eq (sort ∷ sort ∷ []) sorts.now }
+{
+    match sorts {
+        [first, second] => same(sort, *first) && same(sort, *second),
+        _ => false,
+    }
 }
 
 /// Whether there are two sorts or more, and all are one.
