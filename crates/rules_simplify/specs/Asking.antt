@@ -1,10 +1,10 @@
 -- Private. What rows ask of the terms that their letters stand for.
-use Rattle.std.specs.Prelude.{◌≡◌, ◌≢◌, ◌<ℤ◌, ◌≤ℤ◌, ℕ, ℤ, pos, List, [], ◌∷◌, Option, Some, None, ⊤}
+use Rattle.std.specs.Prelude.{◌≡◌, ◌≢◌, ◌<ℤ◌, ◌≤ℤ◌, ℕ, ℤ, List, [], ◌∷◌, Some, ⊤}
 use Rattle.std.specs.List.{AllByRecursion}
 use Rattle.sym_table.specs.Table.{Table}
 use Rattle.term_model.specs.declared.symbols.Sort.{Sort}
 use Rattle.term_model.specs.Sorts.{IsOf}
-use Rattle.term_model.specs.Terms.{Term, numeral}
+use Rattle.term_model.specs.Terms.{Term}
 use Rattle.term_pool.specs.Views.{TermsView}
 use Rattle.rule_model.specs.declared.letter.Letter.{Letter}
 use Rattle.rule_model.specs.Rewriting.{AreConstantsBy}
@@ -14,11 +14,6 @@ use Rattle.sort_check.specs.WellSorted.{IsWellSortedTerm}
 use Rattle.rules_simplify.specs.declared.asked.Asked.{Asked}
 use Rattle.rules_simplify.specs.declared.asked.Asked.TheVariants.{Nothing, Truth, Numbers}
 use Rattle.rules_simplify.specs.declared.asked.NumberTest.{NumberTest}
-
--- the number of a numeral
-abbrev pub numeral_number : Term → Option ℤ
-numeral_number (numeral n) = Some (pos n)
-numeral_number _ = None
 
 -- how the first number stands to the second one
 abbrev pub NumbersStand : NumberTest → ℤ → ℤ → Type 0

@@ -1,7 +1,6 @@
 //! What a row asks besides that its left side fits: of the terms that its letters stand for.
 
-ghost use Rattle.std.specs.Prelude.{◌≡◌, ◌↔◌, ◌≤ℤ◌, pos, IfSome, IsTrue};
-ghost use Rattle.rule_model.specs.Constants.{constant_of};
+ghost use Rattle.std.specs.Prelude.{◌≡◌, ◌↔◌, IsTrue};
 ghost use Rattle.rule_model.specs.Rewriting.{AreConstantsBy};
 ghost use Rattle.rule_model.specs.declared.letter.Letter.{Letter};
 ghost use Rattle.schema_match.specs.Letters.{Agrees};
@@ -10,16 +9,16 @@ ghost use Rattle.term_model.specs.Sorts.{IsOf};
 ghost use Rattle.term_model.specs.Terms.{Term};
 ghost use Rattle.term_model.specs.declared.symbols.Sort.TheVariants as Sort;
 ghost use Rattle.term_pool.specs.Views.{IsTerm, RefersTo};
-ghost use Rattle.rules_simplify.specs.Asking.{AreSortedLetters, IsAsAsked, NumbersStand, numeral_number};
+ghost use Rattle.rules_simplify.specs.Asking.{AreSortedLetters, IsAsAsked, NumbersStand};
 
 use pair_pool::Ref;
 use rule_model::Letter;
 use schema_match::Letters;
 use sort_check::sort_of;
 use sym_table::Symbols;
-use term_model::{Op, Sort};
-use term_parts::is_over;
-use term_pool::{Shape, Terms};
+use term_model::Sort;
+use term_parts::constant;
+use term_pool::Terms;
 
 /// How a number has to stand to another.
 #[derive(Clone, Copy)]
@@ -50,35 +49,6 @@ fn is_truth(symbols: &Symbols, terms: &mut Terms<'_>, r: Ref) -> bool
         Sort::Bool => true,
         _ => false,
     }
-}
-
-/// The number of a numeral.
-fn numeral(symbols: &Symbols, terms: &mut Terms<'_>, r: Ref) -> Option<i128>
-    requires { IsTerm symbols.now terms.old r }
-    ensures numeral { (t : Term) → RefersTo symbols.now terms.old r t → result ≡ numeral_number t }
-    ensures natural { IfSome result (λ n. pos 0 ≤ℤ n) }
-    ensures same { terms.new ≡ terms.old }
-{
-    match terms.view(symbols, r) {
-        Shape::Num(n) => Some(n),
-        _ => None,
-    }
-}
-
-/// The number of a constant: of a numeral, or of `(- n)` of one.
-fn constant(symbols: &Symbols, terms: &mut Terms<'_>, r: Ref) -> Option<i128>
-    requires { IsTerm symbols.now terms.old r }
-    ensures constant { (t : Term) → RefersTo symbols.now terms.old r t → result ≡ constant_of t }
-    ensures same { terms.new ≡ terms.old }
-{
-    if !is_over(symbols, terms, Op::Minus, 1, r) {
-        return numeral(symbols, terms, r);
-    }
-    let inner = terms.nth_arg(r, 0);
-    let Some(n) = numeral(symbols, terms, inner) else {
-        return None;
-    };
-    Some(-n)
 }
 
 /// Whether a number stands so to another.

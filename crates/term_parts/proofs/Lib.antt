@@ -1,3 +1,4 @@
 pub mod Options
 pub mod PartLemmas
 pub mod JudgingLemmas
+pub mod ConstantLemmas

@@ -1,8 +1,8 @@
 -- By the shape of the term.
 use Rattle.std.proofs.Common.{FitsSigned, rules}
 use Rattle.std.proofs.lemmas.Int.{to_z-of_z}
-use Rattle.rules_simplify.proofs.AskingLemmas.{numeral_shape, natural_shape, other_shape}
-use Rattle.rules_simplify.proofs.asked.numeral.Goals as goal
+use Rattle.term_parts.proofs.ConstantLemmas.{numeral_shape, natural_shape, other_shape}
+use Rattle.term_parts.proofs.constants.numeral.Goals as goal
 
 pub returns-in-Num-clause-numeral : goal.returns-in-Num-clause-numeral
 returns-in-Num-clause-numeral c t refers =

@@ -3,8 +3,8 @@ use Rattle.std.proofs.Common.{◌∙◌, Some, FitsSigned, sym, ap, rules, arith
 use Rattle.std.proofs.lemmas.Bool.{false≢true}
 use Rattle.term_model.specs.declared.symbols.Op.{Op}
 use Rattle.term_parts.proofs.PartLemmas.{has_argument}
-use Rattle.rules_simplify.proofs.AskingLemmas.{no_minus, minus_refers, minus_number, minus_no_number, negated_back}
-use Rattle.rules_simplify.proofs.asked.constant.Goals as goal
+use Rattle.term_parts.proofs.ConstantLemmas.{no_minus, minus_refers, minus_number, minus_no_number, negated_back}
+use Rattle.term_parts.proofs.constants.constant.Goals as goal
 
 pub returns-then-not-is_over-clause-constant : goal.returns-then-not-is_over-clause-constant
 returns-then-not-is_over-clause-constant c t refers =
