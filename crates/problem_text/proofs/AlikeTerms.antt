@@ -13,7 +13,7 @@ use Rattle.problem_text.specs.Limits.{is_low}
 use Rattle.problem_text.specs.TypedTerms.{Typed}
 use Rattle.problem_text.specs.Outcomes.{Outcome, done, refuse, going_on, and_then}
 use Rattle.problem_text.specs.Scripts.{Named, Script, is_taken, with_named, with_term, with_let_name}
-use Rattle.problem_text.specs.Names.{Bound, Place, Meaning, meaning_of, meaning_applied, place_inside, let_term}
+use Rattle.problem_text.specs.Names.{Bound, Place, Meaning, meaning_of, meaning_applied, refusal_of, place_inside, let_term}
 use Rattle.problem_text.specs.Terms.{settled, with_meaning, with_names, term_from, terms_from, bounds_from}
 use Rattle.sexpr.specs.Items.{Item}
 use Rattle.problem_text.specs.Forms.{form_of}
@@ -54,10 +54,10 @@ if_alike true false o q o' q' e h k = absurd (cc)
 if_alike false true o q o' q' e h k = absurd (cc)
 if_alike false false o q o' q' e h k = k
 
-settled_alike : (limit : Option ℕ) (place other : ℕ) (o : Option Typed) (s u : Script) → SayTheSame s u
-    → EndAlike (settled limit place o s) (settled limit other o u)
-settled_alike limit place other None s u same = refused_alike SortMismatch place other s u same
-settled_alike limit place other (Some t) s u same =
+settled_alike : (cause : Cause) (limit : Option ℕ) (place other : ℕ) (o : Option Typed) (s u : Script) → SayTheSame s u
+    → EndAlike (settled cause limit place o s) (settled cause limit other o u)
+settled_alike cause limit place other None s u same = refused_alike cause place other s u same
+settled_alike cause limit place other (Some t) s u same =
     if_alike (is_low limit (height t.tree)) (is_low limit (height t.tree)) _ _ _ _ refl
     (done_alike t (with_term t.tree s) (with_term t.tree u) same) (refused_alike TooHigh place other (with_term t.tree s) (with_term t.tree u) same)
 
@@ -79,23 +79,25 @@ mutual
 
   pub term_alike : (f : Form) (p : Place) (s u : Script) → SayTheSame s u → EndAlike (term_from f p s) (term_from (form_unplaced f) p u)
   term_alike (faulty cause place) p s u same = refused_alike cause place 0 s u same
-  term_alike (number place n) p s u same = settled_alike p.settings.limit place 0 (Some (record { tree = numeral n; sort = Sort.Int })) s u same
+  term_alike (number place n) p s u same = settled_alike SortMismatch p.settings.limit place 0 (Some (record { tree = numeral n; sort = Sort.Int })) s u same
   term_alike (symbol n) p s u same =
-      subst (λ m. EndAlike (term_from (symbol n) p s) (with_meaning 0 m u (λ m. settled p.settings.limit 0 (meaning_applied m []) u)))
+      subst (λ m. EndAlike (term_from (symbol n) p s) (with_meaning 0 m u (λ m. settled SortMismatch p.settings.limit 0 (meaning_applied m []) u)))
       (same_meaning p s u n.name same)
-      (meaning_alike n.place 0 (meaning_of p s n.name) s u _ _ same (λ m. settled_alike p.settings.limit n.place 0 (meaning_applied m []) s u same))
+      (meaning_alike n.place 0 (meaning_of p s n.name) s u _ _ same
+      (λ m. settled_alike SortMismatch p.settings.limit n.place 0 (meaning_applied m []) s u same))
   term_alike (application place head fs) p s u same =
       subst (λ m. EndAlike (term_from (application place head fs) p s)
-      (with_meaning 0 m u (λ m. and_then (terms_from (forms_unplaced fs) p u) (λ ts last. settled p.settings.limit 0 (meaning_applied m ts) last))))
+      (with_meaning 0 m u (λ m. and_then (terms_from (forms_unplaced fs) p u)
+      (λ ts last. settled (refusal_of m ts) p.settings.limit 0 (meaning_applied m ts) last))))
       (same_meaning p s u head.name same)
       (meaning_alike head.place 0 (meaning_of p s head.name) s u _ _ same
       (λ m. alike_then (terms_from fs p s) (terms_from (forms_unplaced fs) p u) _ _ (terms_alike fs p s u same)
-      (λ ts s u same. settled_alike p.settings.limit place 0 (meaning_applied m ts) s u same)))
+      (λ ts s u same. settled_alike (refusal_of m ts) p.settings.limit place 0 (meaning_applied m ts) s u same)))
   term_alike (let_form place bs body) p s u same =
       alike_then (bounds_from bs [] p s) (bounds_from (binds_unplaced bs) [] p u) _ _ (bounds_alike bs [] p s u same)
       (λ bound s u same. alike_then (term_from body (place_inside bound p) s) (term_from (form_unplaced body) (place_inside bound p) u) _ _
       (term_alike body (place_inside bound p) s u same)
-      (λ t s u same. settled_alike p.settings.limit place 0 (Some (let_term p bound t)) s u same))
+      (λ t s u same. settled_alike SortMismatch p.settings.limit place 0 (Some (let_term p bound t)) s u same))
   term_alike (annotated place f names) p s u same =
       alike_then (term_from f p s) (term_from (form_unplaced f) p u) _ _ (term_alike f p s u same) (λ t s u same. names_alike t names s u same)
 

@@ -18,7 +18,7 @@ use Rattle.problem_text.specs.TypedTerms.{Typed}
 use Rattle.problem_text.specs.Outcomes.{Outcome, done, refuse, given, and_then}
 use Rattle.problem_text.specs.Scripts.{Named, Script, is_taken, with_name, with_named, with_term, with_let_name}
 use Rattle.problem_text.specs.Sorts.{sort_from, sorts_from, parameters_from}
-use Rattle.problem_text.specs.Names.{Place, Meaning, meaning_of, meaning_applied, place_inside, let_term, itself}
+use Rattle.problem_text.specs.Names.{Place, Meaning, meaning_of, meaning_applied, refusal_of, place_inside, let_term, itself}
 use Rattle.problem_text.specs.Terms.{settled, with_meaning, with_names, term_from, terms_from, bounds_from, read_term}
 use Rattle.problem_text.specs.Problems.{logic_set, sort_declared, function_declared, function_defined, term_asserted, script_performed, ends, script_commands}
 use Rattle.problem_text.proofs.Outcomes.{Ends, ends-and_then, ends-goes_on}
@@ -52,9 +52,9 @@ module _ (P : Script → Type 0) where
 module _ (P : Script → Type 0) (after_term : (t : Term) (s : Script) → P s → P (with_term t s))
     (after_let_name : (name : List ℕ) (s : Script) → P s → P (with_let_name name s))
     (after_naming : (n : Named) (s : Script) → is_taken s n.name ≡ false → P s → P (with_named n s)) where
-  kept_settled : (limit : Option ℕ) (place : ℕ) (o : Option Typed) (s : Script) → P s → Keeps P (settled limit place o s)
-  kept_settled limit place None s h = (h, tt)
-  kept_settled limit place (Some t) s h = go (is_low limit (height t.tree))
+  kept_settled : (cause : Cause) (limit : Option ℕ) (place : ℕ) (o : Option Typed) (s : Script) → P s → Keeps P (settled cause limit place o s)
+  kept_settled cause limit place None s h = (h, tt)
+  kept_settled cause limit place (Some t) s h = go (is_low limit (height t.tree))
     where
       go : (b : Bool) → Keeps P (if b then done t (with_term t.tree s) else refuse TooHigh place (with_term t.tree s))
       go true = (after_term t.tree s h, tt)
@@ -82,15 +82,17 @@ module _ (P : Script → Type 0) (after_term : (t : Term) (s : Script) → P s �
 
     pub kept_term : (f : Form) (p : Place) (s : Script) → P s → Keeps P (term_from f p s)
     kept_term (faulty cause place) p s h = (h, tt)
-    kept_term (number place n) p s h = kept_settled p.settings.limit place (Some (record { tree = numeral n; sort = Sort.Int })) s h
-    kept_term (symbol n) p s h = by_meaning n.place (meaning_of p s n.name) s _ h (λ m. kept_settled p.settings.limit n.place (meaning_applied m []) s h)
+    kept_term (number place n) p s h = kept_settled SortMismatch p.settings.limit place (Some (record { tree = numeral n; sort = Sort.Int })) s h
+    kept_term (symbol n) p s h = by_meaning n.place (meaning_of p s n.name) s _ h
+        (λ m. kept_settled SortMismatch p.settings.limit n.place (meaning_applied m []) s h)
     kept_term (application place head fs) p s h =
         by_meaning head.place (meaning_of p s head.name) s _ h
-        (λ m. keeps_then P (terms_from fs p s) _ (kept_terms fs p s h).0 (λ ts end k. kept_settled p.settings.limit place (meaning_applied m ts) end k))
+        (λ m. keeps_then P (terms_from fs p s) _ (kept_terms fs p s h).0
+        (λ ts end k. kept_settled (refusal_of m ts) p.settings.limit place (meaning_applied m ts) end k))
     kept_term (let_form place bs body) p s h =
         keeps_then P (bounds_from bs [] p s) _ (kept_bounds bs [] p s h).0
         (λ bound end k. keeps_then P (term_from body (place_inside bound p) end) _ (kept_term body (place_inside bound p) end k).0
-        (λ t last l. kept_settled p.settings.limit place (Some (let_term p bound t)) last l))
+        (λ t last l. kept_settled SortMismatch p.settings.limit place (Some (let_term p bound t)) last l))
     kept_term (annotated place f names) p s h = keeps_then P (term_from f p s) _ (kept_term f p s h).0 (λ t end k. kept_names t names end k)
 
     kept_terms : (fs : Forms) (p : Place) (s : Script) → P s → Keeps P (terms_from fs p s)
@@ -122,8 +124,8 @@ module _ (x : Term) where
       → ((a : A) (s : Script) → HasRead x s → Reads x (next a s)) → Reads x (and_then o next)
   reads_then o next h k = keeps_then (HasRead x) o next h k
 
-  pub by_settled : (limit : Option ℕ) (place : ℕ) (o : Option Typed) (s : Script) → HasRead x s → Reads x (settled limit place o s)
-  by_settled limit place o s h = kept_settled (HasRead x) more (λ name s k. k) (λ n s e k. k) limit place o s h
+  pub by_settled : (cause : Cause) (limit : Option ℕ) (place : ℕ) (o : Option Typed) (s : Script) → HasRead x s → Reads x (settled cause limit place o s)
+  by_settled cause limit place o s h = kept_settled (HasRead x) more (λ name s k. k) (λ n s e k. k) cause limit place o s h
 
   pub by_names : (t : Typed) (ns : List Name) (s : Script) → HasRead x s → Reads x (with_names t ns s)
   by_names t ns s h = kept_names (HasRead x) more (λ name s k. k) (λ n s e k. k) t ns s h

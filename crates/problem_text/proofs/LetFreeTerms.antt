@@ -2,11 +2,12 @@
 use Rattle.std.proofs.Common.{◌≡◌, ℕ, List, [], ◌∷◌, ◌++◌, map, zip, Bool, true, false, ◌||◌, Option, Some, None, IfSome, find, option_map, option_and_then, bytes_eq, if◌then◌else◌, refl}
 use Rattle.std.specs.List.{AllByRecursion, list_all}
 use Rattle.std.specs.Prelude.{⊤}
-use Rattle.sexpr.specs.declared.causes.Cause.TheVariants.{Repeated, TooHigh}
+use Rattle.sexpr.specs.declared.causes.Cause.{Cause}
+use Rattle.sexpr.specs.declared.causes.Cause.TheVariants.{Repeated, TooHigh, SortMismatch}
 use Rattle.term_model.specs.declared.symbols.Sort.{Sort}
 use Rattle.term_model.specs.declared.symbols.Op.{Op}
 use Rattle.term_model.specs.Terms.{Var, Fun, Term, numeral, operation, call, let_in}
-use Rattle.term_model.specs.Sorts.{sorts_eq, application_sort, call_sort}
+use Rattle.term_model.specs.Sorts.{sorts_eq, operation_sort, call_sort}
 use Rattle.term_model.specs.Heights.{height}
 use Rattle.term_model.proofs.Lists.{all_joined}
 use Rattle.problem_text.specs.Words.{is_among, is_built_in, operator_named}
@@ -17,7 +18,7 @@ use Rattle.rule_model.specs.Replacement.{replaced, free_variables, HasNoLet, Hav
 use Rattle.problem_text.specs.TypedTerms.{Typed}
 use Rattle.problem_text.specs.Outcomes.{Outcome, done, refuse, and_then}
 use Rattle.problem_text.specs.Scripts.{Named, Script, is_taken, with_named, with_term, with_let_name}
-use Rattle.problem_text.specs.Names.{Bound, Place, itself, innermost, is_bound, replacement, Meaning, value, macro, function, operator, meaning_of_bound, meaning_of_named, meaning_of, trees, sorts_of, expansion, meaning_applied, let_bindings_of, place_inside, let_term}
+use Rattle.problem_text.specs.Names.{Bound, Place, itself, innermost, is_bound, replacement, Meaning, value, macro, function, operator, meaning_of_bound, meaning_of_named, meaning_of, trees, sorts_of, expansion, meaning_applied, refusal_of, let_bindings_of, place_inside, let_term}
 use Rattle.problem_text.specs.Terms.{settled, with_meaning, with_names, term_from, terms_from, bounds_from}
 use Rattle.problem_text.proofs.Outcomes.{Ends, ends-and_then, if_found, if_some-or, if_some-map, if_some-and_then}
 use Rattle.rule_model.proofs.Replacing.{AreLetFree, replaced-let_free}
@@ -116,7 +117,7 @@ module _ (ArePlain : Script → Type 0) (found_plain : (s : Script) (name : List
       go : (o : Option Sort) → IfSome (option_map (λ s. record { tree = call f (trees ts); sort = s }) o) (IsFreeIn p)
       go None = tt
       go (Some s) = λ e. arguments-free p ts h e
-  applied-free p (operator op) ts fit h = go (application_sort op (sorts_of ts))
+  applied-free p (operator op) ts fit h = go (operation_sort op (trees ts) (sorts_of ts))
     where
       go : (o : Option Sort) → IfSome (option_map (λ s. record { tree = operation op (trees ts); sort = s }) o) (IsFreeIn p)
       go None = tt
@@ -140,9 +141,9 @@ module _ (ArePlain : Script → Type 0) (found_plain : (s : Script) (name : List
       go true e f = h e
       go false e f = absurd cc
 
-  settled-free : (p : Place) (place : ℕ) (o : Option Typed) (s : Script) → ArePlain s → IfSome o (IsFreeIn p) → Ends ArePlain (IsFreeIn p) (settled p.settings.limit place o s)
-  settled-free p place None s plain h = (plain, tt)
-  settled-free p place (Some t) s plain h = go (is_low p.settings.limit (height t.tree))
+  settled-free : (p : Place) (cause : Cause) (place : ℕ) (o : Option Typed) (s : Script) → ArePlain s → IfSome o (IsFreeIn p) → Ends ArePlain (IsFreeIn p) (settled cause p.settings.limit place o s)
+  settled-free p cause place None s plain h = (plain, tt)
+  settled-free p cause place (Some t) s plain h = go (is_low p.settings.limit (height t.tree))
     where
       go : (b : Bool) → Ends ArePlain (IsFreeIn p) (if b then done t (with_term t.tree s) else refuse TooHigh place (with_term t.tree s))
       go true = (after_term t.tree s plain, h)
@@ -167,18 +168,18 @@ module _ (ArePlain : Script → Type 0) (found_plain : (s : Script) (name : List
 
     pub term-free : (f : Form) (p : Place) (s : Script) → AreBoundFree p p.scope → ArePlain s → Ends ArePlain (IsFreeIn p) (term_from f p s)
     term-free (faulty cause place) p s h plain = (plain, tt)
-    term-free (number place n) p s h plain = settled-free p place (Some (record { tree = numeral n; sort = Sort.Int })) s plain (λ _. tt)
+    term-free (number place n) p s h plain = settled-free p SortMismatch place (Some (record { tree = numeral n; sort = Sort.Int })) s plain (λ _. tt)
     term-free (symbol n) p s h plain =
-        with_meaning-free p (IsFreeIn p) n.place (meaning_of p s n.name) s (λ m. settled p.settings.limit n.place (meaning_applied m []) s) plain (meaning-free p s n.name h plain)
-        (λ m fit. settled-free p n.place (meaning_applied m []) s plain (applied-free p m [] fit tt))
+        with_meaning-free p (IsFreeIn p) n.place (meaning_of p s n.name) s (λ m. settled SortMismatch p.settings.limit n.place (meaning_applied m []) s) plain (meaning-free p s n.name h plain)
+        (λ m fit. settled-free p SortMismatch n.place (meaning_applied m []) s plain (applied-free p m [] fit tt))
     term-free (application place head fs) p s h plain =
-        with_meaning-free p (IsFreeIn p) head.place (meaning_of p s head.name) s (λ m. and_then (terms_from fs p s) (λ ts after. settled p.settings.limit place (meaning_applied m ts) after)) plain (meaning-free p s head.name h plain)
-        (λ m fit. ends-and_then ArePlain (AreFreeIn p) (IsFreeIn p) (terms_from fs p s) (λ ts after. settled p.settings.limit place (meaning_applied m ts) after) (terms-free fs p s h plain)
-        (λ ts after read plain'. settled-free p place (meaning_applied m ts) after plain' (applied-free p m ts fit read)))
+        with_meaning-free p (IsFreeIn p) head.place (meaning_of p s head.name) s (λ m. and_then (terms_from fs p s) (λ ts after. settled (refusal_of m ts) p.settings.limit place (meaning_applied m ts) after)) plain (meaning-free p s head.name h plain)
+        (λ m fit. ends-and_then ArePlain (AreFreeIn p) (IsFreeIn p) (terms_from fs p s) (λ ts after. settled (refusal_of m ts) p.settings.limit place (meaning_applied m ts) after) (terms-free fs p s h plain)
+        (λ ts after read plain'. settled-free p (refusal_of m ts) place (meaning_applied m ts) after plain' (applied-free p m ts fit read)))
     term-free (let_form place bs body) p s h plain =
-        ends-and_then ArePlain (AreBoundFree p) (IsFreeIn p) (bounds_from bs [] p s) (λ bound after. and_then (term_from body (place_inside bound p) after) (λ t last. settled p.settings.limit place (Some (let_term p bound t)) last)) (bounds-free bs [] p s h plain)
-        (λ bound after fit plain'. ends-and_then ArePlain (IsFreeIn p) (IsFreeIn p) (term_from body (place_inside bound p) after) (λ t last. settled p.settings.limit place (Some (let_term p bound t)) last) (term-free body (place_inside bound p) after (inside-free p bound h fit) plain')
-        (λ t last read plain''. settled-free p place (Some (let_term p bound t)) last plain'' (let-free p bound t read)))
+        ends-and_then ArePlain (AreBoundFree p) (IsFreeIn p) (bounds_from bs [] p s) (λ bound after. and_then (term_from body (place_inside bound p) after) (λ t last. settled SortMismatch p.settings.limit place (Some (let_term p bound t)) last)) (bounds-free bs [] p s h plain)
+        (λ bound after fit plain'. ends-and_then ArePlain (IsFreeIn p) (IsFreeIn p) (term_from body (place_inside bound p) after) (λ t last. settled SortMismatch p.settings.limit place (Some (let_term p bound t)) last) (term-free body (place_inside bound p) after (inside-free p bound h fit) plain')
+        (λ t last read plain''. settled-free p SortMismatch place (Some (let_term p bound t)) last plain'' (let-free p bound t read)))
     term-free (annotated place f names) p s h plain =
         ends-and_then ArePlain (IsFreeIn p) (IsFreeIn p) (term_from f p s) (λ t after. with_names t names after) (term-free f p s h plain)
         (λ t after read plain'. with_names-free p names t after plain' read)

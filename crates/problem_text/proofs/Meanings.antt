@@ -4,7 +4,7 @@ use Rattle.std.specs.List.{AllByRecursion, list_all}
 use Rattle.term_model.specs.declared.symbols.Sort.{Sort}
 use Rattle.term_model.specs.declared.symbols.Op.{Op}
 use Rattle.term_model.specs.Terms.{Var, Fun, operation, call, let_in}
-use Rattle.term_model.specs.Sorts.{IsOf, AreOf, AreBound, sorts_eq, application_sort, call_sort}
+use Rattle.term_model.specs.Sorts.{IsOf, AreOf, AreBound, sorts_eq, operation_sort, call_sort}
 use Rattle.term_model.proofs.Tests.{sorts_eq_decides}
 use Rattle.term_model.proofs.Lists.{all_joined}
 use Rattle.problem_text.specs.Words.{operator_named}
@@ -100,9 +100,10 @@ applied-fits (function f) ts fit h = go (call_sort f (sorts_of ts)) refl
     go : (o : Option Sort) → call_sort f (sorts_of ts) ≡ o → IfSome (option_map (λ s. record { tree = call f (trees ts); sort = s }) o) IsTyped
     go None e = tt
     go (Some s) e = record { sorts = sorts_of ts; arguments = arguments-fit ts h; is = e }
-applied-fits (operator op) ts fit h = go (application_sort op (sorts_of ts)) refl
+applied-fits (operator op) ts fit h = go (operation_sort op (trees ts) (sorts_of ts)) refl
   where
-    go : (o : Option Sort) → application_sort op (sorts_of ts) ≡ o → IfSome (option_map (λ s. record { tree = operation op (trees ts); sort = s }) o) IsTyped
+    go : (o : Option Sort) → operation_sort op (trees ts) (sorts_of ts) ≡ o
+        → IfSome (option_map (λ s. record { tree = operation op (trees ts); sort = s }) o) IsTyped
     go None e = tt
     go (Some s) e = record { sorts = sorts_of ts; arguments = arguments-fit ts h; is = e }
 

@@ -5,7 +5,7 @@ use Rattle.std.proofs.Common.{refl, ap, subst, ◌∙◌}
 use Rattle.std.specs.Prelude.{⊤}
 use Rattle.std.specs.List.{AllByRecursion}
 use Rattle.sexpr.specs.declared.causes.Cause.{Cause}
-use Rattle.sexpr.specs.declared.causes.Cause.TheVariants.{Repeated, TooHigh}
+use Rattle.sexpr.specs.declared.causes.Cause.TheVariants.{Repeated, TooHigh, SortMismatch}
 use Rattle.sexpr.specs.declared.causes.Refusal.{Refusal}
 use Rattle.sexpr.specs.Items.{Item}
 use Rattle.term_model.specs.declared.symbols.Sort.{Sort}
@@ -18,7 +18,7 @@ use Rattle.problem_text.specs.Limits.{is_low, with_limit, AreLow}
 use Rattle.problem_text.specs.TypedTerms.{Typed}
 use Rattle.problem_text.specs.Outcomes.{Outcome, done, refuse, and_then, going_on}
 use Rattle.problem_text.specs.Scripts.{Script, is_taken, with_named, with_term, with_let_name}
-use Rattle.problem_text.specs.Names.{Place, Meaning, meaning_of, meaning_applied, place_inside, let_term}
+use Rattle.problem_text.specs.Names.{Place, Meaning, meaning_of, meaning_applied, refusal_of, place_inside, let_term}
 use Rattle.problem_text.specs.Terms.{settled, with_meaning, with_names, term_from, terms_from, bounds_from, read_term}
 
 -- Where a reading from a state ends without a fault, and in a state of this kind, the state was of this kind before, and
@@ -73,11 +73,12 @@ module _ (limit : Option ℕ) where
   abbrev within : Place → Place
   within p = record p { settings = with_limit limit p.settings }
 
-  same_settled : (first : Option ℕ) (place : ℕ) (o : Option Typed) (s : Script) → Same s (settled first place o s) (settled limit place o s)
-  same_settled first place None s = tt
-  same_settled first place (Some t) s = go (is_low first (height t.tree))
+  same_settled : (cause : Cause) (first : Option ℕ) (place : ℕ) (o : Option Typed) (s : Script)
+      → Same s (settled cause first place o s) (settled cause limit place o s)
+  same_settled cause first place None s = tt
+  same_settled cause first place (Some t) s = go (is_low first (height t.tree))
     where
-      go : (b : Bool) → Same s (if b then done t (with_term t.tree s) else refuse TooHigh place (with_term t.tree s)) (settled limit place (Some t) s)
+      go : (b : Bool) → Same s (if b then done t (with_term t.tree s) else refuse TooHigh place (with_term t.tree s)) (settled cause limit place (Some t) s)
       go true = λ all. let less = term_less s t.tree all in let low = less.1 in (less.0, rw low refl)
       go false = tt
 
@@ -96,17 +97,17 @@ module _ (limit : Option ℕ) where
 
     pub same_term : (f : Form) (p : Place) (s : Script) → Same s (term_from f p s) (term_from f (within p) s)
     same_term (faulty cause place) p s = tt
-    same_term (number place n) p s = same_settled p.settings.limit place (Some (record { tree = numeral n; sort = Sort.Int })) s
+    same_term (number place n) p s = same_settled SortMismatch p.settings.limit place (Some (record { tree = numeral n; sort = Sort.Int })) s
     same_term (symbol n) p s =
-        by_meaning n.place (meaning_of p s n.name) s _ _ (λ m. same_settled p.settings.limit n.place (meaning_applied m []) s)
+        by_meaning n.place (meaning_of p s n.name) s _ _ (λ m. same_settled SortMismatch p.settings.limit n.place (meaning_applied m []) s)
     same_term (application place head fs) p s =
         by_meaning head.place (meaning_of p s head.name) s _ _
         (λ m. same_then IsWithin s (terms_from fs p s) _ _ _ (same_terms fs p s)
-        (λ ts u. same_settled p.settings.limit place (meaning_applied m ts) u))
+        (λ ts u. same_settled (refusal_of m ts) p.settings.limit place (meaning_applied m ts) u))
     same_term (let_form place bs body) p s =
         same_then IsWithin s (bounds_from bs [] p s) _ _ _ (same_bounds bs [] p s)
         (λ bound u. same_then IsWithin u (term_from body (place_inside bound p) u) _ _ _ (same_term body (place_inside bound p) u)
-        (λ t w. same_settled p.settings.limit place (Some (let_term p bound t)) w))
+        (λ t w. same_settled SortMismatch p.settings.limit place (Some (let_term p bound t)) w))
     same_term (annotated place f names) p s = same_then IsWithin s (term_from f p s) _ _ _ (same_term f p s) (λ t u. same_names t names u)
 
     pub same_terms : (fs : Forms) (p : Place) (s : Script) → Same s (terms_from fs p s) (terms_from fs (within p) s)

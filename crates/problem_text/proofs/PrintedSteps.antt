@@ -4,7 +4,7 @@ use Rattle.std.specs.List.{list_all}
 use Rattle.term_model.specs.declared.symbols.Sort.{Sort}
 use Rattle.term_model.specs.declared.symbols.Op.{Op}
 use Rattle.term_model.specs.Terms.{Var, Fun, Term, numeral, variable, operation, call, let_in, Terms, Bindings, no_bindings, binding}
-use Rattle.term_model.specs.Sorts.{application_sort, call_sort}
+use Rattle.term_model.specs.Sorts.{operation_sort, call_sort}
 use Rattle.rule_model.specs.Replacement.{free_variables}
 use Rattle.text_items.specs.ItemShapes.{Name}
 use Rattle.problem_text.specs.Words.{is_built_in, is_among}
@@ -60,10 +60,10 @@ unfolding meaning_applied
 variable_applied x sort e = ap (λ o. Some (record { tree = variable x; sort = o })) (sym e)
 
 pub operation_applied : (op : Op) (ts : Terms) (sort : Sort) (sorts : List Sort) (values : List Typed) → trees values ≡ ts
-    → sorts_of values ≡ sorts → application_sort op sorts ≡ Some sort
+    → sorts_of values ≡ sorts → operation_sort op ts sorts ≡ Some sort
     → meaning_applied (operator op) values ≡ Some (record { tree = operation op ts; sort = sort })
 unfolding meaning_applied
-operation_applied op ts sort sorts values are of is = rw (of, is, are) refl
+operation_applied op ts sort sorts values are of is = rw (are, of, is) refl
 
 pub call_applied : (f : Fun) (ts : Terms) (sort : Sort) (sorts : List Sort) (values : List Typed) → trees values ≡ ts
     → sorts_of values ≡ sorts → call_sort f sorts ≡ Some sort

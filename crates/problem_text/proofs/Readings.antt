@@ -3,7 +3,8 @@ use Rattle.std.proofs.Common.{◌≡◌, ℕ, List, [], ◌∷◌, Bool, true, f
 use Rattle.std.proofs.lemmas.Bool.{leb-true}
 use Rattle.std.specs.List.{AllByRecursion}
 use Rattle.std.specs.Prelude.{◌≤◌}
-use Rattle.sexpr.specs.declared.causes.Cause.TheVariants.{Repeated, TooHigh}
+use Rattle.sexpr.specs.declared.causes.Cause.{Cause}
+use Rattle.sexpr.specs.declared.causes.Cause.TheVariants.{Repeated, TooHigh, SortMismatch}
 use Rattle.term_model.specs.declared.symbols.Sort.{Sort}
 use Rattle.term_model.specs.Terms.{numeral}
 use Rattle.term_model.specs.Sorts.{IsOf}
@@ -16,7 +17,7 @@ use Rattle.problem_text.specs.Limits.{is_low}
 use Rattle.problem_text.specs.TypedTerms.{Typed}
 use Rattle.problem_text.specs.Outcomes.{Outcome, done, refuse, and_then}
 use Rattle.problem_text.specs.Scripts.{Named, Script, is_taken, with_named, with_term, with_let_name}
-use Rattle.problem_text.specs.Names.{Place, Meaning, meaning_of, meaning_applied, place_inside, let_term}
+use Rattle.problem_text.specs.Names.{Place, Meaning, meaning_of, meaning_applied, refusal_of, place_inside, let_term}
 use Rattle.problem_text.specs.Terms.{settled, with_meaning, with_names, term_from, terms_from, bounds_from}
 use Rattle.problem_text.specs.Soundness.{IsReadWithin, AreBoundSorted, IsSound}
 use Rattle.problem_text.proofs.Outcomes.{Ends, ends-and_then}
@@ -36,9 +37,9 @@ low-height : (limit : Option ℕ) (h : ℕ) → is_low limit h ≡ true → IfSo
 low-height None h e = tt
 low-height (Some most) h e = leb-true h most e
 
-settled-sound : (limit : Option ℕ) (place : ℕ) (o : Option Typed) (s : Script) → IsSound s → IfSome o IsTyped → Ends IsSound (IsReadWithin limit) (settled limit place o s)
-settled-sound limit place None s sound h = (sound, tt)
-settled-sound limit place (Some t) s sound h = go (is_low limit (height t.tree)) refl
+settled-sound : (cause : Cause) (limit : Option ℕ) (place : ℕ) (o : Option Typed) (s : Script) → IsSound s → IfSome o IsTyped → Ends IsSound (IsReadWithin limit) (settled cause limit place o s)
+settled-sound cause limit place None s sound h = (sound, tt)
+settled-sound cause limit place (Some t) s sound h = go (is_low limit (height t.tree)) refl
   where
     after : IsSound (with_term t.tree s)
     after = record { named = sound.named; macros = sound.macros; assertions = sound.assertions }
@@ -76,18 +77,18 @@ mutual
 
   pub term-sound : (f : Form) (p : Place) (s : Script) → AreBoundSorted p.scope → IsSound s → Ends IsSound (IsReadWithin p.settings.limit) (term_from f p s)
   term-sound (faulty cause place) p s h sound = (sound, tt)
-  term-sound (number place n) p s h sound = settled-sound p.settings.limit place (Some (record { tree = numeral n; sort = Sort.Int })) s sound refl
+  term-sound (number place n) p s h sound = settled-sound SortMismatch p.settings.limit place (Some (record { tree = numeral n; sort = Sort.Int })) s sound refl
   term-sound (symbol n) p s h sound =
-      with_meaning-sound (IsReadWithin p.settings.limit) n.place (meaning_of p s n.name) s (λ m. settled p.settings.limit n.place (meaning_applied m []) s) sound (meaning-fits p s n.name h sound)
-      (λ m fit. settled-sound p.settings.limit n.place (meaning_applied m []) s sound (applied-fits m [] fit tt))
+      with_meaning-sound (IsReadWithin p.settings.limit) n.place (meaning_of p s n.name) s (λ m. settled SortMismatch p.settings.limit n.place (meaning_applied m []) s) sound (meaning-fits p s n.name h sound)
+      (λ m fit. settled-sound SortMismatch p.settings.limit n.place (meaning_applied m []) s sound (applied-fits m [] fit tt))
   term-sound (application place head fs) p s h sound =
-      with_meaning-sound (IsReadWithin p.settings.limit) head.place (meaning_of p s head.name) s (λ m. and_then (terms_from fs p s) (λ ts after. settled p.settings.limit place (meaning_applied m ts) after)) sound (meaning-fits p s head.name h sound)
-      (λ m fit. ends-and_then IsSound (AreRead p.settings.limit) (IsReadWithin p.settings.limit) (terms_from fs p s) (λ ts after. settled p.settings.limit place (meaning_applied m ts) after) (terms-sound fs p s h sound)
-      (λ ts after read sound'. settled-sound p.settings.limit place (meaning_applied m ts) after sound' (applied-fits m ts fit (typed_of_read p.settings.limit ts read))))
+      with_meaning-sound (IsReadWithin p.settings.limit) head.place (meaning_of p s head.name) s (λ m. and_then (terms_from fs p s) (λ ts after. settled (refusal_of m ts) p.settings.limit place (meaning_applied m ts) after)) sound (meaning-fits p s head.name h sound)
+      (λ m fit. ends-and_then IsSound (AreRead p.settings.limit) (IsReadWithin p.settings.limit) (terms_from fs p s) (λ ts after. settled (refusal_of m ts) p.settings.limit place (meaning_applied m ts) after) (terms-sound fs p s h sound)
+      (λ ts after read sound'. settled-sound (refusal_of m ts) p.settings.limit place (meaning_applied m ts) after sound' (applied-fits m ts fit (typed_of_read p.settings.limit ts read))))
   term-sound (let_form place bs body) p s h sound =
-      ends-and_then IsSound AreBoundSorted (IsReadWithin p.settings.limit) (bounds_from bs [] p s) (λ bound after. and_then (term_from body (place_inside bound p) after) (λ t last. settled p.settings.limit place (Some (let_term p bound t)) last)) (bounds-sound bs [] p s h sound)
-      (λ bound after fit sound'. ends-and_then IsSound (IsReadWithin p.settings.limit) (IsReadWithin p.settings.limit) (term_from body (place_inside bound p) after) (λ t last. settled p.settings.limit place (Some (let_term p bound t)) last) (term-sound body (place_inside bound p) after (inside-fits p bound h fit) sound')
-      (λ t last read sound''. settled-sound p.settings.limit place (Some (let_term p bound t)) last sound'' (let-fits p bound t fit read.sorted)))
+      ends-and_then IsSound AreBoundSorted (IsReadWithin p.settings.limit) (bounds_from bs [] p s) (λ bound after. and_then (term_from body (place_inside bound p) after) (λ t last. settled SortMismatch p.settings.limit place (Some (let_term p bound t)) last)) (bounds-sound bs [] p s h sound)
+      (λ bound after fit sound'. ends-and_then IsSound (IsReadWithin p.settings.limit) (IsReadWithin p.settings.limit) (term_from body (place_inside bound p) after) (λ t last. settled SortMismatch p.settings.limit place (Some (let_term p bound t)) last) (term-sound body (place_inside bound p) after (inside-fits p bound h fit) sound')
+      (λ t last read sound''. settled-sound SortMismatch p.settings.limit place (Some (let_term p bound t)) last sound'' (let-fits p bound t fit read.sorted)))
   term-sound (annotated place f names) p s h sound =
       ends-and_then IsSound (IsReadWithin p.settings.limit) (IsReadWithin p.settings.limit) (term_from f p s) (λ t after. with_names t names after) (term-sound f p s h sound)
       (λ t after read sound'. with_names-sound p.settings.limit names t after sound' read)

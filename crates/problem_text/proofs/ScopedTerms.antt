@@ -3,12 +3,13 @@ use Rattle.std.proofs.Common.{◌≡◌, ℕ, zero, suc, List, [], ◌∷◌, �
 use Rattle.std.specs.List.{AllByRecursion, list_all}
 use Rattle.std.specs.Option.{option_map_or}
 use Rattle.std.specs.Prelude.{⊤}
-use Rattle.sexpr.specs.declared.causes.Cause.TheVariants.{Repeated, TooHigh}
+use Rattle.sexpr.specs.declared.causes.Cause.{Cause}
+use Rattle.sexpr.specs.declared.causes.Cause.TheVariants.{Repeated, TooHigh, SortMismatch}
 use Rattle.term_model.specs.declared.symbols.Sort.{Sort}
 use Rattle.term_model.specs.declared.symbols.Op.{Op}
 use Rattle.term_model.specs.FreeVariables.{Binds, IsFree, IsFreeAmong, IsFreeBound, IsClosed}
 use Rattle.term_model.specs.Terms.{Var, var_eq, sort_eq, Fun, Term, numeral, variable, operation, call, let_in, Terms, no_terms, term, Bindings, no_bindings, binding}
-use Rattle.term_model.specs.Sorts.{sorts_eq, application_sort, call_sort}
+use Rattle.term_model.specs.Sorts.{sorts_eq, operation_sort, call_sort}
 use Rattle.term_model.proofs.Tests.{var_eq_decides, sorts_eq_decides}
 use Rattle.term_model.proofs.Lists.{all_joined}
 use Rattle.term_model.specs.Heights.{height}
@@ -22,7 +23,7 @@ use Rattle.problem_text.specs.Limits.{is_low}
 use Rattle.problem_text.specs.TypedTerms.{Typed}
 use Rattle.problem_text.specs.Outcomes.{Outcome, done, refuse, and_then}
 use Rattle.problem_text.specs.Scripts.{Script, is_taken, with_named, with_term, with_let_name}
-use Rattle.problem_text.specs.Names.{Bound, Place, itself, innermost, is_bound, replacement, Meaning, value, macro, function, operator, meaning_of_bound, meaning_of_named, meaning_of, trees, sorts_of, expansion, meaning_applied, let_bindings_of, place_inside, let_term}
+use Rattle.problem_text.specs.Names.{Bound, Place, itself, innermost, is_bound, replacement, Meaning, value, macro, function, operator, meaning_of_bound, meaning_of_named, meaning_of, trees, sorts_of, expansion, meaning_applied, refusal_of, let_bindings_of, place_inside, let_term}
 use Rattle.problem_text.specs.Soundness.{AreThemselves}
 use Rattle.problem_text.specs.Terms.{settled, with_meaning, with_names, term_from, terms_from, bounds_from}
 use Rattle.problem_text.proofs.Outcomes.{Ends, ends-and_then, if_found, if_some-or, if_some-map, if_some-and_then}
@@ -188,7 +189,7 @@ applied-over V (function f) ts fit h = go (call_sort f (sorts_of ts))
     go : (o : Option Sort) → IfSome {T = Typed} (option_map (λ s. record { tree = call f (trees ts); sort = s }) o) (λ t. IsOver V t.tree)
     go None = tt
     go (Some s) = arguments-over V ts h
-applied-over V (operator op) ts fit h = go (application_sort op (sorts_of ts))
+applied-over V (operator op) ts fit h = go (operation_sort op (trees ts) (sorts_of ts))
   where
     go : (o : Option Sort) → IfSome {T = Typed} (option_map (λ s. record { tree = operation op (trees ts); sort = s }) o) (λ t. IsOver V t.tree)
     go None = tt
@@ -245,9 +246,9 @@ let-over V p bs t k h = go p.settings.replaces_lets refl
 
 -- readings
 module _ (V : Var → Type 0) where
-  settled-over : (limit : Option ℕ) (place : ℕ) (o : Option Typed) (s : Script) → AreScoped s → IfSome o (λ t. IsOver V t.tree) → Ends AreScoped (λ t. IsOver V t.tree) (settled limit place o s)
-  settled-over limit place None s macros h = (macros, tt)
-  settled-over limit place (Some t) s macros h = go (is_low limit (height t.tree))
+  settled-over : (cause : Cause) (limit : Option ℕ) (place : ℕ) (o : Option Typed) (s : Script) → AreScoped s → IfSome o (λ t. IsOver V t.tree) → Ends AreScoped (λ t. IsOver V t.tree) (settled cause limit place o s)
+  settled-over cause limit place None s macros h = (macros, tt)
+  settled-over cause limit place (Some t) s macros h = go (is_low limit (height t.tree))
     where
       go : (b : Bool) → Ends AreScoped (λ t. IsOver V t.tree) (if b then done t (with_term t.tree s) else refuse TooHigh place (with_term t.tree s))
       go true = (macros, h)
@@ -271,19 +272,19 @@ mutual
 
   pub term-over : (f : Form) (V : Var → Type 0) (p : Place) (s : Script) → AreOver V p.scope → AreThemselves p → AreScoped s → Ends AreScoped (λ t. IsOver V t.tree) (term_from f p s)
   term-over (faulty cause place) V p s h themselves macros = (macros, tt)
-  term-over (number place n) V p s h themselves macros = settled-over V p.settings.limit place (Some (record { tree = numeral n; sort = Sort.Int })) s macros (λ x free. absurd free)
+  term-over (number place n) V p s h themselves macros = settled-over V SortMismatch p.settings.limit place (Some (record { tree = numeral n; sort = Sort.Int })) s macros (λ x free. absurd free)
   term-over (symbol n) V p s h themselves macros =
-      with_meaning-over V (λ t. IsOver V t.tree) n.place (meaning_of p s n.name) s (λ m. settled p.settings.limit n.place (meaning_applied m []) s) macros (meaning-over V p s n.name h themselves macros)
-      (λ m fit. settled-over V p.settings.limit n.place (meaning_applied m []) s macros (applied-over V m [] fit tt))
+      with_meaning-over V (λ t. IsOver V t.tree) n.place (meaning_of p s n.name) s (λ m. settled SortMismatch p.settings.limit n.place (meaning_applied m []) s) macros (meaning-over V p s n.name h themselves macros)
+      (λ m fit. settled-over V SortMismatch p.settings.limit n.place (meaning_applied m []) s macros (applied-over V m [] fit tt))
   term-over (application place head fs) V p s h themselves macros =
-      with_meaning-over V (λ t. IsOver V t.tree) head.place (meaning_of p s head.name) s (λ m. and_then (terms_from fs p s) (λ ts after. settled p.settings.limit place (meaning_applied m ts) after)) macros (meaning-over V p s head.name h themselves macros)
-      (λ m fit. ends-and_then AreScoped (AreAllOver V) (λ t. IsOver V t.tree) (terms_from fs p s) (λ ts after. settled p.settings.limit place (meaning_applied m ts) after) (terms-over fs V p s h themselves macros)
-      (λ ts after read macros'. settled-over V p.settings.limit place (meaning_applied m ts) after macros' (applied-over V m ts fit read)))
+      with_meaning-over V (λ t. IsOver V t.tree) head.place (meaning_of p s head.name) s (λ m. and_then (terms_from fs p s) (λ ts after. settled (refusal_of m ts) p.settings.limit place (meaning_applied m ts) after)) macros (meaning-over V p s head.name h themselves macros)
+      (λ m fit. ends-and_then AreScoped (AreAllOver V) (λ t. IsOver V t.tree) (terms_from fs p s) (λ ts after. settled (refusal_of m ts) p.settings.limit place (meaning_applied m ts) after) (terms-over fs V p s h themselves macros)
+      (λ ts after read macros'. settled-over V (refusal_of m ts) p.settings.limit place (meaning_applied m ts) after macros' (applied-over V m ts fit read)))
   term-over (let_form place bs body) V p s h themselves macros =
-      ends-and_then AreScoped (AreOver V) (λ t. IsOver V t.tree) (bounds_from bs [] p s) (λ bound after. and_then (term_from body (place_inside bound p) after) (λ t last. settled p.settings.limit place (Some (let_term p bound t)) last)) (bounds-over bs [] V p s h themselves macros)
-      (λ bound after fit macros'. ends-and_then AreScoped (λ t. IsOver (Within p bound V) t.tree) (λ t. IsOver V t.tree) (term_from body (place_inside bound p) after) (λ t last. settled p.settings.limit place (Some (let_term p bound t)) last)
+      ends-and_then AreScoped (AreOver V) (λ t. IsOver V t.tree) (bounds_from bs [] p s) (λ bound after. and_then (term_from body (place_inside bound p) after) (λ t last. settled SortMismatch p.settings.limit place (Some (let_term p bound t)) last)) (bounds-over bs [] V p s h themselves macros)
+      (λ bound after fit macros'. ends-and_then AreScoped (λ t. IsOver (Within p bound V) t.tree) (λ t. IsOver V t.tree) (term_from body (place_inside bound p) after) (λ t last. settled SortMismatch p.settings.limit place (Some (let_term p bound t)) last)
       (term-over body (Within p bound V) (place_inside bound p) after (inside-over V p bound h fit) (inside-themselves p bound themselves) macros')
-      (λ t last read macros''. settled-over V p.settings.limit place (Some (let_term p bound t)) last macros'' (let-over V p bound t fit read)))
+      (λ t last read macros''. settled-over V SortMismatch p.settings.limit place (Some (let_term p bound t)) last macros'' (let-over V p bound t fit read)))
   term-over (annotated place f names) V p s h themselves macros =
       ends-and_then AreScoped (λ t. IsOver V t.tree) (λ t. IsOver V t.tree) (term_from f p s) (λ t after. with_names t names after) (term-over f V p s h themselves macros)
       (λ t after read macros'. with_names-over V names t after macros' read)

@@ -1,11 +1,14 @@
 -- Public. What a symbol means where it stands in a term (SMT-LIB 2.6, on binders and on signatures).
-use Rattle.std.specs.Prelude.{ℕ, Bool, false, if◌then◌else◌, List, [], ◌∷◌, ◌++◌, map, zip, bytes_eq, find, Option, Some, None, option_map, option_and_then}
+use Rattle.std.specs.Prelude.{ℕ, Bool, false, if◌then◌else◌, List, [], ◌∷◌, ◌++◌, map}
+use Rattle.std.specs.Prelude.{zip, bytes_eq, find, Option, Some, None, is_some, option_map, option_and_then}
 use Rattle.std.specs.Option.{option_or, option_map_or}
 use Rattle.std.specs.List.{list_all}
+use Rattle.sexpr.specs.declared.causes.Cause.{Cause}
+use Rattle.sexpr.specs.declared.causes.Cause.TheVariants.{SortMismatch, LeftOut}
 use Rattle.term_model.specs.declared.symbols.Sort.{Sort}
 use Rattle.term_model.specs.declared.symbols.Op.{Op}
 use Rattle.term_model.specs.Terms.{Var, sort_eq, Fun, Term, variable, operation, call, let_in, Terms, Bindings, no_bindings, binding, terms_of}
-use Rattle.term_model.specs.Sorts.{sorts_eq, application_sort, call_sort}
+use Rattle.term_model.specs.Sorts.{sorts_eq, application_sort, operation_sort, call_sort}
 use Rattle.problem_text.specs.Words.{operator_named}
 use Rattle.rule_model.specs.Replacement.{Replacement, replaced, free_variables}
 use Rattle.problem_text.specs.Limits.{Settings}
@@ -80,7 +83,15 @@ meaning_applied (value t) (a ∷ ts) = None
 meaning_applied (macro m) ts =
     if sorts_eq (map (λ x. x.sort) m.parameters) (sorts_of ts) then Some (record { tree = expansion m ts; sort = m.target }) else None
 meaning_applied (function f) ts = option_map (λ s. record { tree = call f (trees ts); sort = s }) (call_sort f (sorts_of ts))
-meaning_applied (operator op) ts = option_map (λ s. record { tree = operation op (trees ts); sort = s }) (application_sort op (sorts_of ts))
+meaning_applied (operator op) ts = option_map (λ s. record { tree = operation op (trees ts); sort = s }) (operation_sort op (trees ts) (sorts_of ts))
+
+-- Why a meaning is not applied to these. Where an operator's sorts are right, its divisor is left out, which is no constant
+-- or zero: a parameter of a macro is none where the body is read, nor is the variable of a let that is kept.
+abbrev pub refusal_of : Meaning → List Typed → Cause
+refusal_of (value t) ts = SortMismatch
+refusal_of (macro m) ts = SortMismatch
+refusal_of (function f) ts = SortMismatch
+refusal_of (operator op) ts = if is_some (application_sort op (sorts_of ts)) then LeftOut else SortMismatch
 
 -- the bindings of a let, as they stand in its term
 abbrev pub let_bindings_of : List Bound → Bindings

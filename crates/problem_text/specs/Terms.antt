@@ -1,6 +1,7 @@
 -- Public. Reading a term (SMT-LIB 2.6, "Terms and Formulas"): the tree that it stands for and its sort, or its first
 -- fault.
 use Rattle.std.specs.Prelude.{ℕ, ◌||◌, if◌then◌else◌, List, [], ◌∷◌, Option, Some, None}
+use Rattle.sexpr.specs.declared.causes.Cause.{Cause}
 use Rattle.sexpr.specs.declared.causes.Cause.TheVariants.{UnknownName, Repeated, SortMismatch, TooHigh}
 use Rattle.sexpr.specs.Items.{Item}
 use Rattle.term_model.specs.declared.symbols.Sort.{Sort}
@@ -13,12 +14,12 @@ use Rattle.problem_text.specs.Limits.{is_low}
 use Rattle.problem_text.specs.TypedTerms.{Typed}
 use Rattle.problem_text.specs.Outcomes.{Outcome, done, refuse, and_then}
 use Rattle.problem_text.specs.Scripts.{Script, is_taken, with_named, with_term, with_let_name}
-use Rattle.problem_text.specs.Names.{Bound, Place, Meaning, meaning_of, meaning_applied, place_inside, let_term}
+use Rattle.problem_text.specs.Names.{Bound, Place, Meaning, meaning_of, meaning_applied, refusal_of, place_inside, let_term}
 
--- A term that begins at this place, where its sorts allow it. It counts as read also where it is too high.
-abbrev pub settled : Option ℕ → ℕ → Option Typed → Script → Outcome Script Typed
-settled limit place None s = refuse SortMismatch place s
-settled limit place (Some t) s =
+-- A term that begins at this place, or the cause why none does. It counts as read also where it is too high.
+abbrev pub settled : Cause → Option ℕ → ℕ → Option Typed → Script → Outcome Script Typed
+settled cause limit place None s = refuse cause place s
+settled cause limit place (Some t) s =
     if is_low limit (height t.tree) then done t (with_term t.tree s) else refuse TooHigh place (with_term t.tree s)
 
 -- a symbol is known before what it is applied to is read
@@ -35,14 +36,14 @@ with_names t (n ∷ ns) s =
 unfoldable mutual
   pub term_from : Form → Place → Script → Outcome Script Typed
   term_from (faulty cause place) p s = refuse cause place s
-  term_from (number place n) p s = settled p.settings.limit place (Some (record { tree = numeral n; sort = Sort.Int })) s
-  term_from (symbol n) p s = with_meaning n.place (meaning_of p s n.name) s (λ m. settled p.settings.limit n.place (meaning_applied m []) s)
+  term_from (number place n) p s = settled SortMismatch p.settings.limit place (Some (record { tree = numeral n; sort = Sort.Int })) s
+  term_from (symbol n) p s = with_meaning n.place (meaning_of p s n.name) s (λ m. settled SortMismatch p.settings.limit n.place (meaning_applied m []) s)
   term_from (application place head fs) p s =
       with_meaning head.place (meaning_of p s head.name) s (λ m.
-      and_then (terms_from fs p s) (λ ts after. settled p.settings.limit place (meaning_applied m ts) after))
+      and_then (terms_from fs p s) (λ ts after. settled (refusal_of m ts) p.settings.limit place (meaning_applied m ts) after))
   term_from (let_form place bs body) p s =
       and_then (bounds_from bs [] p s) (λ bound after.
-      and_then (term_from body (place_inside bound p) after) (λ t last. settled p.settings.limit place (Some (let_term p bound t)) last))
+      and_then (term_from body (place_inside bound p) after) (λ t last. settled SortMismatch p.settings.limit place (Some (let_term p bound t)) last))
   term_from (annotated place f names) p s = and_then (term_from f p s) (λ t after. with_names t names after)
 
   -- arguments, from the left

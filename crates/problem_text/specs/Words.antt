@@ -16,7 +16,7 @@ is_built_in name = is_among built_in_words name
 abbrev pub operators : List Op
 operators =
     Op.True ∷ Op.False ∷ Op.Not ∷ Op.Implies ∷ Op.And ∷ Op.Or ∷ Op.Xor ∷ Op.Equal ∷ Op.Distinct ∷ Op.Ite
-    ∷ Op.Minus ∷ Op.Plus ∷ Op.Times ∷ Op.LessEq ∷ Op.Less ∷ Op.GreaterEq ∷ Op.Greater ∷ []
+    ∷ Op.Minus ∷ Op.Plus ∷ Op.Times ∷ Op.Div ∷ Op.Mod ∷ Op.LessEq ∷ Op.Less ∷ Op.GreaterEq ∷ Op.Greater ∷ []
 
 abbrev pub operator_named : List ℕ → Option Op
 operator_named name = find (λ op. bytes_eq (operator_symbol op) name) operators
@@ -29,8 +29,7 @@ logics = codes "QF_UF" ∷ codes "QF_LIA" ∷ codes "QF_UFLIA" ∷ codes "QF_IDL
 abbrev pub left_out_words : List (List ℕ)
 left_out_words =
     codes "forall" ∷ codes "exists" ∷ codes "choice" ∷ codes "lambda" ∷ codes "match" ∷ codes "_" ∷ codes "as"
-    ∷ codes "div" ∷ codes "mod" ∷ codes "abs" ∷ codes "/" ∷ codes "to_real" ∷ codes "to_int" ∷ codes "is_int"
-    ∷ codes "divisible" ∷ []
+    ∷ codes "abs" ∷ codes "/" ∷ codes "to_real" ∷ codes "to_int" ∷ codes "is_int" ∷ codes "divisible" ∷ []
 
 -- the sorts of other theories
 abbrev pub left_out_sorts : List (List ℕ)
