@@ -212,6 +212,8 @@ module _ (s : Script) (h : AreDistinct s) where
       operator_is Op.Minus = refl
       operator_is Op.Plus = refl
       operator_is Op.Times = refl
+      operator_is Op.Div = refl
+      operator_is Op.Mod = refl
       operator_is Op.LessEq = refl
       operator_is Op.Less = refl
       operator_is Op.GreaterEq = refl

@@ -50,8 +50,8 @@ among_is (x ∷ xs) name e = go (bytes_eq name x) refl e (among_is xs name)
 head_of : List (List ℕ)
 head_of =
     codes "true" ∷ codes "false" ∷ codes "not" ∷ codes "=>" ∷ codes "and" ∷ codes "or" ∷ codes "xor" ∷ codes "="
-    ∷ codes "distinct" ∷ codes "ite" ∷ codes "-" ∷ codes "+" ∷ codes "*" ∷ codes "<=" ∷ codes "<" ∷ codes ">="
-    ∷ codes ">" ∷ codes "let" ∷ codes "!" ∷ codes "Bool" ∷ codes "Int" ∷ []
+    ∷ codes "distinct" ∷ codes "ite" ∷ codes "-" ∷ codes "+" ∷ codes "*" ∷ codes "div" ∷ codes "mod" ∷ codes "<="
+    ∷ codes "<" ∷ codes ">=" ∷ codes ">" ∷ codes "let" ∷ codes "!" ∷ codes "Bool" ∷ codes "Int" ∷ []
 
 pub usable : (name : List ℕ) → is_built_in name ≡ false → IsUsable name
 unfolding head_of
@@ -110,6 +110,8 @@ operator_word Op.Ite = record { usable = refl; no_let = refl; no_mark = refl; be
 operator_word Op.Minus = record { usable = refl; no_let = refl; no_mark = refl; between = refl; built_in = refl }
 operator_word Op.Plus = record { usable = refl; no_let = refl; no_mark = refl; between = refl; built_in = refl }
 operator_word Op.Times = record { usable = refl; no_let = refl; no_mark = refl; between = refl; built_in = refl }
+operator_word Op.Div = record { usable = refl; no_let = refl; no_mark = refl; between = refl; built_in = refl }
+operator_word Op.Mod = record { usable = refl; no_let = refl; no_mark = refl; between = refl; built_in = refl }
 operator_word Op.LessEq = record { usable = refl; no_let = refl; no_mark = refl; between = refl; built_in = refl }
 operator_word Op.Less = record { usable = refl; no_let = refl; no_mark = refl; between = refl; built_in = refl }
 operator_word Op.GreaterEq = record { usable = refl; no_let = refl; no_mark = refl; between = refl; built_in = refl }

@@ -5,7 +5,7 @@ use Rattle.std.specs.List.{AllByRecursion}
 use Rattle.term_model.specs.declared.symbols.Sort.{Sort}
 use Rattle.term_model.specs.declared.symbols.Op.{Op}
 use Rattle.term_model.specs.FreeVariables.{IsFreeAmong, IsClosed}
-use Rattle.term_model.specs.Sorts.{application_sort, call_sort, AreOf}
+use Rattle.term_model.specs.Sorts.{operation_sort, call_sort, AreOf}
 use Rattle.term_model.specs.Terms.{Var, sort_eq, Fun, Term, numeral, variable, operation, call, let_in, Terms, no_terms, term, Bindings, no_bindings, binding}
 use Rattle.term_model.proofs.Lists.{all_joined}
 use Rattle.term_model.proofs.Tests.{sort_eq_decides}
@@ -42,7 +42,7 @@ module _ (v : Vocabulary) (nesting : Nesting Var Term) where
   parts_closed (term t ts) (sort ∷ sorts) h x (inl free) = h.0.closed x free
   parts_closed (term t ts) (sort ∷ sorts) h x (inr free) = parts_closed ts sorts h.1 x free
 
-  pub operation_in : (op : Op) (ts : Terms) (sorts : List Sort) (sort : Sort) → AreTermsIn v nesting ts sorts → application_sort op sorts ≡ Some sort
+  pub operation_in : (op : Op) (ts : Terms) (sorts : List Sort) (sort : Sort) → AreTermsIn v nesting ts sorts → operation_sort op ts sorts ≡ Some sort
       → IsTermIn v nesting (operation op ts) sort
   operation_in op ts sorts sort h e = record {
     of = parts_of ts sorts h;

@@ -7,7 +7,7 @@ use Rattle.std.specs.Option.{option_map_or}
 use Rattle.term_model.specs.declared.symbols.Sort.{Sort}
 use Rattle.term_model.specs.declared.symbols.Op.{Op}
 use Rattle.term_model.specs.FreeVariables.{IsFree, IsFreeAmong}
-use Rattle.term_model.specs.Sorts.{sorts_eq, application_sort, call_sort}
+use Rattle.term_model.specs.Sorts.{sorts_eq, operation_sort, call_sort}
 use Rattle.term_model.specs.Terms.{Var, var_eq, sort_eq, Fun, variable, operation, call}
 use Rattle.term_model.proofs.Lists.{contains_cases, contains_none}
 use Rattle.term_model.proofs.Tests.{var_eq_decides, sort_eq_decides, sorts_eq_decides}
@@ -159,7 +159,7 @@ applied_own p u (function f) ts fit h = go (call_sort f (sorts_of ts))
     go : (o : Option Sort) → IfSome {T = Typed} (option_map (λ s. record { tree = call f (trees ts); sort = s }) o) (IsOwnTerm p u)
     go None = tt
     go (Some s) = ((fit, arguments_of p u ts h), λ kept x free. arguments_bound p u ts h kept x free)
-applied_own p u (operator op) ts fit h = go (application_sort op (sorts_of ts))
+applied_own p u (operator op) ts fit h = go (operation_sort op (trees ts) (sorts_of ts))
   where
     go : (o : Option Sort) → IfSome {T = Typed} (option_map (λ s. record { tree = operation op (trees ts); sort = s }) o) (IsOwnTerm p u)
     go None = tt

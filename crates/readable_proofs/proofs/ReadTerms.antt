@@ -5,7 +5,8 @@ use Rattle.std.specs.List.{AllByRecursion}
 use Rattle.std.specs.Option.{option_map_or, option_or}
 use Rattle.std.proofs.lemmas.Bool.{or_parts}
 use Rattle.std.proofs.lemmas.Slice.Eq.{bytes_eq-Decides}
-use Rattle.sexpr.specs.declared.causes.Cause.TheVariants.{Repeated, TooHigh}
+use Rattle.sexpr.specs.declared.causes.Cause.{Cause}
+use Rattle.sexpr.specs.declared.causes.Cause.TheVariants.{Repeated, TooHigh, SortMismatch}
 use Rattle.term_model.specs.declared.symbols.Sort.{Sort}
 use Rattle.term_model.specs.FreeVariables.{Binds, IsFree, IsFreeBound}
 use Rattle.term_model.specs.Heights.{height}
@@ -15,7 +16,8 @@ use Rattle.term_model.proofs.Tests.{var_eq_decides}
 use Rattle.text_items.specs.ItemShapes.{Name}
 use Rattle.problem_text.specs.Forms.{Form, faulty, number, symbol, application, let_form, annotated, Forms, no_forms, form, LetBinds, no_binds, bind}
 use Rattle.problem_text.specs.Limits.{is_low, AreLow}
-use Rattle.problem_text.specs.Names.{Bound, Place, itself, innermost, is_bound, Meaning, meaning_of, meaning_applied, let_bindings_of, place_inside, let_term}
+use Rattle.problem_text.specs.Names.{Bound, Place, itself, innermost, is_bound, Meaning}
+use Rattle.problem_text.specs.Names.{meaning_of, meaning_applied, refusal_of, let_bindings_of, place_inside, let_term}
 use Rattle.problem_text.specs.Outcomes.{Outcome, done, refuse, and_then}
 use Rattle.problem_text.specs.PrintedTerms.{BindsSome}
 use Rattle.problem_text.specs.Scripts.{Script, is_taken, with_named, with_term, with_let_name}
@@ -63,10 +65,10 @@ term_still : (p : Place) (s u : Script) (t : Typed) → Grows s u → IsOwnTerm 
 term_still p s u t g h = (still_read s u t.tree g h.0, h.1)
 
 -- a term that is settled
-settled_own : (p : Place) (s u : Script) (place : ℕ) (o : Option Typed) → HasOwnTerms u → Grows s u → StayLow p s u → IfSome o (IsOwnTerm p u)
-    → Reads (IsReadTerm p s) (settled p.settings.limit place o u)
-settled_own p s u place None own g low h = tt
-settled_own p s u place (Some t) own g low h = go (is_low p.settings.limit (height t.tree)) refl
+settled_own : (cause : Cause) (p : Place) (s u : Script) (place : ℕ) (o : Option Typed) → HasOwnTerms u → Grows s u → StayLow p s u → IfSome o (IsOwnTerm p u)
+    → Reads (IsReadTerm p s) (settled cause p.settings.limit place o u)
+settled_own cause p s u place None own g low h = tt
+settled_own cause p s u place (Some t) own g low h = go (is_low p.settings.limit (height t.tree)) refl
   where
     go : (b : Bool) → is_low p.settings.limit (height t.tree) ≡ b
         → Reads (IsReadTerm p s) (if b then done t (with_term t.tree u) else refuse TooHigh place (with_term t.tree u))
@@ -221,26 +223,29 @@ mutual
   pub term_own : (f : Form) (p : Place) (s : Script) → IsGoodForm f → HasOwnTerms s → IsOwnPlace s p → Reads (IsReadTerm p s) (term_from f p s)
   term_own (faulty cause place) p s good own here = tt
   term_own (number place n) p s good own here =
-      settled_own p s s place (Some (record { tree = numeral n; sort = Sort.Int })) own (grown_same s) (λ k. k) (good, λ kept x free. absurd free)
+      settled_own SortMismatch p s s place (Some (record { tree = numeral n; sort = Sort.Int })) own (grown_same s) (λ k. k) (good, λ kept x free. absurd free)
   term_own (symbol n) p s good own here =
-      with_meaning_own p (IsReadTerm p s) n.place (meaning_of p s n.name) s (λ m. settled p.settings.limit n.place (meaning_applied m []) s)
+      with_meaning_own p (IsReadTerm p s) n.place (meaning_of p s n.name) s (λ m. settled SortMismatch p.settings.limit n.place (meaning_applied m []) s)
       (meaning_own p s n.name own here)
-      (λ m fit. settled_own p s s n.place (meaning_applied m []) own (grown_same s) (λ k. k) (applied_own p s m [] fit tt))
+      (λ m fit. settled_own SortMismatch p s s n.place (meaning_applied m []) own (grown_same s) (λ k. k) (applied_own p s m [] fit tt))
   term_own (application place head fs) p s good own here =
       with_meaning_own p (IsReadTerm p s) head.place (meaning_of p s head.name) s
-      (λ m. and_then (terms_from fs p s) (λ ts after. settled p.settings.limit place (meaning_applied m ts) after)) (meaning_own p s head.name own here)
-      (λ m fit. reads_then (AreReadTerms p s) (IsReadTerm p s) (terms_from fs p s) (λ ts after. settled p.settings.limit place (meaning_applied m ts) after)
+      (λ m. and_then (terms_from fs p s) (λ ts after. settled (refusal_of m ts) p.settings.limit place (meaning_applied m ts) after))
+      (meaning_own p s head.name own here)
+      (λ m fit. reads_then (AreReadTerms p s) (IsReadTerm p s) (terms_from fs p s)
+      (λ ts after. settled (refusal_of m ts) p.settings.limit place (meaning_applied m ts) after)
       (terms_own fs p s good own here)
-      (λ ts after h. settled_own p s after place (meaning_applied m ts) h.own h.grown h.low
+      (λ ts after h. settled_own (refusal_of m ts) p s after place (meaning_applied m ts) h.own h.grown h.low
       (applied_own p after m ts (meaning_still p s after m h.grown fit) h.terms)))
   term_own (let_form place bs body) p s good own here =
       reads_then (AreReadBounds bs [] p s) (IsReadTerm p s) (bounds_from bs [] p s)
-      (λ bound after. and_then (term_from body (place_inside bound p) after) (λ t last. settled p.settings.limit place (Some (let_term p bound t)) last))
+      (λ bound after. and_then (term_from body (place_inside bound p) after)
+      (λ t last. settled SortMismatch p.settings.limit place (Some (let_term p bound t)) last))
       (bounds_own bs [] p s good.1 own here)
       (λ bound after h. reads_then (IsReadTerm (place_inside bound p) after) (IsReadTerm p s) (term_from body (place_inside bound p) after)
-      (λ t last. settled p.settings.limit place (Some (let_term p bound t)) last)
+      (λ t last. settled SortMismatch p.settings.limit place (Some (let_term p bound t)) last)
       (term_own body (place_inside bound p) after good.2 h.own (inside_own after p bound (place_still s after p h.grown here) h.stand))
-      (λ t last k. settled_own p s last place (Some (let_term p bound t)) k.own (grown_then s after last h.grown k.grown) (λ l. k.low (h.low l))
+      (λ t last k. settled_own SortMismatch p s last place (Some (let_term p bound t)) k.own (grown_then s after last h.grown k.grown) (λ l. k.low (h.low l))
       (let_own bs p s after last bound t good.0 h k)))
   term_own (annotated place f names) p s good own here =
       reads_then (IsReadTerm p s) (IsReadTerm p s) (term_from f p s) (λ t after. with_names t names after) (term_own f p s good own here)

@@ -10,6 +10,7 @@ use Rattle.term_model.specs.declared.symbols.Op.{Op}
 use Rattle.term_model.specs.FreeVariables.{Binds, IsFree, IsFreeAmong, IsFreeBound}
 use Rattle.term_model.specs.Sorts.{when, sorts_eq, at_least, of_one_sort, choice_sort, application_sort, IsOf, AreOf, AreBound}
 use Rattle.term_model.specs.Terms.{Var, sort_eq, Term, numeral, variable, operation, call, let_in, Terms, no_terms, term, Bindings, no_bindings, binding}
+use Rattle.term_model.proofs.Sorting.{operation_application}
 use Rattle.problem_text.specs.Scripts.{Script}
 use Rattle.problem_text.specs.Sorts.{sort_from}
 use Rattle.printed_proofs.specs.Readable.{IsSortReadable}
@@ -71,6 +72,8 @@ module _ (s : Script) where
   application_known Op.Minus sorts sort known e = known_when (at_least 1 Sort.Int sorts) Sort.Int sort (int_readable s) e
   application_known Op.Plus sorts sort known e = known_when (at_least 1 Sort.Int sorts) Sort.Int sort (int_readable s) e
   application_known Op.Times sorts sort known e = known_when (at_least 1 Sort.Int sorts) Sort.Int sort (int_readable s) e
+  application_known Op.Div sorts sort known e = known_when (sorts_eq (Sort.Int ∷ Sort.Int ∷ []) sorts) Sort.Int sort (int_readable s) e
+  application_known Op.Mod sorts sort known e = known_when (sorts_eq (Sort.Int ∷ Sort.Int ∷ []) sorts) Sort.Int sort (int_readable s) e
   application_known Op.LessEq sorts sort known e = known_when (at_least 2 Sort.Int sorts) Sort.Bool sort (bool_readable s) e
   application_known Op.Less sorts sort known e = known_when (at_least 2 Sort.Int sorts) Sort.Bool sort (bool_readable s) e
   application_known Op.GreaterEq sorts sort known e = known_when (at_least 2 Sort.Int sorts) Sort.Bool sort (bool_readable s) e
@@ -82,7 +85,8 @@ module _ (s : Script) where
           → IsSortReadable s sort
       sort_known (numeral n) sort free h is = subst (IsSortReadable s) (sym is) (int_readable s)
       sort_known (variable x) sort free h is = subst (IsSortReadable s) (sym is) (free x refl)
-      sort_known (operation op ts) sort free h is = application_known op is.sorts sort (sorts_known ts is.sorts free h is.arguments) is.is
+      sort_known (operation op ts) sort free h is =
+          application_known op is.sorts sort (sorts_known ts is.sorts free h is.arguments) (operation_application op ts is.sorts sort is.is)
       sort_known (call f ts) sort free h is = known_when (sorts_eq f.arguments is.sorts) f.target sort (well.sorts f h.0) is.is
       sort_known (let_in bs t) sort free h is =
           sort_known t sort

@@ -4,7 +4,7 @@ ghost use Rattle.std.specs.List.{AllByRecursion};
 ghost use Rattle.sexpr.specs.Printed.{printed_lines};
 ghost use Rattle.term_model.specs.declared.symbols.Op.{Op};
 ghost use Rattle.term_model.specs.declared.symbols.Sort.{Sort};
-ghost use Rattle.term_model.specs.Sorts.{application_sort, call_sort};
+ghost use Rattle.term_model.specs.Sorts.{operation_sort, call_sort};
 ghost use Rattle.term_model.specs.Terms.{Var, Fun, Term, operation, call, Terms, no_terms, term, not_of};
 ghost use Rattle.rule_model.specs.Contexts.{images, AreAnchorsNested};
 ghost use Rattle.rule_model.specs.Proofs.{ProofItems};
@@ -113,7 +113,7 @@ pub fn proofs_that_pass_have_coefficients()
 /// variables, as the images of open anchors are; and what is over a vocabulary is over a larger one.
 pub fn new_terms_are_over_their_names()
     ensures operations { (v : Vocabulary) (nesting : Nesting Var Term) (op : Op) (ts : Terms) (sorts : List Sort) (sort : Sort) →
-        AreTermsIn v nesting ts sorts → application_sort op sorts ≡ Some sort → IsTermIn v nesting (operation op ts) sort }
+        AreTermsIn v nesting ts sorts → operation_sort op ts sorts ≡ Some sort → IsTermIn v nesting (operation op ts) sort }
     ensures calls { (v : Vocabulary) (nesting : Nesting Var Term) (f : Fun) (ts : Terms) (sorts : List Sort) (sort : Sort) →
         Contains v.functions f → AreTermsIn v nesting ts sorts → call_sort f sorts ≡ Some sort → IsTermIn v nesting (call f ts) sort }
     ensures negations { (v : Vocabulary) (nesting : Nesting Var Term) (t : Term) → IsTermIn v nesting t Sort.Bool →

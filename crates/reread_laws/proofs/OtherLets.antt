@@ -3,7 +3,8 @@ use Rattle.std.proofs.Common.{◌≡◌, ℕ, Bool, true, false, ◌||◌, ◌++
 use Rattle.std.proofs.Common.{find, option_map, option_and_then, bytes_eq, refl, sym, ap, ◌∙◌, subst}
 use Rattle.std.specs.List.{AllByRecursion, list_all}
 use Rattle.std.specs.Option.{option_or}
-use Rattle.sexpr.specs.declared.causes.Cause.TheVariants.{Repeated, TooHigh}
+use Rattle.sexpr.specs.declared.causes.Cause.{Cause}
+use Rattle.sexpr.specs.declared.causes.Cause.TheVariants.{Repeated, TooHigh, SortMismatch}
 use Rattle.term_model.specs.declared.symbols.Op.{Op}
 use Rattle.term_model.specs.declared.symbols.Sort.{Sort}
 use Rattle.term_model.specs.Heights.{height}
@@ -19,7 +20,7 @@ use Rattle.problem_text.specs.TypedTerms.{Typed}
 use Rattle.problem_text.specs.Outcomes.{Outcome, done, refuse}
 use Rattle.problem_text.specs.Scripts.{Macro, Named, Script, is_taken, with_named, with_term, with_let_name}
 use Rattle.problem_text.specs.Names.{Bound, itself, innermost, is_bound, replacement, Place, Meaning, value, macro, function, operator}
-use Rattle.problem_text.specs.Names.{meaning_of_bound, meaning_of_named, meaning_of, meaning_applied, place_inside, let_bindings_of, let_term}
+use Rattle.problem_text.specs.Names.{meaning_of_bound, meaning_of_named, meaning_of, meaning_applied, refusal_of, place_inside, let_bindings_of, let_term}
 use Rattle.problem_text.specs.Terms.{settled, with_meaning, with_names, term_from, terms_from, bounds_from}
 use Rattle.problem_text.proofs.Outcomes.{if_found}
 use Rattle.reread_laws.proofs.SameReadings.{ReadsSame, same_then, never_then, same_done, same_unless}
@@ -150,36 +151,39 @@ module _ (n : ℕ) where
   abbrev Same : {A : Type 0} → Script → Outcome Script A → Outcome Script A → Type 0
   Same s o other = ReadsSame IsLong IsFree s o other
 
-  settled_same : (limit : Option ℕ) (place : ℕ) (t u : Typed) (s : Script) → (HasNoLet t.tree → u ≡ t)
-      → Same s (settled limit place (Some t) s) (settled limit place (Some u) s)
-  settled_same limit place t u s same = go (is_low limit (height t.tree)) refl
+  settled_same : (cause : Cause) (limit : Option ℕ) (place : ℕ) (t u : Typed) (s : Script) → (HasNoLet t.tree → u ≡ t)
+      → Same s (settled cause limit place (Some t) s) (settled cause limit place (Some u) s)
+  settled_same cause limit place t u s same = go (is_low limit (height t.tree)) refl
     where
       ended : Bool → Typed → Outcome Script Typed
       ended low t = if low then done t (with_term t.tree s) else refuse TooHigh place (with_term t.tree s)
 
-      go : (low : Bool) → is_low limit (height t.tree) ≡ low → Same s (ended low t) (settled limit place (Some u) s)
+      go : (low : Bool) → is_low limit (height t.tree) ≡ low → Same s (ended low t) (settled cause limit place (Some u) s)
       go true e = λ long. (
         one_longer HasNoLet n s.terms t.tree long,
         λ free.
             let less = one_less_since HasNoLet n s.terms t.tree long free in
-            (less.0, ap (λ (v : Typed). settled limit place (Some v) s) (same less.1) ∙ ap (λ low. ended low t) e),
+            (less.0, ap (λ (v : Typed). settled cause limit place (Some v) s) (same less.1) ∙ ap (λ low. ended low t) e),
       )
       go false e = tt
 
-  applied_same : (limit : Option ℕ) (place : ℕ) (o : Option Typed) (s : Script) → Same s (settled limit place o s) (settled limit place o s)
-  applied_same limit place None s = tt
-  applied_same limit place (Some t) s = settled_same limit place t t s (λ _. refl)
+  applied_same : (cause : Cause) (limit : Option ℕ) (place : ℕ) (o : Option Typed) (s : Script)
+      → Same s (settled cause limit place o s) (settled cause limit place o s)
+  applied_same cause limit place None s = tt
+  applied_same cause limit place (Some t) s = settled_same cause limit place t t s (λ _. refl)
 
-  meant_same : (p : Place) → IsKeeping p → (limit : Option ℕ) (place : ℕ) (m : Meaning) (ts : List Typed) (s : Script)
-      → Same s (settled limit place (meaning_applied m ts) s) (settled limit place (meaning_applied (replaced_meaning p m) ts) s)
+  -- whatever cause a meaning has that is not applied
+  meant_same : (p : Place) → IsKeeping p → (cause : Meaning → Cause) (place : ℕ) (m : Meaning) (ts : List Typed) (s : Script)
+      → Same s (settled (cause m) p.settings.limit place (meaning_applied m ts) s)
+      (settled (cause (replaced_meaning p m)) p.settings.limit place (meaning_applied (replaced_meaning p m) ts) s)
   unfolding meaning_applied
-  meant_same p keeping limit place (value t) [] s =
-      settled_same limit place t (put_into p t) s
+  meant_same p keeping cause place (value t) [] s =
+      settled_same (cause (value t)) p.settings.limit place t (put_into p t) s
       (λ free. ap (λ tree. record { tree = tree; sort = t.sort }) (same_term p.scope keeping.themselves t.tree free))
-  meant_same p keeping limit place (value t) (a ∷ ts) s = tt
-  meant_same p keeping limit place (macro m) ts s = applied_same limit place (meaning_applied (macro m) ts) s
-  meant_same p keeping limit place (function f) ts s = applied_same limit place (meaning_applied (function f) ts) s
-  meant_same p keeping limit place (operator op) ts s = applied_same limit place (meaning_applied (operator op) ts) s
+  meant_same p keeping cause place (value t) (a ∷ ts) s = tt
+  meant_same p keeping cause place (macro m) ts s = applied_same (cause (macro m)) p.settings.limit place (meaning_applied (macro m) ts) s
+  meant_same p keeping cause place (function f) ts s = applied_same (cause (function f)) p.settings.limit place (meaning_applied (function f) ts) s
+  meant_same p keeping cause place (operator op) ts s = applied_same (cause (operator op)) p.settings.limit place (meaning_applied (operator op) ts) s
 
   same_names : (t : Typed) (ns : List Name) (s : Script) → Same s (with_names t ns s) (with_names t ns s)
   same_names t [] s = same_done IsLong IsFree t s
@@ -199,7 +203,7 @@ module _ (n : ℕ) where
 
   -- a let that is kept is read
   let_never : (p : Place) → IsKeeping p → (place : ℕ) (bound : List Bound) (t : Typed) (s : Script) (any : Outcome Script Typed)
-      → Same s (settled p.settings.limit place (Some (let_term p bound t)) s) any
+      → Same s (settled SortMismatch p.settings.limit place (Some (let_term p bound t)) s) any
   let_never p keeping place bound t s any = go p.settings.replaces_lets keeping.keeps
     where
       kept : Typed
@@ -209,7 +213,7 @@ module _ (n : ℕ) where
       judged true = λ long. (one_longer HasNoLet n s.terms kept.tree long, λ free. absurd (one_less_since HasNoLet n s.terms kept.tree long free).1)
       judged false = tt
 
-      go : (b : Bool) → b ≡ false → Same s (settled p.settings.limit place (Some (if b then t else kept)) s) any
+      go : (b : Bool) → b ≡ false → Same s (settled SortMismatch p.settings.limit place (Some (if b then t else kept)) s) any
       go true e = absurd (cc)
       go false e = judged (is_low p.settings.limit (height kept.tree))
 
@@ -218,13 +222,13 @@ module _ (n : ℕ) where
 
     pub same_read : (f : Form) (p : Place) (s : Script) → IsKeeping p → Same s (term_from f p s) (term_from f (replacing p) s)
     same_read (faulty cause place) p s keeping = tt
-    same_read (number place n) p s keeping = applied_same p.settings.limit place (Some (record { tree = numeral n; sort = Sort.Int })) s
+    same_read (number place n) p s keeping = applied_same SortMismatch p.settings.limit place (Some (record { tree = numeral n; sort = Sort.Int })) s
     same_read (symbol n) p s keeping =
-        by_meaning p keeping n.name n.place s _ _ (λ m. meant_same p keeping p.settings.limit n.place m [] s)
+        by_meaning p keeping n.name n.place s _ _ (λ m. meant_same p keeping (λ _. SortMismatch) n.place m [] s)
     same_read (application place head fs) p s keeping =
         by_meaning p keeping head.name head.place s _ _
         (λ m. same_then IsLong IsFree s (terms_from fs p s) _ _ _ (all_read fs p s keeping)
-        (λ ts u. meant_same p keeping p.settings.limit place m ts u))
+        (λ ts u. meant_same p keeping (λ m. refusal_of m ts) place m ts u))
     same_read (let_form place bs body) p s keeping =
         never_then IsLong IsFree s (bounds_from bs [] p s) (bounds_from bs [] (replacing p) s) _ _ (bounds_read bs [] p s keeping)
         (λ bound u end. never_then IsLong IsFree u (term_from body (place_inside bound p) u) (term_from body (replacing (place_inside bound p)) u) _ end
