@@ -11,6 +11,7 @@ use Rattle.term_model.specs.declared.symbols.Sort.{Sort}
 use Rattle.term_model.specs.Flips.{equality, EqualUpToFlips, AllEqualUpToFlips, same, operations, calls, flipped, none, each}
 use Rattle.term_model.specs.Sorts.{IsOf, AreOf, application_sort, of_one_sort}
 use Rattle.term_model.specs.Terms.{Term, Terms, no_terms, term}
+use Rattle.term_model.proofs.Flips.{operation_flipped}
 use Rattle.term_pool.proofs.References.{AreOne}
 use Rattle.term_pool.specs.Reading.{arguments_of}
 use Rattle.term_pool.specs.Views.{TermsView, RefersTo}
@@ -48,7 +49,11 @@ flipped_sort a b c d s one other [] have e = absurd have
 mutual
   flips_sort : (t u : Term) (s : Sort) → EqualUpToFlips t u → IsOf t s → IsOf u s
   flips_sort _ _ s (same t) h = h
-  flips_sort _ _ s (operations op ts us all) h = record { sorts = h.sorts; arguments = flips_sorts ts us h.sorts all h.arguments; is = h.is }
+  flips_sort _ _ s (operations op ts us all) h = record {
+    sorts = h.sorts;
+    arguments = flips_sorts ts us h.sorts all h.arguments;
+    is = operation_flipped op ts us h.sorts s all h.is;
+  }
   flips_sort _ _ s (calls f ts us all) h = record { sorts = h.sorts; arguments = flips_sorts ts us h.sorts all h.arguments; is = h.is }
   flips_sort _ _ s (flipped a b c d first second) h =
       turned_sort d c s (flipped_sort a b c d s (λ x k. flips_sort a d x first k) (λ x k. flips_sort b c x second k) h.sorts h.arguments h.is)

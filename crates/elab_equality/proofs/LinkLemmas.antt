@@ -13,6 +13,7 @@ use Rattle.term_model.specs.Flips.{equality, EqualUpToFlips, same, operations, c
 use Rattle.term_model.specs.Sorts.{IsOf, AreOf, application_sort}
 use Rattle.term_model.specs.Terms.{Term, Terms, no_terms, term}
 use Rattle.term_model.proofs.Zips.{zip_length, zip_weaken}
+use Rattle.term_model.proofs.Flips.{operation_flipped}
 use Rattle.term_pool.specs.Views.{TermsView, KeepsTerms, RefersTo, ReferToAll}
 use Rattle.term_pool.proofs.TermLemmas.{equal_where}
 use Rattle.proof_store.specs.AddedSteps.{AddedStep}
@@ -52,7 +53,11 @@ crossed_sort a b c d s outer inner [] have e = absurd have
 mutual
   pub flips_sort : (t u : Term) (s : Sort) → EqualUpToFlips t u → IsOf t s → IsOf u s
   flips_sort _ _ s (same t) h = h
-  flips_sort _ _ s (operations op ts us all) h = record { sorts = h.sorts; arguments = flips_sorts ts us h.sorts all h.arguments; is = h.is }
+  flips_sort _ _ s (operations op ts us all) h = record {
+    sorts = h.sorts;
+    arguments = flips_sorts ts us h.sorts all h.arguments;
+    is = operation_flipped op ts us h.sorts s all h.is;
+  }
   flips_sort _ _ s (calls f ts us all) h = record { sorts = h.sorts; arguments = flips_sorts ts us h.sorts all h.arguments; is = h.is }
   flips_sort _ _ s (flipped a b c d outer inner) h =
       turned_sort d c s (crossed_sort a b c d s (λ x k. flips_sort a d x outer k) (λ x k. flips_sort b c x inner k) h.sorts h.arguments h.is)

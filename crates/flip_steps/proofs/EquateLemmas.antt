@@ -12,6 +12,7 @@ use Rattle.term_model.specs.FreeVariables.{IsFree}
 use Rattle.term_model.specs.Sorts.{IsOf, AreOf, application_sort, when}
 use Rattle.term_model.specs.Terms.{Var, Term, numeral, variable, operation, call, let_in, Terms, no_terms, term, terms_of, sort_eq}
 use Rattle.term_model.proofs.Lists.{terms_of-list_of}
+use Rattle.term_model.proofs.Flips.{operation_flipped}
 use Rattle.term_pool.specs.Reading.{arguments_of}
 use Rattle.term_pool.specs.Placing.{PlacesCellsOf}
 use Rattle.term_pool.specs.Views.{TermsView, KeepsTerms, RefersTo, ReferToAll}
@@ -29,7 +30,7 @@ use Rattle.flip_steps.specs.Memory.{IsEquatedBy, IsFormedAs}
 use Rattle.flip_steps.specs.Remembering.{GrowsBy, IsGatheredFor, IsReadyFor}
 use Rattle.flip_steps.specs.Stages.{StandsBefore, IsStage, itself, refilled, formed, equated, IsMadeAt}
 use Rattle.flip_steps.specs.Subterms.{with_arguments}
-use Rattle.flip_steps.proofs.FormLemmas.{IsTurned, order_cases, forms_sorts, forms_free}
+use Rattle.flip_steps.proofs.FormLemmas.{IsTurned, order_cases, forms_sorts, forms_free, forms_equal}
 use Rattle.flip_steps.proofs.MemoryLemmas.{LinksStay, say_later}
 use Rattle.flip_steps.proofs.OrderLemmas.{before_grown, form_later, made_at_later, order_later, refers_later, stage_later}
 use Rattle.flip_steps.proofs.UnitLemmas.{extends_itself, one_longer, units_more, units_none, units_one, units_then}
@@ -72,11 +73,13 @@ refilled_sort : (before : Term → Term → Type 0) (t : Term) (us : Terms) (s :
     → IsOf (with_arguments t us) s
 refilled_sort before (numeral n) us s are h = h
 refilled_sort before (variable x) us s are h = h
-refilled_sort before (operation op ts) us s are h = record {
-  sorts = h.sorts;
-  arguments = forms_sorts before ts us h.sorts (subst (λ xs. AreFormsOf before xs us) (terms_of-list_of ts) are) h.arguments;
-  is = h.is;
-}
+refilled_sort before (operation op ts) us s are h =
+    let forms = subst (λ xs. AreFormsOf before xs us) (terms_of-list_of ts) are in
+    record {
+      sorts = h.sorts;
+      arguments = forms_sorts before ts us h.sorts forms h.arguments;
+      is = operation_flipped op ts us h.sorts s (forms_equal before ts us forms) h.is;
+    }
 refilled_sort before (call f ts) us s are h = record {
   sorts = h.sorts;
   arguments = forms_sorts before ts us h.sorts (subst (λ xs. AreFormsOf before xs us) (terms_of-list_of ts) are) h.arguments;

@@ -7,6 +7,7 @@ use Rattle.term_model.specs.FreeVariables.{IsFree, IsFreeAmong}
 use Rattle.term_model.specs.Heights.{height, highest}
 use Rattle.term_model.specs.Sorts.{IsOf, AreOf, application_sort, when}
 use Rattle.term_model.specs.Terms.{Var, Fun, Term, numeral, variable, operation, call, let_in, Terms, no_terms, term, sort_eq}
+use Rattle.term_model.proofs.Flips.{operation_flipped}
 use Rattle.flip_steps.specs.Forms.{IsAntisymmetric, HasSidesInOrder, IsFormOf, AreFormsOf}
 
 -- an equality turned round has its sort, its free variables and its height
@@ -178,7 +179,11 @@ module _ (before : Term → Term → Type 0) where
     form_sort (call c ts) f s (us, h, e) k =
         subst (λ x. IsOf x s) (sym e) (record { sorts = k.sorts; arguments = forms_sorts ts us k.sorts h k.arguments; is = k.is })
     form_sort (operation op ts) f s (us, h, e) k =
-        order_sort (operation op us) f s e (record { sorts = k.sorts; arguments = forms_sorts ts us k.sorts h k.arguments; is = k.is })
+        order_sort (operation op us) f s e (record {
+          sorts = k.sorts;
+          arguments = forms_sorts ts us k.sorts h k.arguments;
+          is = operation_flipped op ts us k.sorts s (forms_equal ts us h) k.is;
+        })
 
     pub forms_sorts : (ts us : Terms) (ss : List Sort) → AreFormsOf before ts us → AreOf ts ss → AreOf us ss
     forms_sorts no_terms us ss h k = subst (λ xs. AreOf xs ss) (sym h) k

@@ -13,7 +13,7 @@ use Rattle.term_model.specs.declared.symbols.Sort.{Sort}
 use Rattle.term_model.specs.Sorts.{IsOf, AreOf, IsWellSorted, application_sort, at_least, when}
 use Rattle.term_model.specs.Terms as term
 use Rattle.term_model.specs.Terms.{Term, Terms, operation, no_terms, not_of}
-use Rattle.term_model.proofs.Sorting.{operation_parts, one_sort}
+use Rattle.term_model.proofs.Sorting.{operation_parts, operation_application, one_sort}
 use Rattle.term_pool.specs.Building.{IsAppliedLeaf}
 use Rattle.term_pool.specs.Nots.{negated}
 use Rattle.term_pool.specs.Reading.{arguments_of, IsLet}
@@ -149,7 +149,8 @@ record HaveSorts (op : Op) (t u : Term) : Type 0 where
   is : application_sort op (one ∷ other ∷ []) ≡ Some whole
 
 have_sorts : (op : Op) (t u : Term) → IsWellSorted (operation op (term.term t (term.term u no_terms))) → HaveSorts op t u
-have_sorts op t u h = go h.of.sorts h.of.arguments h.of.is
+have_sorts op t u h =
+    go h.of.sorts h.of.arguments (operation_application op (term.term t (term.term u no_terms)) h.of.sorts h.sort h.of.is)
   where
     go : (ss : List Sort) → AreOf (term.term t (term.term u no_terms)) ss → application_sort op ss ≡ Some h.sort → HaveSorts op t u
     go [] are is = absurd are
