@@ -6,6 +6,8 @@ use Rattle.pair_pool.specs.Views.{PassView, Knows}
 use Rattle.sort_check.specs.Applications.{applied_sort}
 use Rattle.sym_table.specs.Table.{Table, LeafMeets}
 use Rattle.term_model.specs.declared.symbols.Sort.{Sort}
+use Rattle.term_model.specs.declared.symbols.Op.{Op}
+use Rattle.term_model.specs.Sorts.{application_sort, operation_sort}
 use Rattle.term_model.specs.Terms.{Var, Term, operation, call, no_terms}
 use Rattle.term_pool.specs.StandsFor.{StandsFor}
 use Rattle.term_pool.specs.Views.{TermsView}
@@ -28,6 +30,12 @@ record IsAlone (s : Table) (k : ℕ) (m : Meaning) (o : Option Sort) : Type 0 wh
   plain : HasNoLet term
   made : meaning_applied m [] ≡ option_map (λ u. record { tree = term; sort = u }) o
 
+-- without arguments nothing is divided
+alone_sort : (op : Op) → operation_sort op no_terms [] ≡ application_sort op []
+alone_sort Op.Div = refl
+alone_sort Op.Mod = refl
+alone_sort _ = refl
+
 alone : (s : Table) (k : ℕ) (m : Meaning) (o : Option Sort) → IsSymbolOf s k m → LeafMeets s k (λ l. o ≡ applied_sort l []) → IsAlone s k m o
 unfolding meaning_applied height
 alone s k m o (inl (f, here, is)) judged =
@@ -37,7 +45,13 @@ alone s k m o (inl (f, here, is)) judged =
 alone s k m o (inr (op, here, is)) judged =
     let sorted = rw here at judged in
     subst (λ (n : Meaning). IsAlone s k n o) (sym is)
-    (record { term = operation op no_terms; stands = here; high = refl; plain = tt; made = ap (option_map (λ u. record { tree = operation op no_terms; sort = u })) (sym sorted) })
+    (record {
+      term = operation op no_terms;
+      stands = here;
+      high = refl;
+      plain = tt;
+      made = ap (option_map (λ u. record { tree = operation op no_terms; sort = u })) (alone_sort op ∙ sym sorted);
+    })
 
 pub symbol_made : (s : Table) (v : TermsView) (k r : ℕ) (m : Meaning) (sort : Sort) → ((pass : PassView) → Knows pass r (leaf k)) → IsSymbolOf s k m → LeafMeets s k (λ l. Some sort ≡ applied_sort l []) → IsMade (both s v) (meaning_applied m []) (Ok (Some (record { term = r; sort = sort; height = 1; plain = true })))
 symbol_made s v k r m sort known is judged =

@@ -1,5 +1,5 @@
 -- Symbols applied to values.
-use Rattle.std.proofs.Common.{◌≡◌, ℕ, ◌+◌, ◌<◌, inl, inr, List, [], ◌∷◌, length, length-drop, drop, map, Bool, true, Option, Some, None, option_map, Result, Ok, Err, All, refl, sym, ◌∙◌, ap, subst, arith}
+use Rattle.std.proofs.Common.{◌≡◌, ℕ, ◌+◌, ◌<◌, inl, inr, List, [], ◌∷◌, length, length-drop, drop, map, Bool, true, false, IsTrue, if◌then◌else◌, Option, Some, None, option_map, Result, Ok, Err, All, refl, sym, ◌∙◌, ap, subst, arith}
 use Rattle.std.specs.List.{list_all}
 use Rattle.std.proofs.lemmas.List.Elements.{All-cons, All-nil}
 use Rattle.std.proofs.lemmas.Option.{slice_get_within}
@@ -9,9 +9,11 @@ use Rattle.pair_pool.specs.Views.{IsKnown}
 use Rattle.sym_table.specs.Leaf as leaf
 use Rattle.sym_table.specs.Table.{Table, LeafMeets}
 use Rattle.term_model.specs.declared.symbols.Sort.{Sort}
-use Rattle.term_model.specs.Terms.{Term, operation, call}
-use Rattle.sort_check.specs.Applications.{applied_sort}
-use Rattle.sort_check.proofs.Leaves.{at_leaf}
+use Rattle.term_model.specs.declared.symbols.Op.{Op}
+use Rattle.term_model.specs.Sorts.{divides, divides_rightly, application_sort, operation_sort}
+use Rattle.term_model.specs.Terms.{Term, Terms, operation, call}
+use Rattle.sort_check.specs.Applications.{is_head, IsHead, applied_sort}
+use Rattle.sort_check.proofs.Leaves.{at_leaf, meets}
 use Rattle.term_pool.specs.Building.{IsAppliedLeaf, Builds, LacksRoom}
 use Rattle.term_pool.specs.StandsFor.{function_leaf, StandsFor, StandForAll}
 use Rattle.term_pool.specs.Trees.{app_tree}
@@ -19,6 +21,7 @@ use Rattle.term_pool.specs.Views.{TermsView, RefersTo, ReferToAll, KnowsAll}
 use Rattle.term_names.specs.Heads.{IsSymbolOf}
 use Rattle.term_model.specs.Heights.{height, highest}
 use Rattle.term_model.proofs.Lists.{list_of-terms_of}
+use Rattle.term_model.proofs.Sorting.{application_operation}
 use Rattle.term_names.specs.Making.{Makes}
 use Rattle.problem_text.specs.Names.{Meaning, value, trees, sorts_of, meaning_applied}
 use Rattle.rule_model.specs.Replacement.{HasNoLet, HaveNoLet}
@@ -62,6 +65,9 @@ module _ (s : Table) (v : TermsView) where
         plain = λ e. let parts = and_parts c.plain (list_all (λ c. c.plain) cs) e in (is.plain parts.0, rest.plain parts.1);
       }
 
+  pub values-refer : (cs : List Value) (ts : List Typed) → AreValues (both s v) cs ts → ReferToAll s v (references cs) (map (λ t. t.tree) ts)
+  values-refer cs ts h = (values-trees cs ts h).refer
+
   pub values-sorts : (cs : List Value) (ts : List Typed) → AreValues (both s v) cs ts → map (λ c. c.sort) cs ≡ sorts_of ts
   values-sorts cs ts h = (values-trees cs ts h).sorts
 
@@ -78,9 +84,10 @@ pub record IsAppliedTo (s : Table) (k : ℕ) (m : Meaning) (ts : List Typed) (t 
   pub expected : meaning_applied m ts ≡ Some t
   pub is : IsTermOf s k ts t.tree
 
-symbol-applied : (s : Table) (k : ℕ) (m : Meaning) (ts : List Typed) (sort : Sort) → IsSymbolOf s k m → LeafMeets s k (λ l. Some sort ≡ applied_sort l (sorts_of ts)) → (t : Typed) × (t.sort ≡ sort) × IsAppliedTo s k m ts t
+symbol-applied : (s : Table) (k : ℕ) (m : Meaning) (ts : List Typed) (sort : Sort) → IsSymbolOf s k m → LeafMeets s k (λ l. Some sort ≡ applied_sort l (sorts_of ts))
+    → ((t : Term) → IsAppliedLeaf s k (map (λ u. u.tree) ts) t → true ≡ divides_rightly t) → (t : Typed) × (t.sort ≡ sort) × IsAppliedTo s k m ts t
 unfolding meaning_applied height
-symbol-applied s k m ts sort (inl (f, here, e)) h =
+symbol-applied s k m ts sort (inl (f, here, e)) h rightly =
     let given = at_leaf s k (function_leaf f) (λ l. Some sort ≡ applied_sort l (sorts_of ts)) here h in
     rw e (
       record { tree = call f (trees ts); sort = sort },
@@ -90,13 +97,15 @@ symbol-applied s k m ts sort (inl (f, here, e)) h =
         is = record { application = (here, list_of-terms_of (map (λ u. u.tree) ts)); high = refl; plain = λ p. p };
       },
     )
-symbol-applied s k m ts sort (inr (op, here, e)) h =
+symbol-applied s k m ts sort (inr (op, here, e)) h rightly =
     let given = at_leaf s k (leaf.operator op) (λ l. Some sort ≡ applied_sort l (sorts_of ts)) here h in
     rw e (
       record { tree = operation op (trees ts); sort = sort },
       refl,
       record {
-        expected = ap (λ o. option_map (λ z. record { tree = operation op (trees ts); sort = z }) o) (sym given);
+        expected = ap (λ o. option_map (λ z. record { tree = operation op (trees ts); sort = z }) o)
+            (application_operation op (trees ts) (sorts_of ts) sort
+            (sym (rightly (operation op (trees ts)) (here, list_of-terms_of (map (λ u. u.tree) ts)))) (sym given));
         is = record { application = (here, list_of-terms_of (map (λ u. u.tree) ts)); high = refl; plain = λ p. p };
       },
     )
@@ -105,6 +114,18 @@ pub symbol-below : (s : Table) (k : ℕ) (m : Meaning) → IsSymbolOf s k m → 
 symbol-below s k m (inl (f, here, e)) = slice_get_within s.leaves k _ here
 symbol-below s k m (inr (op, here, e)) = slice_get_within s.leaves k _ here
 
+pub symbol-head : (s : Table) (k : ℕ) (m : Meaning) → IsSymbolOf s k m → IsHead s k
+symbol-head s k m (inl (f, here, e)) = meets s k (function_leaf f) (λ l. IsTrue (is_head l)) here refl
+symbol-head s k m (inr (op, here, e)) = meets s k (leaf.operator op) (λ l. IsTrue (is_head l)) here refl
+
+-- an operator that sorts do not allow is not applied, whatever it divides by
+no-operation : (op : Op) (ts : Terms) (ss : List Sort) → application_sort op ss ≡ None → operation_sort op ts ss ≡ None
+no-operation op ts ss e = go (divides op ts)
+  where
+    go : (b : Bool) → (if b then application_sort op ss else None) ≡ None
+    go true = e
+    go false = refl
+
 symbol-refused : (s : Table) (k : ℕ) (m : Meaning) (ts : List Typed) → IsSymbolOf s k m → LeafMeets s k (λ l. None ≡ applied_sort l (sorts_of ts)) → meaning_applied m ts ≡ None
 unfolding meaning_applied
 symbol-refused s k m ts (inl (f, here, e)) h =
@@ -112,7 +133,17 @@ symbol-refused s k m ts (inl (f, here, e)) h =
     rw e (ap (λ o. option_map (λ z. record { tree = call f (trees ts); sort = z }) o) (sym given))
 symbol-refused s k m ts (inr (op, here, e)) h =
     let given = at_leaf s k (leaf.operator op) (λ l. None ≡ applied_sort l (sorts_of ts)) here h in
-    rw e (ap (λ o. option_map (λ z. record { tree = operation op (trees ts); sort = z }) o) (sym given))
+    rw e (ap (λ o. option_map (λ z. record { tree = operation op (trees ts); sort = z }) o) (no-operation op (trees ts) (sorts_of ts) (sym given)))
+
+-- where it would divide by something else, neither is it applied
+divided-wrongly : (s : Table) (k : ℕ) (m : Meaning) (ts : List Typed) → IsSymbolOf s k m
+    → ((t : Term) → IsAppliedLeaf s k (map (λ u. u.tree) ts) t → false ≡ divides_rightly t) → meaning_applied m ts ≡ None
+unfolding meaning_applied
+divided-wrongly s k m ts (inl (f, here, e)) wrongly =
+    absurd (let no = wrongly (call f (trees ts)) (here, list_of-terms_of (map (λ u. u.tree) ts)) in cc)
+divided-wrongly s k m ts (inr (op, here, e)) wrongly =
+    let no = wrongly (operation op (trees ts)) (here, list_of-terms_of (map (λ u. u.tree) ts)) in
+    rw e (ap (λ b. option_map (λ z. record { tree = operation op (trees ts); sort = z }) (if b then application_sort op (sorts_of ts) else None)) (sym no))
 
 module _ (s : Table) (old : TermsView) (k : ℕ) (cs : List Value) (m : Meaning) (ts : List Typed) (symbol : IsSymbolOf s k m) (values : AreValues (both s old) cs ts)
     (ss : List Sort) (given : ss ≡ map (λ c. c.sort) cs) (o : Option Sort) (meets : LeafMeets s k (λ l. o ≡ applied_sort l ss)) where
@@ -124,10 +155,19 @@ module _ (s : Table) (old : TermsView) (k : ℕ) (cs : List Value) (m : Meaning)
   pub not-applied : o ≡ None → Makes old (both s old) (meaning_applied m ts) (Ok None)
   not-applied e = unchanged s old (meaning_applied m ts) (Ok None) (symbol-refused s k m ts symbol (meets-sorts None e))
 
+  -- where a divisor is no constant other than zero
+  pub not-divided : ((us : List Term) (t : Term) → ReferToAll s old (references cs) us → IsAppliedLeaf s k us t → false ≡ divides_rightly t)
+      → Makes old (both s old) (meaning_applied m ts) (Ok None)
+  not-divided wrongly =
+      unchanged s old (meaning_applied m ts) (Ok None)
+      (divided-wrongly s k m ts symbol (λ t app. wrongly (map (λ u. u.tree) ts) t (values-refer s old cs ts values) app))
+
   module _ (new : TermsView) (sort : Sort) (some : o ≡ Some sort)
+      (rightly : (us : List Term) (t : Term) → ReferToAll s old (references cs) us → IsAppliedLeaf s k us t → true ≡ divides_rightly t)
       (law : (s : Table) (head : ℕ) (trees : List Tree) (ts : List Term) (t : Term) → StandForAll s trees ts → IsAppliedLeaf s head ts t → StandsFor s (app_tree head trees) t) where
     what : (t : Typed) × (t.sort ≡ sort) × IsAppliedTo s k m ts t
     what = symbol-applied s k m ts sort symbol (meets-sorts (Some sort) some)
+        (λ t app. rightly (map (λ u. u.tree) ts) t (values-refer s old cs ts values) app)
 
     pub application-made : (r high : ℕ) (plain : Bool)
         → ((s : Table) (us : List Term) (t : Term) → ReferToAll s old (references cs) us → IsAppliedLeaf s k us t → RefersTo s new r t)

@@ -23,3 +23,4 @@ pub mod LetClosing
 pub mod SortLists
 pub mod AppliedSymbols
 pub mod MacroArguments
+mod DivisorLemmas

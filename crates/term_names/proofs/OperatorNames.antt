@@ -29,8 +29,8 @@ symbol_among (o ∷ ops) name op e = go (bytes_eq (operator_symbol o) name) refl
 -- the built-in words begin with the symbols of the operators
 operator_is_built_in : (name : List ℕ) (op : Op) → operator_named name ≡ Some op → is_built_in name ≡ true
 operator_is_built_in name op e =
-    list_any-append (bytes_eq name) (map operator_symbol operators) (drop 17 built_in_words)
-    ∙ ap (λ b. b || is_among (drop 17 built_in_words) name) (symbol_among operators name op e)
+    list_any-append (bytes_eq name) (map operator_symbol operators) (drop 19 built_in_words)
+    ∙ ap (λ b. b || is_among (drop 19 built_in_words) name) (symbol_among operators name op e)
 
 -- a name that is not taken has no entry, and no function has it
 untaken : (s : Table) (v : TermsView) (k : KnownView) (sc : Script) (name : List ℕ) (o : Option KnownEntry) → IsNameMeant (both s v) k sc name o → is_among sc.taken name ≡ false

@@ -4,7 +4,7 @@
 //!   terms of a problem. `names`: those that a reader of terms starts from, its own, and the variables in scope. `settings`:
 //!   what never changes while terms are read. `words`: the operators' names.
 //! - `looking_up`: what a name is found to be; `using`: a symbol alone; `heads`, `applying`: a symbol applied to terms;
-//!   `lets`: variables of lets, and lets made; `stacks`: the terms that were read and not yet used.
+//!   `divisors`: what `div` and `mod` divide by; `lets`: variables of lets, and lets made; `stacks`: the terms that were read and not yet used.
 //! - `free`: the free variables of a term. `faults`: why a text is not read.
 //!
 //! What a contract sees: `specs/Standing` (when tables stand for a script, name by name), `InScope` (variables in
@@ -12,6 +12,7 @@
 #![tactic(auto)]
 
 pub mod applying;
+mod divisors;
 pub mod entries;
 pub mod faults;
 pub mod free;

@@ -37,6 +37,8 @@ pub(crate) fn operator_of(name: &[u8]) -> Option<Op>
         b"or" => Some(Op::Or),
         b"<=" => Some(Op::LessEq),
         b">=" => Some(Op::GreaterEq),
+        b"div" => Some(Op::Div),
+        b"mod" => Some(Op::Mod),
         b"not" => Some(Op::Not),
         b"and" => Some(Op::And),
         b"xor" => Some(Op::Xor),

@@ -2,5 +2,5 @@
 use Rattle.term_names.proofs.Operators.{none_named}
 use Rattle.term_names.proofs.words.operator_of.Goals as goal
 
-pub returns-in_default-26 : goal.returns-in_default-26
-returns-in_default-26 c = none_named c.args.name.now c.in_default.len_at_least c.in_default.len_below
+pub returns-in_default-30 : goal.returns-in_default-30
+returns-in_default-30 c = none_named c.args.name.now c.in_default.len_at_least c.in_default.len_below
