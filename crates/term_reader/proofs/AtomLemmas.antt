@@ -3,7 +3,7 @@ use Rattle.std.proofs.Common.{◌≡◌, ℕ, ℤ, ◌<◌, ◌^◌, inl, inr, l
 use Rattle.std.proofs.lemmas.Option.{slice_get_within}
 use Rattle.pair_pool.specs.Trees.{leaf}
 use Rattle.pair_pool.specs.Views.{PassView, Knows}
-use Rattle.sexpr.specs.declared.causes.Cause.TheVariants.{UnknownName}
+use Rattle.sexpr.specs.declared.causes.Cause.TheVariants.{UnknownName, SortMismatch}
 use Rattle.sexpr.specs.declared.causes.Refusal.{Refusal}
 use Rattle.sym_table.specs.Leaf as Leaf
 use Rattle.sym_table.specs.Table.{Table, IsLeaf, FindsOrAdds}
@@ -83,21 +83,21 @@ head_found s v k p found o head known is applies =
 -- a symbol of this meaning stands alone
 module _ (s : Table) (old new : TermsView) (x : Name) (p : Place) (sc : Script) (m : Meaning) (known : meaning_of p sc x.name ≡ Some m)
     (limited : p.settings.limit ≡ Some most_height) where
-  is_settled : term_from (symbol x) p sc ≡ settled (Some most_height) x.place (meaning_applied m []) sc
-  is_settled = known_symbol x m p sc known ∙ ap (λ (limit : Option ℕ). settled limit x.place (meaning_applied m []) sc) limited
+  is_settled : term_from (symbol x) p sc ≡ settled SortMismatch (Some most_height) x.place (meaning_applied m []) sc
+  is_settled = known_symbol x m p sc known ∙ ap (λ (limit : Option ℕ). settled SortMismatch limit x.place (meaning_applied m []) sc) limited
 
   pub symbol_settles : (place : ℕ) (made : Option Value) (result : Result Value ReadFault) → place ≡ x.place
       → Makes old (both s new) (meaning_applied m []) (Ok made)
-      → ((o : Option Typed) → IsMade (both s new) o (Ok made) → SettlesTerm (both s new) place o sc result)
+      → ((o : Option Typed) → IsMade (both s new) o (Ok made) → SettlesTerm (both s new) SortMismatch place o sc result)
       → ComesTo terms_read old (both s new) (IsReadAlone (both s new) sc) (term_from (symbol x) p sc) result
   symbol_settles place made result same makes settles =
       same_outcome is_settled
-      (made_settles s old new x.place (meaning_applied m []) sc made result makes
-      (λ is. subst (λ (n : ℕ). SettlesTerm (both s new) n (meaning_applied m []) sc result) same (settles (meaning_applied m []) is)))
+      (made_settles s old new SortMismatch x.place (meaning_applied m []) sc made result makes
+      (λ is. subst (λ (n : ℕ). SettlesTerm (both s new) SortMismatch n (meaning_applied m []) sc result) same (settles (meaning_applied m []) is)))
 
   pub symbol_fails : (f : ReadFault) → Makes old (both s new) (meaning_applied m []) (Err f)
       → ComesTo terms_read old (both s new) (IsReadAlone (both s new) sc) (term_from (symbol x) p sc) (Err f)
-  symbol_fails f makes = same_outcome is_settled (made_fails s old new x.place (meaning_applied m []) sc _ f makes)
+  symbol_fails f makes = same_outcome is_settled (made_fails s old new SortMismatch x.place (meaning_applied m []) sc _ f makes)
 
 pub symbol_unknown : (s : Table) (v : TermsView) (x : Name) (p : Place) (sc : Script) (r : Refusal) (place : ℕ) → meaning_of p sc x.name ≡ None
     → r ≡ record { cause = UnknownName; at = place } → place ≡ x.place

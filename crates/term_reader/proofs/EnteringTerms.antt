@@ -1,7 +1,7 @@
 -- How the reading of a term goes on from its top.
 use Rattle.std.proofs.Common.{◌≡◌, ◌≢◌, ℕ, ℤ, ◌+◌, ◌≤◌, ◌<◌, arith, refl, sym, ap, ◌∙◌, subst, List, [], ◌∷◌, length, take, drop, Option, Some, None, Result, Ok, Err, IfOk, IfErr}
 use Rattle.std.proofs.Math.Seq.{take-length, drop-length}
-use Rattle.sexpr.specs.declared.causes.Cause.TheVariants.{UnknownName, Repeated}
+use Rattle.sexpr.specs.declared.causes.Cause.TheVariants.{UnknownName, Repeated, SortMismatch}
 use Rattle.sexpr.specs.declared.causes.Refusal.{Refusal}
 use Rattle.sexpr.specs.Items.{place_of}
 use Rattle.sym_table.specs.Table.{Table}
@@ -115,7 +115,8 @@ module _ (items : ItemsView) (g : WholeReading) (s : Table) (v : TermsView) (r :
   number_comes : (place n : ℕ) (p : Place) (sc : Script) → p.settings.limit ≡ Some most_height
       → term_from (number place n) p sc ≡ done (record { tree = numeral n; sort = Sort.Int }) (with_term (numeral n) sc)
   unfolding term_from height
-  number_comes place n p sc limited = ap (λ (limit : Option ℕ). settled limit place (Some (record { tree = numeral n; sort = Sort.Int })) sc) limited
+  number_comes place n p sc limited = ap (λ (limit : Option ℕ). settled SortMismatch limit place
+      (Some (record { tree = numeral n; sort = Sort.Int })) sc) limited
 
   pub number_goes : (z : Table) (c : Value) (n : ℤ) → Top (Layer.Number n) → AddsNoSymbols s z → IsNumber z c n
       → Goes items g v (both z v) r (Ok (Turn.Use c (k + 1)))

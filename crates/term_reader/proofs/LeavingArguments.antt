@@ -1,7 +1,8 @@
 -- An argument of an application was read.
-use Rattle.std.proofs.Common.{◌<◌, ◌≡◌, ◌≢◌, ◌∙◌, ◌≤◌, arith, ap, sym, subst, refl, ℕ, List, [], ◌∷◌, ◌++◌, length, take, drop, Option, Result, Ok, Err, true, false}
+use Rattle.std.proofs.Common.{◌<◌, ◌≡◌, ◌≢◌, ◌∙◌, ◌≤◌, arith, ap, sym, subst, refl, ℕ, List, [], ◌∷◌, ◌++◌, length, take, drop, Option, None, Result, Ok, Err, true, false}
 use Rattle.std.proofs.lemmas.Bool.{eqb-true, eqb-false, not-true, not-false, false≢true}
 use Rattle.std.proofs.lemmas.List.{take-append-le, length-append}
+use Rattle.sexpr.specs.declared.causes.Cause.{Cause}
 use Rattle.sym_table.specs.Table.{Table}
 use Rattle.sym_table.proofs.Tables.{keeps_table}
 use Rattle.term_pool.specs.Views.{TermsView, KeepsTerms}
@@ -13,7 +14,7 @@ use Rattle.term_reader.specs.Leaving.{with_open, Spends, Leaves}
 use Rattle.term_reader.specs.OpenApplications.{wants_more}
 use Rattle.term_names.specs.InScope.{AreValuesLow}
 use Rattle.term_names.specs.Making.{Makes}
-use Rattle.problem_text.specs.Names.{Meaning, meaning_applied}
+use Rattle.problem_text.specs.Names.{Meaning, meaning_applied, refusal_of}
 use Rattle.term_reader.specs.Turns.{HasRead, IsAt, Goes}
 use Rattle.term_reader.specs.Resuming.{Waiting, arguments, resumed}
 use Rattle.problem_text.specs.TypedTerms.{Typed}
@@ -67,6 +68,12 @@ module _ (items : ItemsView) (g : WholeReading) (s : Table) (v : TermsView) (r :
       (m : Meaning) (ts : List Typed) → HeadMeans (both s v) r.names.known opened.head m → AreValues (both s v) (drop opened.from values) ts
       → Makes v (both s w) (meaning_applied m ts) made
 
+  -- the cause why it is none, where it is none
+  abbrev pub Causes : List Value → Option Value → Cause → Type 0
+  Causes values made cause =
+      (m : Meaning) (ts : List Typed) → HeadMeans (both s v) r.names.known opened.head m → AreValues (both s v) (drop opened.from values) ts
+      → made ≡ None → cause ≡ refusal_of m ts
+
   -- it was the last one
   arguments_whole : n ≡ opened.end → (w : TermsView) (made : Result (Option Value) ReadFault)
       → Applied w (pushed r c) made
@@ -77,14 +84,23 @@ module _ (items : ItemsView) (g : WholeReading) (s : Table) (v : TermsView) (r :
       record {
         script = h.script;
         expected = meaning_applied m (read ++ h.term ∷ []);
+        cause = refusal_of m (read ++ h.term ∷ []);
         waiting = rest;
-        comes = ap (λ (limit : Option ℕ). resumed rest (settled limit opened.place (meaning_applied m (read ++ h.term ∷ [])) h.script))
+        comes = ap (λ (limit : Option ℕ). resumed rest
+            (settled (refusal_of m (read ++ h.term ∷ [])) limit opened.place (meaning_applied m (read ++ h.term ∷ [])) h.script))
             (sym (limit_so h.place.settings r.replaces_lets h.stands.settings))
             ∙ sym (last_argument_read rest opened.place m read h.term h.place h.script)
             ∙ ap (λ (fs : Forms). resumed (arguments opened.place m read fs h.place ∷ rest) (done h.term h.script)) (sym none)
             ∙ ap (λ (ws : List Waiting). resumed ws (done h.term h.script)) (sym is) ∙ h.comes;
         makes = makes m _ here.applies (zip_pushed (IsValue (both s v)) opened.from r.values read c h.term here.within here.read_values h.is);
       }
+
+  -- the cause that is told is that of the definition
+  cause_here : (made : Option Value) (cause : Cause) → Causes (pushed r c) made cause → made ≡ None
+      → cause ≡ refusal_of h.frames.0 (h.frames.1 ++ h.term ∷ [])
+  cause_here made cause why none =
+      let (m, read, rest, is, here, outer) = h.frames in
+      why m _ here.applies (zip_pushed (IsValue (both s v)) opened.from r.values read c h.term here.within here.read_values h.is) none
 
   arguments_close : n ≡ opened.end → (w : TermsView) → KeepsTerms v w → (made : Result (Option Value) ReadFault)
       → Applied w (pushed r c) made
@@ -156,22 +172,26 @@ module _ (items : ItemsView) (g : WholeReading) (s : Table) (v : TermsView) (r :
   }
 
   pub arguments_refused : n ≡ opened.end → (w : TermsView) → (values : List Value) → values ≡ pushed r c → (made : Option Value)
-      → Applied w values (Ok made) → (fault : ReadFault)
-      → Settles opened.place made (Err fault) → (q : ReadingView)
+      → Applied w values (Ok made) → (cause : Cause) → Causes values made cause → (fault : ReadFault)
+      → Settles cause opened.place made (Err fault) → (q : ReadingView)
       → Leaves items g (both s v) (with_open r (Frame.Arguments opened)) c n (both s w) q (Err fault)
-  arguments_refused last w values are made makes fault settles q = record {
-    goes = unsettled_ends items g s v w opened.place made fault q (arguments_whole last w (Ok made) (rw are at makes)) settles;
+  unfolding arguments_whole
+  arguments_refused last w values are made makes cause why fault settles q = record {
+    goes = unsettled_ends items g s v w opened.place made fault q (arguments_whole last w (Ok made) (rw are at makes)) cause
+        (let k : Causes (pushed r c) made cause = rw are at why in cause_here made cause k) settles;
     spends = λ _. tt;
   }
 
   pub arguments_settled : n ≡ opened.end → (w : TermsView) → KeepsTerms v w → (values : List Value) → values ≡ pushed r c → (made : Option Value)
-      → Applied w values (Ok made) → (t : Value)
-      → Settles opened.place made (Ok t) → (kept : List Value) → kept ≡ take opened.from values
+      → Applied w values (Ok made) → (cause : Cause) → Causes values made cause → (t : Value)
+      → Settles cause opened.place made (Ok t) → (kept : List Value) → kept ≡ take opened.from values
       → Leaves items g (both s v) (with_open r (Frame.Arguments opened)) c n (both s w) (record r { values = kept }) (Ok (Turn.Use t opened.end))
-  arguments_settled last w keeps values are made makes t settles kept take_is = record {
+  unfolding arguments_whole arguments_close
+  arguments_settled last w keeps values are made makes cause why t settles kept take_is = record {
     goes = subst (λ (vs : List Value). Goes items g v (both s w) (record r { values = vs }) (Ok (Turn.Use t opened.end)))
         (sym (take_is ∙ ap (take opened.from) are))
-        (settled_goes_on items g s v w opened.place _ opened.end made t (arguments_close last w keeps (Ok made) (rw are at makes)) settles);
+        (settled_goes_on items g s v w opened.place _ opened.end made t (arguments_close last w keeps (Ok made) (rw are at makes)) cause
+        (let k : Causes (pushed r c) made cause = rw are at why in cause_here made cause k) settles);
     spends = arguments_closed_spend last t kept;
   }
 

@@ -8,6 +8,7 @@ use Rattle.term_reader.specs.Frames.{WholeReading}
 use Rattle.term_names.specs.InScope.{AreValuesBound}
 use Rattle.term_reader.specs.Leaving.{with_open, Leaves}
 use Rattle.term_names.specs.Making.{Makes}
+use Rattle.sexpr.specs.declared.causes.Cause.TheVariants.{SortMismatch}
 use Rattle.problem_text.specs.Names.{Bound, Place, place_inside, let_term}
 use Rattle.term_reader.specs.Turns.{HasRead}
 use Rattle.term_reader.specs.Resuming.{Waiting, resumed}
@@ -64,8 +65,9 @@ module _ (items : ItemsView) (g : WholeReading) (s : Table) (v : TermsView) (r :
       record {
         script = h.script;
         expected = Some (let_term outer bound h.term);
+        cause = SortMismatch;
         waiting = rest;
-        comes = ap (λ (limit : Option ℕ). resumed rest (settled limit opened.place (Some (let_term outer bound h.term)) h.script))
+        comes = ap (λ (limit : Option ℕ). resumed rest (settled SortMismatch limit opened.place (Some (let_term outer bound h.term)) h.script))
             (sym (limit_so outer.settings r.replaces_lets (outer_settings outer bound here.same_place)))
             ∙ sym (body_read rest opened.place bound outer h.term h.script) ∙ ap (λ (ws : List Waiting). resumed ws (done h.term h.script)) (sym is) ∙ h.comes;
         makes = makes outer bound h.term (rw are here.bound_here) h.is (replaces_so _ r.replaces_lets (outer_settings outer bound here.same_place));
@@ -96,17 +98,19 @@ module _ (items : ItemsView) (g : WholeReading) (s : Table) (v : TermsView) (r :
   body_fault w fault made q = record { goes = unmade_ends items g s v w opened.place fault q (body_whole w (Err fault) made); spends = λ _. tt }
 
   pub body_refused : (w : TermsView) (made : Option Value) → Closed w (Ok made) → (fault : ReadFault)
-      → Settles opened.place made (Err fault) → (q : ReadingView)
+      → Settles SortMismatch opened.place made (Err fault) → (q : ReadingView)
       → Leaves items g (both s v) (with_open r (Frame.Body opened)) c n (both s w) q (Err fault)
+  unfolding body_whole
   body_refused w made closed fault settles q = record {
-    goes = unsettled_ends items g s v w opened.place made fault q (body_whole w (Ok made) closed) settles;
+    goes = unsettled_ends items g s v w opened.place made fault q (body_whole w (Ok made) closed) SortMismatch (λ none. refl) settles;
     spends = λ _. tt;
   }
 
   pub body_settled : (q : ReadingView) → Without q → (w : TermsView) → KeepsTerms v w → (made : Option Value) → Closed w (Ok made) → (t : Value)
-      → Settles opened.place made (Ok t)
+      → Settles SortMismatch opened.place made (Ok t)
       → Leaves items g (both s v) (with_open r (Frame.Body opened)) c n (both s w) (without q) (Ok (Turn.Use t n))
+  unfolding body_whole body_closes
   body_settled q is w keeps made closed t settles = record {
-    goes = settled_goes_on items g s v w opened.place (without q) n made t (body_closes q is w keeps (Ok made) closed) settles;
+    goes = settled_goes_on items g s v w opened.place (without q) n made t (body_closes q is w keeps (Ok made) closed) SortMismatch (λ none. refl) settles;
     spends = λ within. record { inside = within; few = omega arith; progress = omega arith };
   }

@@ -1,6 +1,6 @@
 -- How a reading of a term goes on.
 use Rattle.std.proofs.Common.{◌≡◌, refl, sym, ap, ◌∙◌, ℕ, Bool, true, false, ◌||◌, cond, List, [], ◌∷◌, ◌++◌, append_assoc, Result, Ok, Err, Some, None, Option}
-use Rattle.sexpr.specs.declared.causes.Cause.TheVariants.{UnknownName, Repeated}
+use Rattle.sexpr.specs.declared.causes.Cause.TheVariants.{UnknownName, Repeated, SortMismatch}
 use Rattle.sexpr.specs.declared.causes.Refusal.{Refusal}
 use Rattle.problem_text.specs.Words.{is_among, is_built_in}
 use Rattle.text_items.specs.ItemShapes.{Name}
@@ -8,7 +8,7 @@ use Rattle.problem_text.specs.Forms.{Form, symbol, application, let_form, annota
 use Rattle.problem_text.specs.TypedTerms.{Typed}
 use Rattle.problem_text.specs.Outcomes.{Outcome, done, refuse, going_on, and_then}
 use Rattle.problem_text.specs.Scripts.{Script, with_let_name}
-use Rattle.problem_text.specs.Names.{Bound, Place, Meaning, meaning_of, meaning_applied, place_inside, let_term}
+use Rattle.problem_text.specs.Names.{Bound, Place, Meaning, meaning_of, meaning_applied, refusal_of, place_inside, let_term}
 use Rattle.problem_text.specs.Terms.{settled, with_names, with_meaning, term_from, terms_from, bounds_from}
 use Rattle.term_reader.specs.Resuming.{Waiting, arguments, bindings, body_of, naming, bound_to, body_from, after, resumed}
 
@@ -34,7 +34,7 @@ refused_whole (w ∷ ws) r s = refused_whole ws r s
 
 -- The arguments of an application: the first one, the next one, and the last one.
 abbrev pub applies : Option ℕ → ℕ → Meaning → List Typed → List Typed → Script → Outcome Script Typed
-applies limit place m read ts last = settled limit place (meaning_applied m (read ++ ts)) last
+applies limit place m read ts last = settled (refusal_of m (read ++ ts)) limit place (meaning_applied m (read ++ ts)) last
 
 next_argument : (ws : List Waiting) (place : ℕ) (m : Meaning) (read : List Typed) (f : Form) (fs : Forms) (p : Place) (s : Script)
     → resumed ws (and_then (terms_from (form f fs) p s) (applies p.settings.limit place m read)) ≡ resumed (arguments place m read fs p ∷ ws) (term_from f p s)
@@ -46,7 +46,7 @@ next_argument ws place m read f fs p s =
     (λ t last. joined (terms_from fs p last) (λ ts end. done (t ∷ ts) end) (applies p.settings.limit place m read)))
 
 abbrev headed : ℕ → Name → Forms → Place → Script → Option Meaning → Outcome Script Typed
-headed place head fs p s o = with_meaning head.place o s (λ m. and_then (terms_from fs p s) (λ ts last. settled p.settings.limit place (meaning_applied m ts) last))
+headed place head fs p s o = with_meaning head.place o s (λ m. and_then (terms_from fs p s) (λ ts last. settled (refusal_of m ts) p.settings.limit place (meaning_applied m ts) last))
 
 application_begins : (place : ℕ) (head : Name) (fs : Forms) (p : Place) (s : Script) → term_from (application place head fs) p s ≡ headed place head fs p s (meaning_of p s head.name)
 unfolding term_from
@@ -61,27 +61,28 @@ first_argument ws place head m f fs p s known =
 pub unknown_head : (place : ℕ) (head : Name) (fs : Forms) (p : Place) (s : Script)
     → meaning_of p s head.name ≡ None → term_from (application place head fs) p s ≡ refuse UnknownName head.place s
 unfolding term_from
-unknown_head place head fs p s none = ap (λ o. with_meaning head.place o s (λ n. and_then (terms_from fs p s) (λ ts last. settled p.settings.limit place (meaning_applied n ts) last))) none
+unknown_head place head fs p s none = ap (λ o. with_meaning head.place o s (λ n. and_then (terms_from fs p s) (λ ts last. settled (refusal_of n ts) p.settings.limit place (meaning_applied n ts) last))) none
 
 pub next_argument_read : (ws : List Waiting) (place : ℕ) (m : Meaning) (read : List Typed) (t : Typed) (f : Form) (fs : Forms) (p : Place) (s : Script)
     → resumed (arguments place m read (form f fs) p ∷ ws) (done t s) ≡ resumed (arguments place m (read ++ t ∷ []) fs p ∷ ws) (term_from f p s)
 next_argument_read ws place m read t f fs p s =
-    ap (resumed ws) (same_next (terms_from (form f fs) p s) (λ ts last. applies p.settings.limit place m read (t ∷ ts) last) (applies p.settings.limit place m (read ++ t ∷ [])) (λ ts last. ap (λ us. settled p.settings.limit place (meaning_applied m us) last) (sym (append_assoc read (t ∷ []) ts))))
+    ap (resumed ws) (same_next (terms_from (form f fs) p s) (λ ts last. applies p.settings.limit place m read (t ∷ ts) last) (applies p.settings.limit place m (read ++ t ∷ [])) (λ ts last. ap (λ us. settled (refusal_of m us) p.settings.limit place (meaning_applied m us) last) (sym (append_assoc read (t ∷ []) ts))))
     ∙ next_argument ws place m (read ++ t ∷ []) f fs p s
 
 pub last_argument_read : (ws : List Waiting) (place : ℕ) (m : Meaning) (read : List Typed) (t : Typed) (p : Place) (s : Script)
-    → resumed (arguments place m read no_forms p ∷ ws) (done t s) ≡ resumed ws (settled p.settings.limit place (meaning_applied m (read ++ t ∷ [])) s)
+    → resumed (arguments place m read no_forms p ∷ ws) (done t s)
+    ≡ resumed ws (settled (refusal_of m (read ++ t ∷ [])) p.settings.limit place (meaning_applied m (read ++ t ∷ [])) s)
 unfolding terms_from
 last_argument_read ws place m read t p s = refl
 
 -- A symbol alone.
-pub known_symbol : (n : Name) (m : Meaning) (p : Place) (s : Script) → meaning_of p s n.name ≡ Some m → term_from (symbol n) p s ≡ settled p.settings.limit n.place (meaning_applied m []) s
+pub known_symbol : (n : Name) (m : Meaning) (p : Place) (s : Script) → meaning_of p s n.name ≡ Some m → term_from (symbol n) p s ≡ settled SortMismatch p.settings.limit n.place (meaning_applied m []) s
 unfolding term_from
-known_symbol n m p s known = ap (λ o. with_meaning n.place o s (λ k. settled p.settings.limit n.place (meaning_applied k []) s)) known
+known_symbol n m p s known = ap (λ o. with_meaning n.place o s (λ k. settled SortMismatch p.settings.limit n.place (meaning_applied k []) s)) known
 
 pub unknown_symbol : (n : Name) (p : Place) (s : Script) → meaning_of p s n.name ≡ None → term_from (symbol n) p s ≡ refuse UnknownName n.place s
 unfolding term_from
-unknown_symbol n p s none = ap (λ o. with_meaning n.place o s (λ k. settled p.settings.limit n.place (meaning_applied k []) s)) none
+unknown_symbol n p s none = ap (λ o. with_meaning n.place o s (λ k. settled SortMismatch p.settings.limit n.place (meaning_applied k []) s)) none
 
 -- The bindings of a let, the first or the next, whose variable is no built-in word and is not bound twice.
 abbrev pub is_refused_name : List (List ℕ) → Name → Bool
@@ -166,7 +167,7 @@ unfolding bounds_from
 last_binding_read ws place read m earlier body p t s = refl
 
 pub body_read : (ws : List Waiting) (place : ℕ) (bound : List Bound) (p : Place) (t : Typed) (s : Script)
-    → resumed (body_of place bound p ∷ ws) (done t s) ≡ resumed ws (settled p.settings.limit place (Some (let_term p bound t)) s)
+    → resumed (body_of place bound p ∷ ws) (done t s) ≡ resumed ws (settled SortMismatch p.settings.limit place (Some (let_term p bound t)) s)
 body_read ws place bound p t s = refl
 
 -- An annotated term.

@@ -1,5 +1,6 @@
 -- A form whose terms are all read: the term that is made of it is settled, or the reading ends.
-use Rattle.std.proofs.Common.{◌≡◌, ◌∙◌, refl, ap, sym, subst, ℕ, List, ◌++◌, ◌∷◌, [], Option, Some, Result, Ok, Err}
+use Rattle.std.proofs.Common.{◌≡◌, ◌∙◌, refl, ap, sym, subst, ℕ, List, ◌++◌, ◌∷◌, [], Option, Some, None, Result, Ok, Err}
+use Rattle.sexpr.specs.declared.causes.Cause.{Cause}
 use Rattle.sexpr.specs.declared.causes.Refusal.{Refusal}
 use Rattle.sym_table.specs.Table.{Table}
 use Rattle.term_model.specs.Terms.{Term}
@@ -44,24 +45,25 @@ pub nothing_made : (items : ItemsView) (g : WholeReading) (s : Table) (v : Terms
 nothing_made items g s v r result answer = record { answer = answer; placed = places_none s v.pass v.pass (IsReadBy terms_read g.whole) refl }
 
 -- a term that was made, or not, and what comes of it
-module _ (s : Table) (old new : TermsView) (place : ℕ) (o : Option Typed) (sc : Script) where
+module _ (s : Table) (old new : TermsView) (cause : Cause) (place : ℕ) (o : Option Typed) (sc : Script) where
   abbrev Settled : Outcome Script Typed
-  Settled = settled (Some most_height) place o sc
+  Settled = settled cause (Some most_height) place o sc
 
   expected_read : (t : Term) → IsExpected o t → IsReadBy terms_read Settled t
   expected_read t (d, is, same) =
-      subst (λ (e : Option Typed). IsReadBy terms_read (settled (Some most_height) place e sc) t) (sym is)
-      (subst (λ (u : Term). IsReadBy terms_read (settled (Some most_height) place (Some d) sc) u) same (settled_is_read [] (Some most_height) place d sc))
+      subst (λ (e : Option Typed). IsReadBy terms_read (settled cause (Some most_height) place e sc) t) (sym is)
+      (subst (λ (u : Term). IsReadBy terms_read (settled cause (Some most_height) place (Some d) sc) u) same
+      (settled_is_read [] cause (Some most_height) place d sc))
 
   pub made_settles : (made : Option Value) (result : Result Value ReadFault) → Makes old (both s new) o (Ok made)
-      → (IsMade (both s new) o (Ok made) → SettlesTerm (both s new) place o sc result)
+      → (IsMade (both s new) o (Ok made) → SettlesTerm (both s new) cause place o sc result)
       → ComesTo terms_read old (both s new) (IsReadAlone (both s new) sc) Settled result
   made_settles made result makes settles = record {
     answer = go result (settles makes.answer);
     placed = places_more s old.pass new.pass (IsExpected o) (IsReadBy terms_read Settled) expected_read makes.placed;
   }
     where
-      go : (result : Result Value ReadFault) → SettlesTerm (both s new) place o sc result
+      go : (result : Result Value ReadFault) → SettlesTerm (both s new) cause place o sc result
           → IsAnswer terms_read (both s new) (Gives (IsReadAlone (both s new) sc) Settled) Settled result
       go (Ok c) (t, is, comes, value, low) =
           record { value = t; state = with_term t.tree sc; is = comes; after = record { same = refl; is = value; low = low } }
@@ -82,16 +84,32 @@ module _ (s : Table) (old new : TermsView) (place : ℕ) (o : Option Typed) (sc 
       go ReadFault.Memory h = tt
 
 -- what was made is settled so
-abbrev pub Settles : ℕ → Option Value → Result Value ReadFault → Type 0
-Settles place made result =
-    (s : Table) (v : TermsView) (o : Option Typed) (sc : Script) → IsMade (both s v) o (Ok made) → SettlesTerm (both s v) place o sc result
+abbrev pub Settles : Cause → ℕ → Option Value → Result Value ReadFault → Type 0
+Settles cause place made result =
+    (s : Table) (v : TermsView) (o : Option Typed) (sc : Script) → IsMade (both s v) o (Ok made) → SettlesTerm (both s v) cause place o sc result
+
+-- Where a term was made, the cause why none was is not asked.
+settles_so : (s : Table) (v : TermsView) (cause other : Cause) (place : ℕ) (made : Option Value) (o : Option Typed) (sc : Script)
+    (result : Result Value ReadFault) → (made ≡ None → cause ≡ other) → IsMade (both s v) o (Ok made)
+    → SettlesTerm (both s v) cause place o sc result → SettlesTerm (both s v) other place o sc result
+settles_so s v cause other place None o sc result same is h = subst (λ (x : Cause). SettlesTerm (both s v) x place o sc result) (same refl) h
+settles_so s v cause other place (Some c) o sc result same (t, e, value) h =
+    subst (λ (p : Option Typed). SettlesTerm (both s v) other place p sc result) (sym e)
+    (go result (subst (λ (p : Option Typed). SettlesTerm (both s v) cause place p sc result) e h))
+  where
+    go : (result : Result Value ReadFault) → SettlesTerm (both s v) cause place (Some t) sc result → SettlesTerm (both s v) other place (Some t) sc result
+    go (Ok d) k = k
+    go (Err (ReadFault.Text r)) k = k
+    go (Err ReadFault.PoolFull) k = k
+    go (Err ReadFault.Memory) k = k
 
 -- What is made of the innermost form, which begins at this place, is `expected`, for what waits around it.
 pub record IsWhole (g : WholeReading) (s : Table) (v w : TermsView) (place : ℕ) (made : Result (Option Value) ReadFault) : Type 0 where
   pub script : Script
   pub expected : Option Typed
+  pub cause : Cause
   pub waiting : List Waiting
-  pub comes : resumed waiting (settled (Some most_height) place expected script) ≡ g.whole
+  pub comes : resumed waiting (settled cause (Some most_height) place expected script) ≡ g.whole
   pub makes : Makes v (both s w) expected made
 
 -- and the reader is at what waits
@@ -104,25 +122,27 @@ pub record Closes (items : ItemsView) (g : WholeReading) (s : Table) (v w : Term
 
 module _ (items : ItemsView) (g : WholeReading) (s : Table) (v w : TermsView) (place : ℕ) where
   part : (made : Result (Option Value) ReadFault) (h : IsWhole g s v w place made)
-      → IsPartOf terms_read (settled (Some most_height) place h.expected h.script) g.whole
-  part made h = part_resumed h.waiting (settled (Some most_height) place h.expected h.script) g.whole h.comes
+      → IsPartOf terms_read (settled h.cause (Some most_height) place h.expected h.script) g.whole
+  part made h = part_resumed h.waiting (settled h.cause (Some most_height) place h.expected h.script) g.whole h.comes
 
   -- it is not made
   pub unmade_ends : (fault : ReadFault) (q : ReadingView) → IsWhole g s v w place (Err fault) → Goes items g v (both s w) q (Err fault)
-  unmade_ends fault q h = fails g.whole (part (Err fault) h) (made_fails s v w place h.expected h.script (IsTurn items g (both s w) q) fault h.makes)
+  unmade_ends fault q h = fails g.whole (part (Err fault) h) (made_fails s v w h.cause place h.expected h.script (IsTurn items g (both s w) q) fault h.makes)
 
   -- it is not settled
-  pub unsettled_ends : (made : Option Value) (fault : ReadFault) (q : ReadingView) → IsWhole g s v w place (Ok made)
-      → Settles place made (Err fault) → Goes items g v (both s w) q (Err fault)
-  unsettled_ends made fault q h settles =
-      fails g.whole (part (Ok made) h) (made_settles s v w place h.expected h.script made (Err fault) h.makes (settles s w h.expected h.script))
+  pub unsettled_ends : (made : Option Value) (fault : ReadFault) (q : ReadingView) (h : IsWhole g s v w place (Ok made)) (cause : Cause)
+      → (made ≡ None → cause ≡ h.cause) → Settles cause place made (Err fault) → Goes items g v (both s w) q (Err fault)
+  unsettled_ends made fault q h cause same settles =
+      fails g.whole (part (Ok made) h) (made_settles s v w h.cause place h.expected h.script made (Err fault) h.makes
+      (λ is. settles_so s w cause h.cause place made h.expected h.script (Err fault) same is (settles s w h.expected h.script is)))
 
   -- it is the next term that was read
-  pub settled_goes_on : (r : ReadingView) (n : ℕ) (made : Option Value) (c : Value) → Closes items g s v w r place n (Ok made)
-      → Settles place made (Ok c) → Goes items g v (both s w) r (Ok (Turn.Use c n))
-  settled_goes_on r n made c h settles =
+  pub settled_goes_on : (r : ReadingView) (n : ℕ) (made : Option Value) (c : Value) (h : Closes items g s v w r place n (Ok made)) (cause : Cause)
+      → (made ≡ None → cause ≡ h.whole.cause) → Settles cause place made (Ok c) → Goes items g v (both s w) r (Ok (Turn.Use c n))
+  settled_goes_on r n made c h cause same settles =
       let x = h.whole in
-      let read = made_settles s v w place x.expected x.script made (Ok c) x.makes (settles s w x.expected x.script) in
+      let read = made_settles s v w x.cause place x.expected x.script made (Ok c) x.makes
+      (λ is. settles_so s w cause x.cause place made x.expected x.script (Ok c) same is (settles s w x.expected x.script is)) in
       let t = read.answer.value in
       answers_whole g.whole (part (Ok made) x) read
       (record {

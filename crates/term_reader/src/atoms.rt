@@ -79,7 +79,7 @@ pub(crate) fn symbol_value(
         return Err(ReadFault::Text(refused(Cause::UnknownName, place)));
     }
     let made = use_alone(&tables, terms, found)?;
-    settle(place, made)
+    settle(Cause::SortMismatch, place, made)
 }
 
 /// What is applied where the symbol at node `k` is the head of an application, and None where its name is unknown.

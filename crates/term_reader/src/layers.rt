@@ -241,8 +241,6 @@ fn is_left_out(name: &[u8]) -> bool
             | b"match"
             | b"_"
             | b"as"
-            | b"div"
-            | b"mod"
             | b"abs"
             | b"/"
             | b"to_real"

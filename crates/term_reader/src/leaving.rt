@@ -1,6 +1,11 @@
 //! What is done with a term that was read.
-ghost use Rattle.std.specs.Prelude.{◌≡◌, ◌≤◌, ◌<◌, ◌^◌, length, IfOk, OnErr, OnOk};
-ghost use Rattle.term_pool.specs.Views.{KeepsTerms};
+ghost use Rattle.std.specs.Prelude.{◌≡◌, ◌≤◌, ◌<◌, ◌^◌, List, length, drop, None, IfOk, OnErr, OnOk};
+ghost use Rattle.term_pool.specs.Views.{TermsView, KeepsTerms};
+ghost use Rattle.problem_text.specs.Names.{Meaning, refusal_of};
+ghost use Rattle.problem_text.specs.TypedTerms.{Typed};
+ghost use Rattle.term_expansion.specs.Values.{AreValues};
+ghost use Rattle.term_names.specs.Heads.{HeadMeans};
+ghost use Rattle.term_names.specs.Scope.{known_in};
 ghost use Rattle.term_reader.specs.Frames.{WholeReading};
 ghost use Rattle.term_reader.specs.Leaving.{with_open, Leaves};
 ghost use Rattle.term_reader.specs.Turns.{HasRead, Goes};
@@ -19,12 +24,15 @@ use crate::leaving_lets::{leave_binding, leave_body};
 use crate::naming::give_names;
 use crate::reader::{Reader, TermRead, Turn};
 use crate::settling::settle;
+use sexpr::Cause;
 use sym_table::Symbols;
 use term_expansion::values::Value;
-use term_names::applying::apply;
+use term_names::applying::{apply, why_not_applied};
 use term_names::faults::ReadFault;
+use term_names::heads::Head;
 use term_names::names::NameTables;
 use term_names::settings::ReadSettings;
+use term_names::stacks::Values;
 use term_pool::Terms;
 use text_items::nodes::ItemText;
 
@@ -103,9 +111,32 @@ fn leave_arguments(
         names: &reader.names,
     };
     let made = apply(&tables, terms, form.head, &reader.values, form.from)?;
+    let cause = cause_of(&tables, &made, form.head, &reader.values, form.from);
     reader.values.truncate(form.from);
-    let term = settle(form.place, made)?;
+    let term = settle(cause, form.place, made)?;
     Ok(Turn::Use(term, form.end))
+}
+
+/// The cause why what is applied to the values from place `from` on is no term, where it is none. It is asked for only there.
+fn cause_of(
+    tables: &NameTables<'_, '_>,
+    made: &Option<Value>,
+    head: Head,
+    values: &Values,
+    from: usize,
+) -> Cause
+    requires some { from < length values.now }
+    requires head { (v : TermsView) × (m : Meaning) × (ts : List Typed) ×
+        HeadMeans (both tables.now.symbols.now v) (known_in tables.now.settings.now tables.now.names.now) head m ×
+        AreValues (both tables.now.symbols.now v) (drop from values.now) ts }
+    ensures { (v : TermsView) (m : Meaning) (ts : List Typed) →
+        HeadMeans (both tables.now.symbols.now v) (known_in tables.now.settings.now tables.now.names.now) head m →
+        AreValues (both tables.now.symbols.now v) (drop from values.now) ts → made.now ≡ None → result ≡ refusal_of m ts }
+{
+    match made {
+        Some(_) => Cause::SortMismatch,
+        None => why_not_applied(tables, head, values, from),
+    }
 }
 
 /// The term of an annotation was read, and gets its names.

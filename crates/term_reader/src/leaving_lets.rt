@@ -152,6 +152,6 @@ pub(crate) fn leave_body(
     unbind(&mut reader.names, reader.leaves.len() - leaves);
     reader.values.truncate(from);
     reader.leaves.truncate(leaves);
-    let term = settle(place, made)?;
+    let term = settle(Cause::SortMismatch, place, made)?;
     Ok(Turn::Use(term, next))
 }

@@ -16,12 +16,12 @@ use text_items::refusals::refused;
 /// The greatest height of a term.
 const MOST_HEIGHT: u64 = 2000;
 
-/// The term that begins at `place`, where its sorts allow one and it is not too high.
-pub(crate) fn settle(place: u64, made: Option<Value>) -> Result<Value, ReadFault>
-    ensures { (s : Table) (v : TermsView) (o : Option Typed) (sc : Script) → IsMade (both s v) o (Ok made) → SettlesTerm (both s v) place o sc result }
+/// The term that begins at `place`, where one was made and it is not too high. `cause` is why none was made.
+pub(crate) fn settle(cause: Cause, place: u64, made: Option<Value>) -> Result<Value, ReadFault>
+    ensures { (s : Table) (v : TermsView) (o : Option Typed) (sc : Script) → IsMade (both s v) o (Ok made) → SettlesTerm (both s v) cause place o sc result }
 {
     match made {
-        None => Err(ReadFault::Text(refused(Cause::SortMismatch, place))),
+        None => Err(ReadFault::Text(refused(cause, place))),
         Some(value) if value.height > MOST_HEIGHT => {
             Err(ReadFault::Text(refused(Cause::TooHigh, place)))
         }

@@ -11,3 +11,9 @@ parameters-preserved c = record {
   symbols = adds_then _ _ _ c.parameters.invariant.symbols c.add_parameter.ensures.symbols;
   few = omega (arith, c.parameters.invariant.few, c.add_parameter.ensures.few);
 }
+
+pub returns-in_err-leaf-clause-symbols : goal.returns-in_err-leaf-clause-symbols
+returns-in_err-leaf-clause-symbols c = adds_then _ _ _ c.parameters.invariant.symbols c.add_parameter.ensures.symbols
+
+pub returns-in_err-push-clause-symbols : goal.returns-in_err-push-clause-symbols
+returns-in_err-push-clause-symbols c = adds_then _ _ _ c.parameters.invariant.symbols c.add_parameter.ensures.symbols
