@@ -1,6 +1,6 @@
 mod Seats
-mod Places
-mod Lookup
+pub mod Places
+pub mod Lookup
 mod AskedValues
 mod Refuting
 mod Justified

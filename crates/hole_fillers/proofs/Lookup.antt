@@ -1,4 +1,4 @@
--- Private. The tables of functions that have names of a question.
+-- Cited by crates above. The tables of functions that have names of a question.
 use Rattle.std.proofs.Common.{◌≡◌, refl, sym, ap, ◌∙◌, arith, ℕ, ◌+◌, ◌<◌, ◌^◌, Bool, true, false, not, ◌||◌, subst, if◌then◌else◌, List, [], ◌∷◌, length}
 use Rattle.std.proofs.Common.{map, drop, decimal}
 use Rattle.std.specs.List.{list_any, AllByRecursion}
@@ -21,7 +21,7 @@ pub variables_tell : Tells var_eq
 variables_tell = record { is = λ x y e. (var_eq_decides x y).0 e; alike = λ x. (var_eq_decides x x).1 refl }
 
 -- a place is no greater than the length
-place_within : {X : Type 0} (same : X → X → Bool) (x : X) (xs : List X) → place_among same x xs < length xs + 1
+pub place_within : {X : Type 0} (same : X → X → Bool) (x : X) (xs : List X) → place_among same x xs < length xs + 1
 place_within same x [] = omega arith
 place_within same x (y ∷ xs) = go (same x y) (place_within same x xs)
   where
@@ -38,14 +38,18 @@ one_number c j k few many e =
     let same : j + 1 ≡ k + 1 = sym first.value ∙ ap numeral_value tails ∙ second.value in
     omega (arith, same)
 
+pub one_named :
+    (n : Naming) → length n.functions < 2 ^ 32 → (f g : Fun) → Has fun_eq n.functions f → Has fun_eq n.functions g →
+    (asked_function n f).name ≡ (asked_function n g).name → f ≡ g
+one_named n few f g h k e =
+    one_place fun_eq functions_tell f g n.functions h k
+    (one_number 102 (place_among fun_eq f n.functions) (place_among fun_eq g n.functions)
+    (let w = place_within fun_eq f n.functions in omega (arith, few, w)) (let w = place_within fun_eq g n.functions in omega (arith, few, w)) e)
+
 pub one_function :
     (n : Naming) → length n.functions < 2 ^ 32 → (f g : Fun) → Has fun_eq n.functions f → Has fun_eq n.functions g →
     asked_function n f ≡ asked_function n g → f ≡ g
-one_function n few f g h k e =
-    one_place fun_eq functions_tell f g n.functions h k
-    (one_number 102 (place_among fun_eq f n.functions) (place_among fun_eq g n.functions)
-    (let w = place_within fun_eq f n.functions in omega (arith, few, w)) (let w = place_within fun_eq g n.functions in omega (arith, few, w))
-    (ap (λ q. q.name) e))
+one_function n few f g h k e = one_named n few f g h k (ap (λ q. q.name) e)
 
 pub one_variable :
     (n : Naming) → length n.variables < 2 ^ 32 → (x y : Var) → Has var_eq n.variables x → Has var_eq n.variables y →

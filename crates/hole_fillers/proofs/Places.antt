@@ -1,4 +1,4 @@
--- Private. Places in a list of names, and what is looked up by name.
+-- Cited by crates above. Places in a list of names, and what is looked up by name.
 use Rattle.std.proofs.Common.{◌≡◌, refl, sym, ap, ◌∙◌, arith, ℕ, suc, ◌+◌, Bool, true, false, ◌||◌, if◌then◌else◌, List, [], ◌∷◌, ◌++◌, slice_get, Some}
 use Rattle.std.specs.List.{list_any, AllByRecursion}
 use Rattle.hole_fillers.specs.Questions.{firsts_behind, place_among}

@@ -10,3 +10,5 @@ mod PieceTexts
 mod Free
 mod Lists
 mod Written
+mod DeclarationLists
+mod DeclarationTexts

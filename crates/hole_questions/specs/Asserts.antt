@@ -1,5 +1,6 @@
--- Public. The assert lines of a question, as they are written.
-use Rattle.std.specs.Prelude.{◌≡◌, ℕ, nat_eq, List, [], map, flat_map}
+-- Public. A question, and its assert lines, as they are written.
+use Rattle.std.specs.Prelude.{◌≡◌, ℕ, nat_eq, List, [], map, flat_map, Option, Some, None, Vec}
+use Rattle.std.specs.declared.alloc.Global.{Global}
 use Rattle.std.specs.List.{list_any, AllZip}
 use Rattle.sexpr.specs.Printed.{printed_lines}
 use Rattle.sym_table.specs.Table.{Table, IsLeaf}
@@ -21,3 +22,13 @@ pub record IsWritten (s : Table) (w : Writer) (asserted : List Term) : Type 0 wh
   pub variables : AllZip (λ k x. IsLeaf s k (variable_leaf x)) w.variables.keys (naming_of asserted).variables
   pub free :
       (k : ℕ) (x : Var) → IsLeaf s k (variable_leaf x) → list_any (nat_eq k) w.free.keys ≡ list_any (var_eq x) (flat_map free_variables asserted)
+
+-- these assert lines are of some question
+pub record IsWrittenForSome (s : Table) (w : Writer) : Type 0 where
+  pub asserted : List Term
+  pub written : IsWritten s w asserted
+
+-- the bytes of a text, where there is one
+abbrev pub text_bytes : Option (Vec ℕ Global) → Option (List ℕ)
+text_bytes None = None
+text_bytes (Some text) = Some text.items

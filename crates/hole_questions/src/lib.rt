@@ -1,13 +1,17 @@
-//! The assert lines of questions about holes, with the names that are given in them.
+//! Questions about holes: their texts.
 //!
-//! - `asserts`: the lines. `walk`: a term, piece by piece. `writer`: the text, with its names.
+//! - `questions`: a question. `declarations`: what stands in it before the assert lines.
+//! - `asserts`: these lines. `walk`: a term, piece by piece. `writer`: the text, with its names.
 #![tactic(auto)]
 
 mod asserts;
+mod declarations;
+mod questions;
 mod walk;
 mod writer;
 
 pub use asserts::assert_lines;
+pub use questions::question;
 pub use writer::Writer;
 
 /// The most bytes of a question's text.

@@ -50,7 +50,7 @@ fn push_variable(text: &mut Vec<u8>, place: usize) -> Result<(), Memory>
 }
 
 /// The place of a leaf, where it is found or added.
-fn place(keys: &mut IndexSet<u32>, leaf: u32) -> Result<usize, Memory>
+pub(crate) fn place(keys: &mut IndexSet<u32>, leaf: u32) -> Result<usize, Memory>
     ensures keys { OnOk result (keys.new.keys ≡ added nat_eq keys.old.keys leaf) }
     ensures place { IfOk result (λ k. k ≡ place_among nat_eq leaf keys.old.keys) }
     ensures few { IfOk result (λ k. k + 1 < 2 ^ 64) }

@@ -1,0 +1,5 @@
+use Rattle.question_texts.proofs.ReadBack.{read_back}
+use Rattle.question_texts.proofs.laws.question_texts_are_read_back.Goals as goal
+
+pub returns : goal.returns
+returns c = λ asserted script formulas short stands. read_back asserted short formulas script stands
