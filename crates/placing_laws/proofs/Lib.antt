@@ -1,0 +1,13 @@
+pub mod OneTrees
+pub mod AtMost
+pub mod PairCells
+pub mod StageCells
+pub mod FormedCells
+pub mod Places
+pub mod CommandPairs
+pub mod CountedCells
+pub mod OwnCells
+pub mod MatchedPairs
+pub mod PutInPairs
+pub mod CommandCells
+pub mod PlacedCells
