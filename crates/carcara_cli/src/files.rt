@@ -14,13 +14,13 @@ use std::alloc::Global;
 
 /// The bytes of the two files.
 #[derive(Drop)]
-pub(crate) struct Files {
-    pub(crate) problem: Vec<u8>,
-    pub(crate) proof: Vec<u8>,
+pub struct Files {
+    pub problem: Vec<u8>,
+    pub proof: Vec<u8>,
 }
 
 /// Reads the problem's file whole, and then the proof's.
-pub(crate) fn read_both<F: Folder>(
+pub fn read_both<F: Folder>(
     alloc: Global,
     folder: &mut F,
     asked: &Request<'_>,

@@ -14,4 +14,7 @@ pub mod laws;
 mod reporting;
 mod top;
 
+pub use answer::Answer;
+pub use files::{Files, read_both};
+pub use reporting::{report, report_unread};
 pub use top::{carcara, carcara_within};

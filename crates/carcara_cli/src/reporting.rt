@@ -22,7 +22,7 @@ use judged_texts::status_of_judgement;
 use std::alloc::Global;
 
 /// Prints an answer, and says the status with which the program ends.
-pub(crate) fn report<S: Sink>(alloc: Global, answer: &Answer, out: &mut S) -> u8
+pub fn report<S: Sink>(alloc: Global, answer: &Answer, out: &mut S) -> u8
     ensures whole { result ≢ 6 → result ≢ 7 → (result ≡ spec.status_of answer.now) × Appends (S.written out.old) (S.written out.new) (spec.text_of answer.now) }
     ensures prefix { (result ≡ 6) ⊎ (result ≡ 7) → AppendsPrefix (S.written out.old) (S.written out.new) (spec.text_of answer.now) }
     ensures failed { result ≡ 6 → HasRisen (S.faults out.old) (S.faults out.new) }
@@ -55,7 +55,7 @@ pub(crate) fn report_summary<S: Sink>(alloc: Global, summary: &Summary, out: &mu
 }
 
 /// Prints the answer where a file was not read.
-pub(crate) fn report_unread<S: Sink>(alloc: Global, stop: ReadStop, out: &mut S) -> u8
+pub fn report_unread<S: Sink>(alloc: Global, stop: ReadStop, out: &mut S) -> u8
     ensures whole { result ≢ 6 → result ≢ 7 → (a : Said) × IsUnread stop a × (result ≡ spec.status_of a) ×
         Appends (S.written out.old) (S.written out.new) (spec.text_of a) }
     ensures prefix { (result ≡ 6) ⊎ (result ≡ 7) → ((a : Said) × IsUnread stop a × AppendsPrefix (S.written out.old) (S.written out.new) (spec.text_of a))
