@@ -1,5 +1,5 @@
 -- Cited by crates above. What terms and negated literals say as comparisons.
-use Rattle.std.proofs.Common.{◌≡◌, ◌≢◌, ◌↔◌, ℕ, zero, suc, ◌%◌, ◌<◌, List, [], ◌∷◌, length, Bool, true, false, IsTrue, Option, Some, None, refl, sym, ap, ◌∙◌, subst, arith}
+use Rattle.std.proofs.Common.{◌≡◌, ◌≢◌, ◌↔◌, ℕ, zero, suc, ◌%◌, ◌<◌, List, [], ◌∷◌, length, Bool, true, false, not, IsTrue, Option, Some, None, refl, sym, ap, ◌∙◌, subst, arith}
 use Rattle.std.specs.List.{slice_get}
 use Rattle.std.proofs.lemmas.List.Elements.{All-head, All-tail}
 use Rattle.sort_check.proofs.Leaves.{there, at_leaf, operator_leaf}
@@ -48,6 +48,14 @@ denied_is (suc zero) u true bare parity = odd_denial u bare
 denied_is (suc zero) u false bare parity = absurd (let e = parity.1 refl in cc)
 denied_is (suc (suc n)) u odd bare parity =
     denied_is n u odd bare (λ t. (let e = parity.0 t in omega (arith, e)), λ e. parity.1 (omega (arith, e)))
+
+-- one `not` more
+pub other_parity : (n : ℕ) (odd : Bool) → IsTrue odd ↔ (n % 2 ≡ 1) → IsTrue (not odd) ↔ (suc n % 2 ≡ 1)
+other_parity n true parity = let e = parity.0 refl in (λ h. absurd cc, λ h. absurd (omega (arith, e, h)))
+other_parity n false parity = (λ h. even n (λ e. absurd (let f = parity.1 e in cc)), λ h. refl)
+  where
+    even : (k : ℕ) → (k % 2 ≡ 1 → ⊥) → suc k % 2 ≡ 1
+    even k other = omega (arith, other)
 
 -- what stands in a well-sorted term is well sorted
 under_not : (u : Term) → IsWellSorted (not_of u) → IsWellSorted u

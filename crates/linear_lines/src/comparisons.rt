@@ -5,7 +5,7 @@ ghost use Rattle.term_model.specs.Sorts.{IsOf, IsWellSorted};
 ghost use Rattle.term_model.specs.declared.symbols.Sort.TheVariants as Sort;
 ghost use Rattle.sym_table.specs.Table.{Table};
 ghost use Rattle.sort_check.specs.WellSorted.{IsWellSortedTerm};
-ghost use Rattle.term_model.specs.Terms.{Term, Terms, operation, term, no_terms};
+ghost use Rattle.term_model.specs.Terms.{Term, Terms, operation, term, no_terms, not_of};
 ghost use Rattle.term_model.specs.declared.symbols.Op.{Op};
 ghost use Rattle.term_parts.specs.Parts.{IsOver};
 ghost use Rattle.term_pool.specs.Views.{TermsView, IsTerm, RefersTo};
@@ -203,4 +203,14 @@ pub fn denied(symbols: &Symbols, terms: &mut Terms<'_>, literal: Ref) -> Option<
 {
     let (bare, odd) = terms.strip_not(symbols, literal);
     compared(symbols, terms, odd, bare)
+}
+
+/// What an assertion says as a comparison of terms of Int, behind pairs of `not`s: what the literal that is its `not` denies.
+pub fn asserted(symbols: &Symbols, terms: &mut Terms<'_>, assertion: Ref) -> Option<Comparison>
+    requires { IsWellSortedTerm symbols.now terms.old assertion }
+    ensures read { (t : Term) → RefersTo symbols.now terms.old assertion t → IsDenialRead symbols.now terms.old (not_of t) result }
+    ensures same { terms.new ≡ terms.old }
+{
+    let (bare, odd) = terms.strip_not(symbols, assertion);
+    compared(symbols, terms, !odd, bare)
 }

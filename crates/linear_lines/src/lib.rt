@@ -7,7 +7,7 @@ mod lines;
 mod multiples;
 mod sums;
 
-pub use comparisons::{Comparison, denied, is_number};
+pub use comparisons::{Comparison, asserted, denied, is_number};
 pub use lines::{Line, LineForm};
 pub use multiples::least_multiple;
 pub use sums::{add_line, is_absurd};
