@@ -1,19 +1,11 @@
 -- Private. What is so of each command of a proof is so of each that is left of it.
 use Rattle.std.proofs.Common.{◌≡◌, ◌+◌, ℕ, Bool, true, false, List, refl}
-use Rattle.std.specs.Prelude.{⊤}
 use Rattle.term_model.specs.Terms.{Var, Term}
 use Rattle.rule_model.specs.Proofs.{Step, ProofItems, no_items, with_assume, with_step, with_subproof}
 use Rattle.rule_model.specs.Scopes.{commands_in}
 use Rattle.pruned_proofs.specs.Reached.{is_kept}
 use Rattle.pruned_proofs.specs.Pruned.{kept_items, renumbered}
-
--- of each term that is assumed, of what each anchor binds, and of each step
-abbrev pub AreEach : (Term → Type 0) → (List (Var × Term) → Type 0) → (Step Term → Type 0) → ProofItems Var Term → Type 0
-AreEach Assumed Bound Stepped no_items = ⊤
-AreEach Assumed Bound Stepped (with_assume items id t) = AreEach Assumed Bound Stepped items × Assumed t
-AreEach Assumed Bound Stepped (with_step items x) = AreEach Assumed Bound Stepped items × Stepped x
-AreEach Assumed Bound Stepped (with_subproof items bindings proof x) =
-    AreEach Assumed Bound Stepped items × Bound bindings × AreEach Assumed Bound Stepped proof × Stepped x
+use Rattle.reread_laws.specs.EachCommand.{AreEach}
 
 module _ (Assumed : Term → Type 0) (Bound : List (Var × Term) → Type 0) (Stepped : Step Term → Type 0) (marks : List Bool)
     (same : (x : Step Term) → Stepped x → Stepped (renumbered marks x)) where

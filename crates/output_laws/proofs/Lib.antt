@@ -1,4 +1,3 @@
-mod SameIds
 mod MoreAssertions
 mod OneCore
 mod OneCheck
@@ -6,7 +5,4 @@ mod HoleRules
 mod Saying
 mod EachCommand
 mod NoPivots
-mod SpelledTerms
-mod SpelledProofs
-mod NoArguments
-mod OtherMode
+mod LeftSpelled

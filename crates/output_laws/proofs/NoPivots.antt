@@ -29,11 +29,8 @@ use Rattle.alethe_text.proofs.Endings.{After, Ends, and_next, looked, asked, giv
 use Rattle.alethe_text.proofs.KeptReadings.{id_kept, indices_keep}
 use Rattle.alethe_text.proofs.Staying.{term_stays, formula_stays, formulas_stay, all_stay}
 use Rattle.pruned_proofs.specs.Pruned.{pruned}
-use Rattle.output_laws.proofs.EachCommand.{AreEach, each_kept}
-
--- no step has pivots
-abbrev pub HasNoPivots : Proof Var Term → Type 0
-HasNoPivots proof = AreEach (λ t. ⊤) (λ bindings. ⊤) (λ x. x.pivots ≡ []) proof
+use Rattle.reread_laws.specs.EachCommand.{HasNoPivots}
+use Rattle.output_laws.proofs.EachCommand.{each_kept}
 
 -- what is left of such a proof
 pub none_kept : (marks : List Bool) (items : Proof Var Term) → HasNoPivots items → HasNoPivots (pruned marks items)

@@ -20,7 +20,6 @@ ghost use Rattle.output_laws.specs.Again.{IsReadUpToPivots, SaysSo, SaySame};
 use alethe_text::laws::{
     proof_texts_have_one_reading, proofs_are_read_alike_within_limits, proofs_are_well_formed,
 };
-use printed_proofs::laws::parts_are_read_back;
 use problem_text::laws::texts_have_one_reading;
 use pruned_proofs::laws::pruned_proofs_are_well_formed;
 use readable_proofs::laws::{
@@ -28,13 +27,14 @@ use readable_proofs::laws::{
     proofs_that_pass_have_coefficients,
 };
 use reread_laws::laws::{
-    low_proofs_are_printed_low, pruned_proofs_are_printed_low,
-    pruned_proofs_are_printed_without_lets, texts_without_lets_are_read_alike,
+    low_proofs_are_printed_low, numbered_proofs_are_the_same,
+    proofs_without_pivots_are_read_in_both_modes, pruned_proofs_are_printed_low,
+    pruned_proofs_are_printed_without_lets, readable_proofs_are_spelled,
+    texts_without_lets_are_read_alike,
 };
 use rule_model::laws::elaboration::elaborations_keep_verdicts;
 use rule_model::laws::ids::{ids_play_no_part, pivots_do_not_matter_in_check_mode};
 use rule_model::laws::soundness::statuses_are_unique;
-use sexpr::{items_are_unique, printed_items_are_read_back};
 
 /// Let no function have the name of a variable that a let or an anchor of the two texts binds, and no term that is read of the text of
 /// an elaboration be higher than the limit. Checked with `--strict` behind the same problem, that text has the verdict of the proof that
@@ -52,6 +52,7 @@ pub fn elaborations_are_valid_strictly()
 {
     elaborations_keep_verdicts();
     ids_play_no_part();
+    numbered_proofs_are_the_same();
     proofs_are_read_alike_within_limits();
 }
 
@@ -85,9 +86,8 @@ pub fn pruned_texts_are_read_in_both_modes()
         options.is_strict ≡ false → options.replaces_lets ≡ true → StandsForProof bytes (limited_proof true is_strict)
         out.refutation.checked.script (numbered_proof (left_of problem options proof out.refutation)) (out.read_back apart).after }
 {
-    items_are_unique();
-    printed_items_are_read_back();
-    parts_are_read_back();
+    readable_proofs_are_spelled();
+    proofs_without_pivots_are_read_in_both_modes();
     proofs_are_well_formed();
     pruned_proofs_are_well_formed();
     proofs_are_over_their_names();
@@ -115,6 +115,7 @@ pub fn pruned_texts_are_valid()
         StandsForProblem problem false out.refutation.checked.script → IsCheckedWith problem (keeping_lets options) bytes Verdict.Valid [] }
 {
     ids_play_no_part();
+    numbered_proofs_are_the_same();
     pivots_do_not_matter_in_check_mode();
     pruned_texts_are_read_in_both_modes();
 }

@@ -7,3 +7,8 @@ mod LetFreeProofs
 mod SameReadings
 mod OtherLets
 mod OtherLetsInProofs
+mod SpelledTerms
+mod SpelledProofs
+mod NoArguments
+mod OtherMode
+mod SameIds

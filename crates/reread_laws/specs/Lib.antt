@@ -1,1 +1,3 @@
 pub mod Since
+pub mod EachCommand
+pub mod Spelled

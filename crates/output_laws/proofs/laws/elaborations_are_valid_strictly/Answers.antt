@@ -12,7 +12,6 @@ use Rattle.command_words.specs.declared.request.Options.{Options}
 use Rattle.judged_texts.specs.Reading.{checking_of}
 use Rattle.elaborated_texts.specs.Elaborated.{IsStatusOfPrinted}
 use Rattle.output_laws.specs.Again.{strictly, keeping_lets, hole_rules, IsCheckedWith}
-use Rattle.output_laws.proofs.SameIds.{same_up_to_ids, same_hole_words}
 use Rattle.output_laws.proofs.HoleRules.{rules_are_words}
 use Rattle.output_laws.proofs.laws.elaborations_are_valid_strictly.Goals as goal
 
@@ -47,12 +46,12 @@ returns-clause-replaced c = λ problem options proof status bytes out apart stan
         statuses = out.is.statuses;
         problem_text = stands;
         proof_text = c.proofs_are_read_alike_within_limits.ensures (Some most_height) bytes printed_settings script numbered read.after read.stands low;
-        are = c.ids_play_no_part.ensures.statuses strict new numbered out.is.statuses (same_up_to_ids new) out.is.are;
-        verdict = c.ids_play_no_part.ensures.verdict new numbered out.is.statuses out.verdict (same_up_to_ids new) verdict;
+        are = c.ids_play_no_part.ensures.statuses strict new numbered out.is.statuses (c.numbered_proofs_are_the_same.ensures.ids new) out.is.are;
+        verdict = c.ids_play_no_part.ensures.verdict new numbered out.is.statuses out.verdict (c.numbered_proofs_are_the_same.ensures.ids new) verdict;
       };
       holes =
           rules_are_words numbered 0 out.is.statuses
-          ∙ (same_hole_words new 0 out.is.statuses
+          ∙ (c.numbered_proofs_are_the_same.ensures.holes new 0 out.is.statuses
           ∙ (keeps.holes first first.mode old new out.checked.statuses out.is.statuses out.is out.checked.are out.is.are
           ∙ sym (rules_are_words old 0 out.checked.statuses)));
     }

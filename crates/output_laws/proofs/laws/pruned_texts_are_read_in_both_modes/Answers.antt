@@ -8,6 +8,7 @@ use Rattle.rule_model.specs.WellFormed.{IsWellFormed}
 use Rattle.problem_text.specs.Limits.{AreLow, most_height}
 use Rattle.problem_text.specs.Problems.{StandsForProblem}
 use Rattle.problem_text.specs.Scripts.{Script}
+use Rattle.alethe_text.specs.ProofTexts.{StandsForProof}
 use Rattle.alethe_text.specs.States.{limited_proof}
 use Rattle.printed_proofs.specs.Naming.{IsPlan}
 use Rattle.printed_proofs.specs.Numbered.{numbered_proof}
@@ -17,10 +18,8 @@ use Rattle.readable_proofs.specs.ProofsOver.{printed_settings}
 use Rattle.reread_laws.specs.Since.{ReadsNoLet}
 use Rattle.judged_texts.specs.Reading.{checking_of, settings_of}
 use Rattle.pruned_texts.specs.Needed.{left_of}
-use Rattle.output_laws.proofs.NoArguments.{HasNoPivotArguments, text_gives_none}
+use Rattle.output_laws.proofs.LeftSpelled.{spelled_kept}
 use Rattle.output_laws.proofs.NoPivots.{none_kept, text_has_none}
-use Rattle.output_laws.proofs.OtherMode.{text_in_mode}
-use Rattle.output_laws.proofs.SpelledProofs.{readable_spelled, spelled_kept}
 use Rattle.output_laws.proofs.laws.pruned_texts_are_read_in_both_modes.Goals as goal
 
 -- the plan without names
@@ -53,11 +52,14 @@ returns-clause-both c = λ problem options proof bytes out apart is_strict check
     (c.proofs_that_pass_have_coefficients.ensures (checking_of options script.assertions) of checked.statuses checked.are pass) in
     let formed : IsWellFormed left = c.pruned_proofs_are_well_formed.ensures.formed of out.refutation.first marks
     (c.proofs_are_well_formed.ensures proof settings script of checked.after checked.proof_text) first.within first.scope out.refutation.reached in
-    let text = text_gives_none c.items_are_unique.ensures.text c.printed_items_are_read_back.ensures.items c.parts_are_read_back.ensures.spelled_coefficients
-    out.plan script left out.names.is_plan (none_kept marks of (text_has_none settings check proof script of checked.after checked.proof_text)) formed
-    (spelled_kept out.plan script.sorts marks of (readable_spelled printed_settings out.plan script out.names.is_plan outermost of readable)) in
-    text_in_mode bytes printed_settings is_strict script (numbered_proof left) (out.read_back apart).after
-    (subst HasNoPivotArguments (sym out.printed) text) (out.read_back apart).stands
+    let none = none_kept marks of (text_has_none settings check proof script of checked.after checked.proof_text) in
+    let spelled =
+    spelled_kept out.plan script.sorts marks of (c.readable_proofs_are_spelled.ensures printed_settings out.plan script of out.names.is_plan readable) in
+    let read = out.read_back apart in
+    let stands = subst (λ text. StandsForProof text printed_settings script (numbered_proof left) read.after) out.printed read.stands in
+    subst (λ text. StandsForProof text (record printed_settings { is_strict = is_strict }) script (numbered_proof left) read.after) (sym out.printed)
+    (c.proofs_without_pivots_are_read_in_both_modes.ensures out.plan script left printed_settings is_strict script (numbered_proof left) read.after
+    out.names.is_plan none formed spelled stands)
 
 pub returns-clause-limited : goal.returns-clause-limited
 returns-clause-limited c = λ problem options proof bytes out apart is_strict check.

@@ -12,7 +12,6 @@ use Rattle.judged_texts.specs.Reading.{checking_of, settings_of}
 use Rattle.pruned_texts.specs.Needed.{left_of, last_of}
 use Rattle.output_laws.proofs.HoleRules.{no_rules}
 use Rattle.output_laws.proofs.MoreAssertions.{ok_with_all, valid_to_end}
-use Rattle.output_laws.proofs.SameIds.{same_up_to_ids}
 use Rattle.output_laws.proofs.laws.pruned_texts_are_valid.Goals as goal
 
 pub returns-clause-read : goal.returns-clause-read
@@ -25,11 +24,12 @@ returns-clause-read c = λ problem options proof bytes out replaces check stands
     let checking : Checking = checking_of options script.assertions in
     let mode : checking.mode ≡ Mode.Check = rw check refl in
     let ids = c.ids_play_no_part.ensures in
+    let same = c.numbered_proofs_are_the_same.ensures.ids left in
     let pivots = c.pivots_do_not_matter_in_check_mode.ensures in
     let are : AreStatuses checking numbered statuses =
-    ids.statuses checking left numbered statuses (same_up_to_ids left) (ok_with_all checking out.numbers left (commands_in left) out.statuses) in
+    ids.statuses checking left numbered statuses same (ok_with_all checking out.numbers left (commands_in left) out.statuses) in
     let verdict = pivots.verdict numbered read.others statuses Verdict.Valid read.same
-    (ids.verdict left numbered statuses Verdict.Valid (same_up_to_ids left) (valid_to_end left last out.end out.scope out.empty)) in
+    (ids.verdict left numbered statuses Verdict.Valid same (valid_to_end left last out.end out.scope out.empty)) in
     record {
       checked = record {
         script = script;
