@@ -8,10 +8,9 @@ use Rattle.std.proofs.lemmas.List.Folds.{list_any-append}
 use Rattle.std.proofs.lemmas.List.Sums.{AllPass-from_list_all}
 use Rattle.sexpr.specs.Characters.{is_word_byte, is_mark}
 use Rattle.sexpr.specs.Grammar.{IsWord}
-use Rattle.sexpr.specs.Items.{Item}
+use Rattle.sexpr.specs.Items.{Item, Items, StandsForItems}
 use Rattle.sexpr.specs.Words.{is_number}
 use Rattle.sexpr.specs.Printed.{placed_lines, IsSpelledItem, AreSpelledItems}
-use Rattle.sexpr.proofs.OneNesting.{one_text}
 use Rattle.sexpr.proofs.PrintedItems.{lines_stand}
 use Rattle.term_model.specs.declared.symbols.Sort.{Sort}
 use Rattle.term_model.specs.Sorts.{IsOf}
@@ -315,8 +314,9 @@ module _ (asserted : List Term) (short : length (question_text asserted) ≤ mos
         let ts = asserts_on (asked_term n []) asserted check u (names_from 0 m) declared [] all_are cs in
         sym (check_step ts.at ts.before ts.last u ts.fresh ts.leads) ∙ ts.assertions_are
 
-    pub read_back : (u : Script) → StandsForProblem (question_text asserted) false u → u.assertions ≡ question_terms asserted
-    read_back u h =
+    pub read_back : ((source : List ℕ) (is js : Items) → StandsForItems source is → StandsForItems source js → is ≡ js) → (u : Script) →
+        StandsForProblem (question_text asserted) false u → u.assertions ≡ question_terms asserted
+    read_back one_text u h =
         let items : h.items ≡ placed_lines 0 [] (items_of (question_commands n asserted)) =
         one_text (question_text asserted) h.items (placed_lines 0 [] (items_of (question_commands n asserted))) h.nested
         (lines_stand (items_of (question_commands n asserted)) spelled) in
