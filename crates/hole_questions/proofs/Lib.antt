@@ -1,7 +1,7 @@
 mod Alike
 mod Writing
 mod Pieces
-mod Cells
+mod Performed
 mod Firsts
 mod Texts
 mod PlainNames

@@ -10,7 +10,7 @@ use Rattle.hole_fillers.specs.Questions.{most_bytes}
 use Rattle.hole_questions.specs.States.{Piece}
 use Rattle.hole_questions.specs.Pieces.{term_pieces}
 use Rattle.hole_questions.specs.Walks.{Part, whole, part_pieces, pieces_left, IsTask, IsSomeTask, Performs, ComesTo, Writes, IsTooLong}
-use Rattle.hole_questions.specs.declared.walk.Task.{Task}
+use Rattle.term_walk.specs.declared.tasks.Task.{Task}
 use Rattle.hole_questions.specs.declared.writer.Writer.{Writer}
 use Rattle.hole_questions.proofs.Writing.{nothing, both, long_already}
 

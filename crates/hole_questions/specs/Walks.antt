@@ -2,18 +2,16 @@
 use Rattle.std.specs.Prelude.{◌≡◌, ◌<◌, ℕ, Bool, true, false, List, [], ◌∷◌, ◌++◌, codes, decimal, flat_map, length, unsigned_abs, reverse, ⊤}
 use Rattle.std.specs.List.{AllZip}
 use Rattle.sexpr.specs.Printing.{printed_symbol}
-use Rattle.pair_pool.specs.Trees.{Tree, cell}
-use Rattle.pair_pool.specs.Views.{Knows}
 use Rattle.sym_table.specs.Leaf.{Leaf, name_of}
 use Rattle.sym_table.specs.Table.{Table}
 use Rattle.term_model.specs.Terms.{Var, Fun, Term, Terms, Bindings}
-use Rattle.term_pool.specs.StandsFor.{StandsForList, StandsForBindings}
 use Rattle.term_pool.specs.Views.{TermsView, RefersTo}
 use Rattle.hole_fillers.specs.Questions.{most_bytes}
-use Rattle.hole_questions.specs.States.{Piece, bytes, function, variable, save, restore, State, after_leaf, after_all, state_of, IsStateOf}
+use Rattle.hole_questions.specs.States.{Piece, bytes, function, variable, save, restore, State, after_all, state_of, IsStateOf}
 use Rattle.hole_questions.specs.Pieces.{term_pieces, argument_pieces, pair_pieces, bind_pieces}
 use Rattle.hole_questions.specs.declared.writer.Writer.{Writer}
-use Rattle.hole_questions.specs.declared.walk.Task.{Task}
+use Rattle.term_walk.specs.Walks.{IsListOf, ArePairsOf}
+use Rattle.term_walk.specs.declared.tasks.Task.{Task}
 
 -- the piece that is a leaf
 abbrev pub leaf_piece : ℕ → Leaf → Piece ℕ ℕ
@@ -42,10 +40,10 @@ pub data Part : Type 0 where
   whole : Term → Part
   arguments : Terms → Part
   pairs : List ℕ → Bindings → Part
-  -- the variables of bindings, as they are bound
+  -- the body of a let, behind the bracket that closes its bindings; their variables, as they are bound
+  body : Bindings → Term → Part
   binds : Bindings → Part
-  -- the bracket that closes bindings, one that closes a list, and one that closes a let
-  begin : Part
+  -- a bracket that closes a list, and one that closes a let
   close : Part
   end : Part
 
@@ -53,8 +51,8 @@ abbrev pub part_pieces : Part → List (Piece Fun Var)
 part_pieces (whole t) = term_pieces t
 part_pieces (arguments ts) = argument_pieces ts
 part_pieces (pairs before bs) = pair_pieces before bs
+part_pieces (body bs t) = bytes (codes ") ") ∷ save ∷ (bind_pieces bs ++ term_pieces t)
 part_pieces (binds bs) = bind_pieces bs
-part_pieces begin = bytes (codes ") ") ∷ save ∷ []
 part_pieces close = bytes (codes ")") ∷ []
 part_pieces end = bytes (codes ")") ∷ restore ∷ []
 
@@ -62,33 +60,14 @@ part_pieces end = bytes (codes ")") ∷ restore ∷ []
 abbrev pub pieces_left : List Part → List (Piece Fun Var)
 pieces_left parts = flat_map part_pieces (reverse parts)
 
--- the reference is that of the list of these terms, and of these bindings
-pub record IsListOf (s : Table) (v : TermsView) (r : ℕ) (ts : Terms) : Type 0 where
-  pub tree : Tree
-  pub known : Knows v.pass r tree
-  pub stands : StandsForList s tree ts
-
-pub record IsSomeList (s : Table) (v : TermsView) (r : ℕ) : Type 0 where
-  pub terms : Terms
-  pub is : IsListOf s v r terms
-
-pub record ArePairsOf (s : Table) (v : TermsView) (r : ℕ) (bs : Bindings) : Type 0 where
-  pub tree : Tree
-  pub known : Knows v.pass r tree
-  pub stands : StandsForBindings s tree bs
-
-pub record AreSomePairs (s : Table) (v : TermsView) (r : ℕ) : Type 0 where
-  pub bindings : Bindings
-  pub are : ArePairsOf s v r bindings
-
 -- the task is this part of a term
 abbrev pub IsTask : Table → TermsView → Task → Part → Type 0
 IsTask s v (Task.Term r) (whole t) = RefersTo s v r t
 IsTask s v (Task.Arguments r) (arguments ts) = IsListOf s v r ts
 IsTask s v (Task.FirstBindings r) (pairs before bs) = (before ≡ []) × ArePairsOf s v r bs
 IsTask s v (Task.Bindings r) (pairs before bs) = (before ≡ codes " ") × ArePairsOf s v r bs
+IsTask s v (Task.Body list r) (body bs t) = ArePairsOf s v list bs × RefersTo s v r t
 IsTask s v (Task.Binds r) (binds bs) = ArePairsOf s v r bs
-IsTask s v Task.Begin begin = ⊤
 IsTask s v Task.Close close = ⊤
 IsTask s v Task.End end = ⊤
 IsTask s v _ _ = ⊥
@@ -114,12 +93,3 @@ pub record ComesTo (s : Table) (v : TermsView) (tasks : List Task) (old new : Wr
   pub wrote : Writes s old new written
   pub are : AllZip (IsTask s v) tasks parts
   pub is : ps ≡ written ++ pieces_left parts
-
--- A let was begun whose bindings and body are the parts of this cell.
-pub record BeginsLet (v : TermsView) (old_tasks new_tasks : List Task) (old new : Writer) (rest : ℕ) : Type 0 where
-  pub list : ℕ
-  pub of_body : ℕ
-  pub first : (a b : Tree) → Knows v.pass rest (cell a b) → Knows v.pass list a
-  pub second : (a b : Tree) → Knows v.pass rest (cell a b) → Knows v.pass of_body b
-  pub wrote : state_of new ≡ after_leaf (state_of old) (bytes (codes "(let ("))
-  pub put : new_tasks ≡ old_tasks ++ (Task.End ∷ Task.Term of_body ∷ Task.Binds list ∷ Task.Begin ∷ Task.FirstBindings list ∷ [])

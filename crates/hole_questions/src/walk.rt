@@ -1,61 +1,25 @@
 //! A term, piece by piece: what is left of it stands as tasks, so that no call recurses.
-ghost use Rattle.std.specs.Prelude.{◌≡◌, ◌<◌, ◌^◌, ◌++◌, ℕ, List, [], ◌∷◌, length, decimal, codes, OnOk, IfOk};
+ghost use Rattle.std.specs.Prelude.{◌≡◌, ◌<◌, length, OnOk, IfOk};
 ghost use Rattle.sexpr.specs.Printing.{printed_symbol};
 ghost use Rattle.sym_table.specs.Leaf.{name_of};
 ghost use Rattle.sym_table.specs.Table.{LeafMeets};
 ghost use Rattle.term_model.specs.Terms.{Term, Terms as ModelTerms, Bindings};
-ghost use Rattle.term_pool.specs.Views.{IsTerm, IsKnownCell, RefersTo};
-ghost use Rattle.hole_questions.specs.States.{Piece, bytes, after_leaf, state_of};
-ghost use Rattle.hole_questions.specs.Walks.{leaf_piece, whole, arguments, pairs, binds, IsListOf, ArePairsOf, IsSomeList, AreSomePairs};
+ghost use Rattle.term_pool.specs.Views.{IsTerm, RefersTo};
+ghost use Rattle.term_walk.specs.Walks.{IsListOf, ArePairsOf, IsSomeList, AreSomePairs};
+ghost use Rattle.hole_questions.specs.States.{bytes, after_leaf, state_of};
 ghost use Rattle.hole_questions.specs.Pieces.{term_pieces};
-ghost use Rattle.hole_questions.specs.Walks.{Part, WritesOrNot, IsTask, IsSomeTask, Performs, BeginsLet};
+ghost use Rattle.hole_questions.specs.Walks.{leaf_piece, Part, whole, arguments, pairs, body, binds, WritesOrNot, IsTask, IsSomeTask, Performs};
 
 use crate::MOST_BYTES;
 use crate::writer::Writer;
-use itoa::Buffer;
 use pair_pool::{Memory, Ref};
-use sexpr::print_symbol;
 use std::alloc::Global;
 use sym_table::{Kind, Symbols};
 use term_pool::Terms;
-
-/// The leaf of the head of a let.
-const LET: u32 = 1;
-
-/// A part of a term that is left to be written.
-#[derive(Clone, Copy, Debug, PartialEq, Eq)]
-pub(crate) enum Task {
-    /// A term.
-    Term(Ref),
-    /// The arguments of an application, by the reference of their list: each behind a space.
-    Arguments(Ref),
-    /// The bindings of a let, by the reference of their list, with a space before each but the first one.
-    FirstBindings(Ref),
-    /// Further bindings of a let, by the reference of their list, with a space before each.
-    Bindings(Ref),
-    /// The bracket that closes the bindings of a let: what they bind is bound from here on.
-    Begin,
-    /// The variables of a let, by the reference of the list of its bindings.
-    Binds(Ref),
-    /// A bracket that closes a list.
-    Close,
-    /// The bracket that closes a let, and the end of what it binds.
-    End,
-}
-
-/// A number in base ten.
-fn push_number(alloc: Global, number: u128, text: &mut Vec<u8>) -> Result<(), Memory>
-    ensures { OnOk result (text.new.items ≡ text.old.items ++ decimal number) }
-{
-    if number <= u64::MAX as u128 {
-        let mut digits = Buffer::new();
-        text.extend_from_slice(digits.format(number as u64).as_bytes())?;
-        return Ok(());
-    }
-    let digits = format!(in alloc; "{number}")?;
-    text.extend_from_slice(digits.as_bytes())?;
-    Ok(())
-}
+use term_walk::{
+    Task, Top, begin_application, begin_let, first_binding, next_argument, next_binding,
+    push_leaf_symbol, push_number, top_of,
+};
 
 /// A leaf: a numeral, a name or the symbol of an operator.
 fn write_leaf(
@@ -68,7 +32,7 @@ fn write_leaf(
     ensures { OnOk result (LeafMeets symbols.now leaf (λ l. state_of writer.new ≡ after_leaf (state_of writer.old) (leaf_piece leaf l))) }
 {
     match symbols.kind(leaf) {
-        Kind::Num(n) => push_number(alloc, n.unsigned_abs(), &mut writer.text),
+        Kind::Num(n) => Ok(push_number(alloc, n.unsigned_abs(), &mut writer.text)?),
         Kind::Fun(_) => writer.function(leaf),
         Kind::Var(_) => writer.variable(leaf),
         _ => write_symbol(symbols, writer, leaf),
@@ -80,7 +44,7 @@ fn write_symbol(symbols: &Symbols, writer: &mut Writer, leaf: u32) -> Result<(),
     requires { leaf < length symbols.now.leaves }
     ensures { OnOk result (LeafMeets symbols.now leaf (λ l. state_of writer.new ≡ after_leaf (state_of writer.old) (bytes (printed_symbol (name_of l))))) }
 {
-    print_symbol(symbols.name(leaf), &mut writer.text)?;
+    push_leaf_symbol(symbols, leaf, &mut writer.text)?;
     Ok(())
 }
 
@@ -98,41 +62,19 @@ fn write_term(
         Performs symbols.now terms.old tasks.old.items tasks.new.items writer.old writer.new (whole t)) }
     ensures same { terms.new ≡ terms.old }
 {
-    terms.one_to_one();
-    terms.parts_of_trees();
     symbols.leaves_differ();
-    if r.is_leaf() {
-        return write_leaf(alloc, symbols, writer, r.number());
+    match top_of(symbols, terms, r) {
+        Top::Leaf(leaf) => write_leaf(alloc, symbols, writer, leaf),
+        Top::Application(head, list) => {
+            begin_application(tasks, list)?;
+            writer.put(b"(")?;
+            write_leaf(alloc, symbols, writer, head)
+        }
+        Top::Let(list, body) => {
+            begin_let(tasks, list, body)?;
+            writer.put(b"(let (")
+        }
     }
-    let (head, rest) = terms.cell_parts(r);
-    let leaf = head.number();
-    if leaf == LET {
-        return write_let(terms, tasks, writer, rest);
-    }
-    tasks.push(Task::Close)?;
-    tasks.push(Task::Arguments(rest))?;
-    writer.put(b"(")?;
-    write_leaf(alloc, symbols, writer, leaf)
-}
-
-/// The beginning of a let, by what stands behind its head.
-fn write_let(
-    terms: &mut Terms<'_>,
-    tasks: &mut Vec<Task>,
-    writer: &mut Writer,
-    rest: Ref,
-) -> Result<(), Memory>
-    requires { IsKnownCell terms.old.pass rest }
-    ensures begun { OnOk result (BeginsLet terms.old tasks.old.items tasks.new.items writer.old writer.new rest) }
-    ensures same { terms.new ≡ terms.old }
-{
-    let (list, body) = terms.cell_parts(rest);
-    tasks.push(Task::End)?;
-    tasks.push(Task::Term(body))?;
-    tasks.push(Task::Binds(list))?;
-    tasks.push(Task::Begin)?;
-    tasks.push(Task::FirstBindings(list))?;
-    writer.put(b"(let (")
 }
 
 /// The next argument of a list, and the others as a task.
@@ -148,15 +90,11 @@ fn write_arguments(
         Performs symbols.now terms.old tasks.old.items tasks.new.items writer.old writer.new (arguments ts)) }
     ensures same { terms.new ≡ terms.old }
 {
-    terms.one_to_one();
-    terms.parts_of_trees();
     symbols.leaves_differ();
-    if list.is_leaf() {
+    let found = next_argument(symbols, terms, tasks, list)?;
+    if !found {
         return Ok(());
     }
-    let (first, rest) = terms.cell_parts(list);
-    tasks.push(Task::Arguments(rest))?;
-    tasks.push(Task::Term(first))?;
     writer.put(b" ")
 }
 
@@ -174,21 +112,33 @@ fn write_bindings(
         Performs symbols.now terms.old tasks.old.items tasks.new.items writer.old writer.new (pairs before.now bs)) }
     ensures same { terms.new ≡ terms.old }
 {
-    terms.one_to_one();
-    terms.parts_of_trees();
     symbols.leaves_differ();
-    if list.is_leaf() {
+    let Some(variable) = next_binding(symbols, terms, tasks, list)? else {
         return Ok(());
-    }
-    let (pair, rest) = terms.cell_parts(list);
-    let (variable, value) = terms.cell_parts(pair);
-    tasks.push(Task::Bindings(rest))?;
-    tasks.push(Task::Close)?;
-    tasks.push(Task::Term(value))?;
+    };
     writer.put(before)?;
     writer.put(b"(")?;
-    writer.binder(variable.number())?;
+    writer.binder(variable)?;
     writer.put(b" ")
+}
+
+/// The bracket behind the bindings of a let: what they bind is bound from here on, and its body is left.
+fn write_body(
+    symbols: &Symbols,
+    terms: &Terms<'_>,
+    tasks: &mut Vec<Task>,
+    writer: &mut Writer,
+    list: Ref,
+    inside: Ref,
+) -> Result<(), Memory>
+    ensures { OnOk result ((bs : Bindings) (t : Term) → ArePairsOf symbols.now terms.now list bs → RefersTo symbols.now terms.now inside t →
+        Performs symbols.now terms.now tasks.old.items tasks.new.items writer.old writer.new (body bs t)) }
+{
+    symbols.leaves_differ();
+    tasks.push(Task::Term(inside))?;
+    tasks.push(Task::Binds(list))?;
+    writer.put(b") ")?;
+    writer.save()
 }
 
 /// The next variable that a let binds, and the others as a task.
@@ -204,16 +154,12 @@ fn write_binds(
         Performs symbols.now terms.old tasks.old.items tasks.new.items writer.old writer.new (binds bs)) }
     ensures same { terms.new ≡ terms.old }
 {
-    terms.one_to_one();
-    terms.parts_of_trees();
     symbols.leaves_differ();
-    if list.is_leaf() {
+    let Some(binding) = first_binding(symbols, terms, list) else {
         return Ok(());
-    }
-    let (pair, rest) = terms.cell_parts(list);
-    let (variable, _) = terms.cell_parts(pair);
-    tasks.push(Task::Binds(rest))?;
-    writer.bind(variable.number())
+    };
+    tasks.push(Task::Binds(binding.rest))?;
+    writer.bind(binding.variable)
 }
 
 /// One task.
@@ -230,18 +176,13 @@ fn perform(
         Performs symbols.now terms.old tasks.old.items tasks.new.items writer.old writer.new p) }
     ensures same { terms.new ≡ terms.old }
 {
-    terms.one_to_one();
-    terms.parts_of_trees();
     symbols.leaves_differ();
     match task {
         Task::Term(r) => write_term(alloc, symbols, terms, tasks, writer, r),
         Task::Arguments(list) => write_arguments(symbols, terms, tasks, writer, list),
         Task::FirstBindings(list) => write_bindings(b"", symbols, terms, tasks, writer, list),
         Task::Bindings(list) => write_bindings(b" ", symbols, terms, tasks, writer, list),
-        Task::Begin => {
-            writer.put(b") ")?;
-            writer.save()
-        }
+        Task::Body(list, body) => write_body(symbols, terms, tasks, writer, list, body),
         Task::Binds(list) => write_binds(symbols, terms, tasks, writer, list),
         Task::Close => writer.put(b")"),
         Task::End => {
@@ -249,6 +190,7 @@ fn perform(
             writer.restore();
             Ok(())
         }
+        Task::Naming(_) => Ok(()),
     }
 }
 

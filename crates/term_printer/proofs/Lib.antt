@@ -1,6 +1,6 @@
 mod GivenNames
 mod Pieces
-mod TermCells
+mod TermParts
 mod SingleTasks
 mod Turns
 mod PlainNames

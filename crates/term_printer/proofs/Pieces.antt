@@ -1,42 +1,15 @@
--- Tests of references, and bytes and tasks one after another.
-use Rattle.std.proofs.Common.{◌≡◌, ℕ, ◌<◌, ◌≤◌, ◌*◌, Bool, true, false, List, [], ◌∷◌, ◌++◌, refl, sym, ap, ◌∙◌, subst, arith}
+-- Bytes one after another, and what is so of a leaf.
+use Rattle.std.proofs.Common.{◌≡◌, ℕ, ◌≤◌, ◌*◌, Bool, true, false, List, [], ◌∷◌, ◌++◌, refl, sym, ap, ◌∙◌, subst, arith}
 use Rattle.std.proofs.lemmas.List.{append_assoc, length-append}
-use Rattle.std.proofs.lemmas.Bool.Decides.{nat_tests}
-use Rattle.std.proofs.lemmas.Option.{slice_get_within}
-use Rattle.std.specs.Prelude.{IsTrue, nat_lt, IsSomeAnd, length, Result, Ok, Err, OnOk}
+use Rattle.std.specs.Prelude.{IsSomeAnd, length, Result, Ok, Err, OnOk}
 use Rattle.sexpr.specs.Printing.{is_plain_symbol, printed_symbol}
 use Rattle.sexpr.specs.Printed.{symbol_item, printed}
 use Rattle.sym_table.specs.Leaf.{Leaf}
 use Rattle.sym_table.specs.Table.{Table, IsLeaf, LeafMeets}
-use Rattle.term_printer.specs.declared.page.Task.{Task}
-
--- what the test of a reference says
-pub is_low : (b : Bool) (r n : ℕ) → b ≡ true → (IsTrue b → r < n) → r < n
-is_low b r n e h = h e
-
-pub is_high : (b : Bool) (r n : ℕ) → b ≡ false → (r < n → IsTrue b) → n ≤ r
-is_high b r n e h = go (nat_lt r n) refl
-  where
-    go : (test : Bool) → nat_lt r n ≡ test → n ≤ r
-    go true l = absurd (let low : r < n = grind (arith, nat_tests) in let f : b ≡ true = h low in let g : true ≡ false = sym f ∙ e in cc)
-    go false l = grind (arith, nat_tests)
-
--- tasks one after another
-pub two_more : (old first second new : List Task) (a b : Task) → first ≡ old ++ a ∷ [] → second ≡ first ++ b ∷ [] → new ≡ second
-    → new ≡ old ++ (a ∷ b ∷ [])
-two_more old first second new a b e f g = g ∙ (f ∙ (ap (λ ts. ts ++ b ∷ []) e ∙ append_assoc old (a ∷ []) (b ∷ [])))
-
-pub three_more : (old first second third new : List Task) (a b c : Task) → first ≡ old ++ a ∷ [] → second ≡ first ++ b ∷ []
-    → third ≡ second ++ c ∷ [] → new ≡ third → new ≡ old ++ (a ∷ b ∷ c ∷ [])
-three_more old first second third new a b c e f g h =
-    h ∙ (g ∙ (ap (λ ts. ts ++ c ∷ []) (two_more old first second second a b e f refl) ∙ append_assoc old (a ∷ b ∷ []) (c ∷ [])))
 
 -- what is so of the leaf
 pub of_leaf : (s : Table) (k : ℕ) (l : Leaf) (P : Leaf → Type 0) → LeafMeets s k P → IsLeaf s k l → P l
 of_leaf s k l P meets is = subst (λ o. IsSomeAnd o P) is meets
-
-pub leaf_within : (s : Table) (k : ℕ) (l : Leaf) → IsLeaf s k l → k < length s.leaves
-leaf_within s k l is = slice_get_within s.leaves k l is
 
 -- bytes one after another
 pub four_pieces : (old a b c d : List ℕ) → (((old ++ a) ++ b) ++ c) ++ d ≡ old ++ (a ++ (b ++ (c ++ d)))

@@ -15,14 +15,14 @@ use Rattle.term_printer.specs.Names.{name_numbered, entry_at, given_entry, AreGi
 use Rattle.term_printer.specs.Pages.{IsTask, IsNamingOf, Performs}
 use Rattle.term_printer.specs.declared.names.Entry.{Entry}
 use Rattle.term_printer.specs.declared.page.Page.{Page}
-use Rattle.term_printer.specs.declared.page.Task.{Task}
+use Rattle.term_walk.specs.declared.tasks.Task.{Task}
 use Rattle.term_printer.proofs.GivenNames.{has_entry, given_now}
 use Rattle.term_printer.proofs.Pieces.{symbol_same}
 
 module _ (plan : Plan) (s : Table) (v : TermsView) (old new : Page) where
-  pub body_performs : (r : ℕ) (p : Part) → IsTask plan s v (Task.Body r) p → new.text.items ≡ old.text.items ++ (41 ∷ 32 ∷ [])
+  body_part : (list r : ℕ) (p : Part) → IsTask plan s v (Task.Body list r) p → new.text.items ≡ old.text.items ++ (41 ∷ 32 ∷ [])
       → new.tasks.items ≡ old.tasks.items ++ (Task.Term r ∷ []) → new.names ≡ old.names → Performs plan s v old new p
-  body_performs r (body t) h text left names u g = record {
+  body_part list r (body t) h text left names u g = record {
     bytes = 41 ∷ 32 ∷ [];
     behind = u;
     tasks = Task.Term r ∷ [];
@@ -34,7 +34,12 @@ module _ (plan : Plan) (s : Table) (v : TermsView) (old new : Page) where
     given = subst (λ n. AreGiven plan s v n u.taken) (sym names) g;
     goes_on = λ ps. body_next plan u ps t;
   }
-  body_performs r _ h text left names u g = absurd h
+  body_part list r _ h text left names u g = absurd h
+
+  pub body_performs : (task : Task) (list r : ℕ) (p : Part) → task ≡ Task.Body list r → IsTask plan s v task p
+      → new.text.items ≡ old.text.items ++ (41 ∷ 32 ∷ []) → new.tasks.items ≡ old.tasks.items ++ (Task.Term r ∷ []) → new.names ≡ old.names
+      → Performs plan s v old new p
+  body_performs task list r p e h = body_part list r p (subst (λ k. IsTask plan s v k p) e h)
 
   pub close_performs : (p : Part) → IsTask plan s v Task.Close p → new.text.items ≡ old.text.items ++ (41 ∷ [])
       → new.tasks.items ≡ old.tasks.items → new.names ≡ old.names → Performs plan s v old new p
@@ -63,6 +68,11 @@ module _ (plan : Plan) (s : Table) (v : TermsView) (old new : Page) where
     goes_on = λ ps. record { text = refl; behind = refl };
   }
   close_performs _ h text same names u g = absurd h
+
+  pub end_performs : (p : Part) → IsTask plan s v Task.End p → new.text.items ≡ old.text.items ++ (41 ∷ [])
+      → new.tasks.items ≡ old.tasks.items → new.names ≡ old.names → Performs plan s v old new p
+  end_performs (close t) h text same names u g = close_performs (close t) tt text same names u g
+  end_performs _ h text same names u g = absurd h
 
   -- the name of a term, by its entry
   module _ (table : IsTable s)

@@ -10,7 +10,7 @@ use Rattle.problem_text.specs.Scripts.{Script}
 use Rattle.printed_proofs.specs.Parts.{Part, whole, parts_text, parts_behind}
 use Rattle.printed_proofs.specs.Shared.{Plan, shared_item, behind_term}
 use Rattle.term_printer.specs.declared.page.Page.{Page}
-use Rattle.term_printer.specs.declared.page.Task.{Task}
+use Rattle.term_walk.specs.declared.tasks.Task.{Task}
 use Rattle.term_printer.specs.Names.{AreGiven}
 use Rattle.term_printer.specs.Pages.{IsTask, IsSomeTask, PerformsIn, Performs, ComesTo, ComesToSome, IsFurther}
 

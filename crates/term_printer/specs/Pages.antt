@@ -1,44 +1,23 @@
 -- Public. What a page stands for: its text, the parts of a term that are left as its tasks, and the names of terms.
-use Rattle.std.specs.Prelude.{◌≡◌, ◌≤◌, ◌<◌, ℕ, ◌+◌, ◌*◌, List, [], ◌∷◌, ◌++◌, length, Some, decimal, codes, reverse, unsigned_abs, ⊤}
+use Rattle.std.specs.Prelude.{◌≡◌, ◌≤◌, ◌<◌, ℕ, ◌+◌, ◌*◌, List, [], ◌∷◌, ◌++◌, length, Some, decimal, reverse, unsigned_abs, ⊤}
 use Rattle.std.specs.List.{AllZip}
 use Rattle.sexpr.specs.Printing.{printed_symbol}
-use Rattle.pair_pool.specs.Trees.{Tree, cell}
-use Rattle.pair_pool.specs.Views.{Knows}
 use Rattle.sym_table.specs.Leaf.{Leaf, name_of}
 use Rattle.sym_table.specs.Table.{Table}
-use Rattle.term_model.specs.Terms.{Term, Terms, Bindings}
-use Rattle.term_pool.specs.StandsFor.{StandsForList, StandsForBindings}
+use Rattle.term_model.specs.Terms.{Term}
 use Rattle.term_pool.specs.Views.{TermsView, RefersTo}
 use Rattle.problem_text.specs.Scripts.{Named, Script}
 use Rattle.printed_proofs.specs.Parts.{Part, whole, arguments, pairs, body, close, bracket, naming, parts_text, parts_behind, GoesOn}
 use Rattle.printed_proofs.specs.Shared.{Plan, planned}
 use Rattle.term_printer.specs.Names.{AreGiven}
 use Rattle.term_printer.specs.declared.page.Page.{Page}
-use Rattle.term_printer.specs.declared.page.Task.{Task}
+use Rattle.term_walk.specs.Walks.{IsListOf, ArePairsOf}
+use Rattle.term_walk.specs.declared.tasks.Task.{Task}
 
 -- how a leaf is printed
 abbrev pub leaf_text : Leaf → List ℕ
 leaf_text (Leaf.numeral n) = decimal (unsigned_abs n)
 leaf_text l = printed_symbol (name_of l)
-
--- the reference is that of the list of these terms, and of these bindings
-pub record IsListOf (s : Table) (v : TermsView) (r : ℕ) (ts : Terms) : Type 0 where
-  pub tree : Tree
-  pub known : Knows v.pass r tree
-  pub stands : StandsForList s tree ts
-
-pub record IsSomeList (s : Table) (v : TermsView) (r : ℕ) : Type 0 where
-  pub terms : Terms
-  pub is : IsListOf s v r terms
-
-pub record ArePairsOf (s : Table) (v : TermsView) (r : ℕ) (bs : Bindings) : Type 0 where
-  pub tree : Tree
-  pub known : Knows v.pass r tree
-  pub stands : StandsForBindings s tree bs
-
-pub record AreSomePairs (s : Table) (v : TermsView) (r : ℕ) : Type 0 where
-  pub bindings : Bindings
-  pub are : ArePairsOf s v r bindings
 
 -- the term of the reference is to have this name
 pub record IsNamingOf (plan : Plan) (s : Table) (v : TermsView) (r : ℕ) (n : Named) : Type 0 where
@@ -52,8 +31,9 @@ IsTask plan s v (Task.Term r) (whole t) = RefersTo s v r t
 IsTask plan s v (Task.Arguments r) (arguments ts) = IsListOf s v r ts
 IsTask plan s v (Task.FirstBindings r) (pairs before bs) = (before ≡ []) × ArePairsOf s v r bs
 IsTask plan s v (Task.Bindings r) (pairs before bs) = (before ≡ 32 ∷ []) × ArePairsOf s v r bs
-IsTask plan s v (Task.Body r) (body t) = RefersTo s v r t
+IsTask plan s v (Task.Body list r) (body t) = RefersTo s v r t
 IsTask plan s v Task.Close (close t) = ⊤
+IsTask plan s v Task.End (close t) = ⊤
 IsTask plan s v Task.Close bracket = ⊤
 IsTask plan s v (Task.Naming r) (naming n) = IsNamingOf plan s v r n
 IsTask plan s v _ _ = ⊥
@@ -82,16 +62,6 @@ pub record IsSomeTask (s : Table) (v : TermsView) (task : Task) : Type 0 where
   pub plan : Plan
   pub part : Part
   pub is : IsTask plan s v task part
-
--- A let was begun whose bindings and body are the parts of this cell.
-pub record BeginsLet (v : TermsView) (old new : Page) (rest : ℕ) : Type 0 where
-  pub list : ℕ
-  pub of_body : ℕ
-  pub first : (a b : Tree) → Knows v.pass rest (cell a b) → Knows v.pass list a
-  pub second : (a b : Tree) → Knows v.pass rest (cell a b) → Knows v.pass of_body b
-  pub text : new.text.items ≡ old.text.items ++ codes "(let ("
-  pub left : new.tasks.items ≡ old.tasks.items ++ (Task.Close ∷ Task.Body of_body ∷ Task.FirstBindings list ∷ [])
-  pub names : new.names ≡ old.names
 
 -- The page comes to these bytes, and to this state behind them, when the parts that are left of it are printed.
 pub record ComesTo (plan : Plan) (s : Table) (v : TermsView) (page : Page) (bytes : List ℕ) (end : Script) : Type 0 where

@@ -10,29 +10,10 @@ ghost use Rattle.term_printer.specs.Names.{name_numbered};
 ghost use Rattle.term_printer.specs.Pages.{ComesTo, IsEmptied};
 
 use crate::names::Names;
-use crate::symbols::{push_leaf_symbol, push_name};
-use pair_pool::Ref;
+use crate::symbols::push_name;
 use std::alloc::{AllocError, Global};
 use sym_table::Symbols;
-
-/// A part of a term that is left to be printed.
-#[derive(Clone, Copy, Debug, PartialEq, Eq)]
-pub enum Task {
-    /// A term.
-    Term(Ref),
-    /// The arguments of an application, by the reference of their list: each behind a space.
-    Arguments(Ref),
-    /// The bindings of a let, by the reference of their list, with a space before each but the first one.
-    FirstBindings(Ref),
-    /// Further bindings of a let, by the reference of their list, with a space before each.
-    Bindings(Ref),
-    /// The body of a let, behind the bracket that closes its bindings.
-    Body(Ref),
-    /// A bracket that closes a list.
-    Close,
-    /// The name of a term, by its reference, behind the term: from then on the name is given.
-    Naming(Ref),
-}
+use term_walk::{Task, push_leaf_symbol};
 
 /// The text that is printed, the tasks that are left, the next one last, and the names of terms.
 #[derive(Drop)]

@@ -1,41 +1,10 @@
-//! Numbers and symbols.
-ghost use Rattle.std.specs.Prelude.{◌≡◌, ◌<◌, ◌++◌, decimal, length, IfOk, OnOk, string_bytes};
+//! The names that terms are given, as symbols.
+ghost use Rattle.std.specs.Prelude.{◌≡◌, ◌++◌, IfOk, OnOk, string_bytes};
 ghost use Rattle.sexpr.specs.Printing.{printed_symbol};
-ghost use Rattle.sym_table.specs.Leaf.{name_of};
-ghost use Rattle.sym_table.specs.Table.{LeafMeets};
 ghost use Rattle.term_printer.specs.Names.{name_numbered};
 
-use itoa::Buffer;
-use sexpr::print_symbol;
 use std::alloc::{AllocError, Global};
-use sym_table::Symbols;
-
-/// A number of 64 bits in base ten: its digits take no memory of their own.
-fn push_digits(number: u64, text: &mut Vec<u8>) -> Result<(), AllocError>
-    ensures { OnOk result (text.new.items ≡ text.old.items ++ decimal number) }
-{
-    let mut digits = Buffer::new();
-    text.extend_from_slice(digits.format(number).as_bytes())
-}
-
-/// A number in base ten.
-pub fn push_number(alloc: Global, number: u128, text: &mut Vec<u8>) -> Result<(), AllocError>
-    ensures { OnOk result (text.new.items ≡ text.old.items ++ decimal number) }
-{
-    if number <= u64::MAX as u128 {
-        return push_digits(number as u64, text);
-    }
-    let digits = format!(in alloc; "{number}")?;
-    text.extend_from_slice(digits.as_bytes())
-}
-
-/// The symbol of a leaf's name.
-pub fn push_leaf_symbol(symbols: &Symbols, leaf: u32, text: &mut Vec<u8>) -> Result<(), AllocError>
-    requires { leaf < length symbols.now.leaves }
-    ensures { OnOk result (LeafMeets symbols.now leaf (λ l. text.new.items ≡ text.old.items ++ printed_symbol (name_of l))) }
-{
-    print_symbol(symbols.name(leaf), text)
-}
+use term_walk::push_digits;
 
 /// The name of a number: `@c` and the number.
 pub fn number_name(alloc: Global, number: u64) -> Result<String, AllocError>

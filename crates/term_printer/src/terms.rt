@@ -1,28 +1,29 @@
 //! One task of a term.
-ghost use Rattle.std.specs.Prelude.{◌≡◌, ◌<◌, ◌≤◌, ◌^◌, ◌++◌, ℕ, List, [], ◌∷◌, length, true, false, OnOk, IfOk};
+ghost use Rattle.std.specs.Prelude.{◌≡◌, ◌<◌, ◌++◌, ℕ, List, [], ◌∷◌, codes, length, true, false, OnOk, IfOk};
 ghost use Rattle.sexpr.specs.Printed.{printed};
 ghost use Rattle.sexpr.specs.Printing.{printed_symbol};
 ghost use Rattle.sym_table.specs.Leaf.{name_of};
 ghost use Rattle.sym_table.specs.Table.{Table, LeafMeets};
 ghost use Rattle.term_model.specs.Terms.{Term, Terms as ModelTerms, Bindings};
-ghost use Rattle.term_pool.specs.Views.{TermsView, IsTerm, IsKnownCell, RefersTo};
+ghost use Rattle.term_pool.specs.Views.{TermsView, IsTerm, RefersTo};
 ghost use Rattle.problem_text.specs.Scripts.{Named, Script};
 ghost use Rattle.printed_proofs.specs.Parts.{Part, whole, arguments, pairs, naming};
 ghost use Rattle.printed_proofs.specs.Shared.{Plan, shared_item, behind_term};
-ghost use Rattle.term_printer.specs.declared.page.Task.TheVariants as Task;
+ghost use Rattle.term_walk.specs.declared.tasks.Task.TheVariants as Task;
+ghost use Rattle.term_walk.specs.Walks.{IsListOf, IsSomeList, ArePairsOf, AreSomePairs, IsAppliedAt};
 ghost use Rattle.term_printer.specs.Names.{AreGiven};
-ghost use Rattle.term_printer.specs.Pages.{leaf_text, IsListOf, IsSomeList, ArePairsOf, AreSomePairs, BeginsLet, IsNamingOf, IsTask};
+ghost use Rattle.term_printer.specs.Pages.{leaf_text, IsNamingOf, IsTask};
 ghost use Rattle.term_printer.specs.Pages.{IsSomeTask, Performs, PerformsFor, ComesTo, ComesToSome, IsFurther};
 
-use crate::page::{Page, Task};
-use crate::symbols::{push_leaf_symbol, push_number};
+use crate::page::Page;
 use pair_pool::Ref;
 use std::alloc::{AllocError, Global};
 use sym_table::{Kind, Symbols};
 use term_pool::Terms;
-
-/// The leaf of the head of a let.
-const LET: u32 = 1;
+use term_walk::{
+    Task, Top, begin_application, begin_let, next_argument, next_binding, push_leaf_symbol,
+    push_number, top_of,
+};
 
 /// The symbol or the number of a leaf.
 fn print_leaf(
@@ -54,76 +55,56 @@ fn print_term(
     ensures performs { OnOk result ((t : Term) → RefersTo symbols.now terms.old r t → PerformsFor symbols.now terms.old page.old page.new (whole t)) }
     ensures same { terms.new ≡ terms.old }
 {
-    terms.one_to_one();
-    terms.parts_of_trees();
-    symbols.leaves_differ();
-    if r.is_leaf() {
-        let leaf = r.number();
-        return print_leaf(alloc, symbols, page, leaf);
+    match top_of(symbols, terms, r) {
+        Top::Leaf(leaf) => print_leaf(alloc, symbols, page, leaf),
+        Top::Application(head, list) => print_application(symbols, page, r, head, list),
+        Top::Let(list, body) => print_let(page, list, body),
     }
-    print_cell(symbols, terms, page, r)
 }
 
-/// A term that is a cell: the beginning of it, or its name where that is given.
-fn print_cell(
+/// An application, by its head and the list of its arguments: the beginning of it, or its name where that is given.
+fn print_application(
     symbols: &Symbols,
-    terms: &mut Terms<'_>,
     page: &mut Page,
     r: Ref,
+    head: u32,
+    list: Ref,
 ) -> Result<(), AllocError>
-    requires term { IsTerm symbols.now terms.old r }
-    requires cell { 2 ^ 30 ≤ r }
-    ensures performs { OnOk result ((t : Term) → RefersTo symbols.now terms.old r t → PerformsFor symbols.now terms.old page.old page.new (whole t)) }
-    ensures same { terms.new ≡ terms.old }
+    requires { head < length symbols.now.leaves }
+    ensures { OnOk result ((v : TermsView) (t : Term) → IsAppliedAt symbols.now v head list t → RefersTo symbols.now v r t →
+        PerformsFor symbols.now v page.old page.new (whole t)) }
 {
-    terms.one_to_one();
-    terms.parts_of_trees();
-    symbols.leaves_differ();
-    let (head, rest) = terms.cell_parts(r);
-    let leaf = head.number();
-    if leaf == LET {
-        return print_let(terms, page, rest);
-    }
     let Some(entry) = page.names.entry(r) else {
-        return begin_application(symbols, page, leaf, rest);
+        return print_head(symbols, page, head, list);
     };
     if entry.is_given {
         return page.put_name(entry.number);
     }
     page.then(Task::Naming(r))?;
     page.put(b"(! ")?;
-    begin_application(symbols, page, leaf, rest)
+    print_head(symbols, page, head, list)
 }
 
 /// The beginning of an application: its bracket and its head, and its arguments as a task.
-fn begin_application(
-    symbols: &Symbols,
-    page: &mut Page,
-    leaf: u32,
-    rest: Ref,
-) -> Result<(), AllocError>
-    requires { leaf < length symbols.now.leaves }
-    ensures text { OnOk result (LeafMeets symbols.now leaf (λ l.
+fn print_head(symbols: &Symbols, page: &mut Page, head: u32, list: Ref) -> Result<(), AllocError>
+    requires { head < length symbols.now.leaves }
+    ensures text { OnOk result (LeafMeets symbols.now head (λ l.
         page.new.text.items ≡ page.old.text.items ++ (40 ∷ printed_symbol (name_of l)))) }
-    ensures tasks { OnOk result (page.new.tasks.items ≡ page.old.tasks.items ++ (Task.Close ∷ Task.Arguments rest ∷ [])) }
+    ensures tasks { OnOk result (page.new.tasks.items ≡ page.old.tasks.items ++ (Task.Close ∷ Task.Arguments list ∷ [])) }
     ensures names { page.new.names ≡ page.old.names }
 {
-    page.then(Task::Close)?;
-    page.then(Task::Arguments(rest))?;
+    begin_application(&mut page.tasks, list)?;
     page.put(b"(")?;
-    page.put_symbol(symbols, leaf)
+    page.put_symbol(symbols, head)
 }
 
-/// The beginning of a let, by what stands behind its head.
-fn print_let(terms: &mut Terms<'_>, page: &mut Page, rest: Ref) -> Result<(), AllocError>
-    requires { IsKnownCell terms.old.pass rest }
-    ensures performs { OnOk result (BeginsLet terms.old page.old page.new rest) }
-    ensures same { terms.new ≡ terms.old }
+/// The beginning of a let, by the list of its bindings and its body.
+fn print_let(page: &mut Page, list: Ref, body: Ref) -> Result<(), AllocError>
+    ensures text { OnOk result (page.new.text.items ≡ page.old.text.items ++ codes "(let (") }
+    ensures tasks { OnOk result (page.new.tasks.items ≡ page.old.tasks.items ++ (Task.End ∷ Task.Body list body ∷ Task.FirstBindings list ∷ [])) }
+    ensures names { page.new.names ≡ page.old.names }
 {
-    let (list, body) = terms.cell_parts(rest);
-    page.then(Task::Close)?;
-    page.then(Task::Body(body))?;
-    page.then(Task::FirstBindings(list))?;
+    begin_let(&mut page.tasks, list, body)?;
     page.put(b"(let (")
 }
 
@@ -139,14 +120,10 @@ fn print_arguments(
         PerformsFor symbols.now terms.old page.old page.new (arguments ts)) }
     ensures same { terms.new ≡ terms.old }
 {
-    terms.one_to_one();
-    terms.parts_of_trees();
-    if list.is_leaf() {
+    let found = next_argument(symbols, terms, &mut page.tasks, list)?;
+    if !found {
         return Ok(());
     }
-    let (first, rest) = terms.cell_parts(list);
-    page.then(Task::Arguments(rest))?;
-    page.then(Task::Term(first))?;
     page.put(b" ")
 }
 
@@ -163,19 +140,12 @@ fn print_bindings(
         PerformsFor symbols.now terms.old page.old page.new (pairs before.now bs)) }
     ensures same { terms.new ≡ terms.old }
 {
-    terms.one_to_one();
-    terms.parts_of_trees();
-    if list.is_leaf() {
+    let Some(variable) = next_binding(symbols, terms, &mut page.tasks, list)? else {
         return Ok(());
-    }
-    let (pair, rest) = terms.cell_parts(list);
-    let (variable, value) = terms.cell_parts(pair);
-    page.then(Task::Bindings(rest))?;
-    page.then(Task::Close)?;
-    page.then(Task::Term(value))?;
+    };
     page.put(before)?;
     page.put(b"(")?;
-    page.put_symbol(symbols, variable.number())?;
+    page.put_symbol(symbols, variable)?;
     page.put(b" ")
 }
 
@@ -236,8 +206,10 @@ pub(crate) fn perform(
         Task::Arguments(list) => print_arguments(symbols, terms, page, list),
         Task::FirstBindings(list) => print_bindings(b"", symbols, terms, page, list),
         Task::Bindings(list) => print_bindings(b" ", symbols, terms, page, list),
-        Task::Body(body) => print_body(page, body),
+        Task::Body(_, body) => print_body(page, body),
         Task::Close => page.put(b")"),
+        Task::End => page.put(b")"),
+        Task::Binds(_) => Ok(()),
         Task::Naming(r) => print_naming(symbols, terms, page, r),
     }
 }

@@ -1,36 +1,16 @@
-use Rattle.std.proofs.Common.{◌∙◌, ◌^◌, ap}
+use Rattle.std.proofs.Common.{refl}
 use Rattle.std.proofs.lemmas.Result.{on_ok_weaker}
-use Rattle.hole_questions.specs.States.{after_leaf, state_of, bind}
-use Rattle.hole_questions.proofs.Pieces.{is_low, is_high}
-use Rattle.hole_questions.proofs.Cells.{known_cell, no_binds, first_pair, pair_known, bind_performs}
+use Rattle.hole_questions.proofs.Performed.{no_binds, bind_performs}
 use Rattle.hole_questions.proofs.walk.write_binds.Goals as goal
 
-pub cell_parts-pair-requires : goal.cell_parts-pair-requires
-cell_parts-pair-requires c =
-    known_cell c.args.terms.now c.one_to_one.ensures c.parts_of_trees.ensures c.args.list c.requires.are.tree c.requires.are.known
-    (is_high c.is_leaf.result c.args.list (2 ^ 30) c.if-is_leaf.false c.is_leaf.ensures.1)
-
-pub cell_parts-variable-requires : goal.cell_parts-variable-requires
-cell_parts-variable-requires c =
-    let p = first_pair c.args.terms.now c.one_to_one.ensures c.parts_of_trees.ensures c.args.symbols.now c.args.list c.cell_parts-pair.result.0
-    c.cell_parts-pair.result.1 c.requires.bindings (is_high c.is_leaf.result c.args.list (2 ^ 30) c.if-is_leaf.false c.is_leaf.ensures.1)
-    c.requires.are c.cell_parts-pair.ensures.first
-    c.cell_parts-pair.ensures.second in
-    rw c.cell_parts-pair.ensures.same (pair_known c.args.terms.now c.one_to_one.ensures c.parts_of_trees.ensures c.args.symbols.now c.args.list
-    c.cell_parts-pair.result.0 c.cell_parts-pair.result.1 c.requires.bindings p)
-
-pub returns-then-is_leaf-clause-performs : goal.returns-then-is_leaf-clause-performs
-returns-then-is_leaf-clause-performs c = λ bs h.
-    no_binds c.args.terms.now c.one_to_one.ensures c.parts_of_trees.ensures c.args.symbols.now c.args.tasks.now.items c.args.writer.now c.args.list
-    bs (is_low c.is_leaf.result c.args.list (2 ^ 30) c.if-is_leaf.true c.is_leaf.ensures.0) h
+pub returns-in_default-clause-performs : goal.returns-in_default-clause-performs
+returns-in_default-clause-performs c = λ bs h.
+    no_binds c.args.symbols.now c.leaves_differ.ensures.table c.args.terms.now c.args.tasks.now.items c.args.tasks.now.items c.args.writer.now
+    c.args.writer.now bs (c.in_default.ensures.first bs h) refl refl
 
 pub returns-clause-performs : goal.returns-clause-performs
 returns-clause-performs c =
     on_ok_weaker c.bind.result (λ bound bs h.
-    let p = first_pair c.args.terms.now c.one_to_one.ensures c.parts_of_trees.ensures c.args.symbols.now c.args.list c.cell_parts-pair.result.0
-    c.cell_parts-pair.result.1 bs (is_high c.is_leaf.result c.args.list (2 ^ 30) c.if-is_leaf.false c.is_leaf.ensures.1) h c.cell_parts-pair.ensures.first
-    c.cell_parts-pair.ensures.second in
-    bind_performs c.args.terms.now c.one_to_one.ensures c.parts_of_trees.ensures c.args.symbols.now c.leaves_differ.ensures.table
-    c.args.tasks.now.items c.push.new.self.items c.args.writer.now c.bind.new.self c.args.list c.cell_parts-pair.result.0 c.cell_parts-pair.result.1
-    c.cell_parts-variable.result.0 bs p (rw c.cell_parts-pair.ensures.same at c.cell_parts-variable.ensures.first)
-    (bound ∙ ap (λ k. after_leaf (state_of c.args.writer.now) (bind k)) c.number.ensures.number) c.in_ok-push.ensures.items) c.bind.ensures
+    bind_performs c.args.symbols.now c.leaves_differ.ensures.table c.args.terms.now c.args.tasks.now.items c.push.new.self.items c.args.writer.now
+    c.bind.new.self c.in-Some.binding.variable c.in-Some.binding.value c.in-Some.binding.rest bs (c.in-Some.ensures.first bs h) bound
+    c.in_ok-push.ensures.items) c.bind.ensures

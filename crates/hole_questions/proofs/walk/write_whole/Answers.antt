@@ -1,7 +1,7 @@
 use Rattle.std.proofs.Common.{◌∙◌, refl, ap, sym, subst, arith, [], ◌∷◌, ◌++◌, rules}
 use Rattle.hole_questions.specs.Pieces.{term_pieces}
 use Rattle.hole_questions.specs.Walks.{ComesTo, IsSomeTask, IsTask, Part, Performs}
-use Rattle.hole_questions.specs.declared.walk.Task.{Task}
+use Rattle.term_walk.specs.declared.tasks.Task.{Task}
 use Rattle.hole_questions.proofs.Turns.{started, last_task, turn, finished, ended}
 use Rattle.hole_questions.proofs.walk.write_whole.Goals as goal
 

@@ -1,6 +1,6 @@
 use Rattle.std.proofs.Common.{◌∙◌, ◌∷◌, [], ap, ◌++◌}
 use Rattle.std.proofs.lemmas.Result.{on_ok_weaker}
-use Rattle.term_printer.specs.declared.page.Task.{Task}
+use Rattle.term_walk.specs.declared.tasks.Task.{Task}
 use Rattle.term_printer.proofs.Turns.{begun}
 use Rattle.term_printer.proofs.terms.begin_term.Goals as goal
 

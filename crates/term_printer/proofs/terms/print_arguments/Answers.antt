@@ -1,27 +1,20 @@
-use Rattle.std.proofs.Common.{◌∙◌, ◌^◌, ◌++◌, ◌∷◌, [], ap, refl}
+use Rattle.std.proofs.Common.{refl, sym, subst}
 use Rattle.std.proofs.lemmas.Result.{on_ok_weaker}
-use Rattle.term_printer.proofs.Pieces.{is_low, is_high, two_more}
-use Rattle.term_printer.proofs.TermCells.{known_cell, no_arguments, next_argument}
+use Rattle.term_walk.specs.Walks.{TakesArgument, PutsArgument}
+use Rattle.term_printer.proofs.TermParts.{no_arguments, next_performs}
 use Rattle.term_printer.proofs.terms.print_arguments.Goals as goal
 
-pub cell_parts-first-requires : goal.cell_parts-first-requires
-cell_parts-first-requires c =
-    known_cell c.args.terms.now c.one_to_one.ensures c.parts_of_trees.ensures c.args.list c.requires.is.tree c.requires.is.known
-    (is_high c.is_leaf.result c.args.list (2 ^ 30) c.if-is_leaf.false c.is_leaf.ensures.1)
-
-pub returns-then-is_leaf-clause-performs : goal.returns-then-is_leaf-clause-performs
-returns-then-is_leaf-clause-performs c = λ ts h plan.
-    no_arguments c.args.terms.now c.one_to_one.ensures c.parts_of_trees.ensures plan c.args.symbols.now c.args.page.now c.args.page.now c.args.list ts
-    (is_low c.is_leaf.result c.args.list (2 ^ 30) c.if-is_leaf.true c.is_leaf.ensures.0) h refl refl refl
+pub returns-then-not-found-clause-performs : goal.returns-then-not-found-clause-performs
+returns-then-not-found-clause-performs c = λ ts h plan.
+    let takes = subst (λ f. TakesArgument f c.args.symbols.now c.args.terms.now c.args.page.now.tasks.items c.next_argument.new.tasks.items ts)
+    c.if-not-found.true (c.in_ok-found.ensures.next ts h) in
+    no_arguments plan c.args.symbols.now c.args.terms.now c.args.page.now (record c.args.page.now { tasks = c.next_argument.new.tasks }) ts takes.0
+    refl takes.1 refl
 
 pub returns-clause-performs : goal.returns-clause-performs
 returns-clause-performs c =
     on_ok_weaker c.put.result (λ text ts h plan.
-    next_argument c.args.terms.now c.one_to_one.ensures c.parts_of_trees.ensures plan c.args.symbols.now c.args.page.now c.put.new.self c.args.list
-    c.cell_parts-first.result.0 c.cell_parts-first.result.1 ts
-    (is_high c.is_leaf.result c.args.list (2 ^ 30) c.if-is_leaf.false c.is_leaf.ensures.1) h c.cell_parts-first.ensures.first
-    c.cell_parts-first.ensures.second
-    (text ∙ ap (λ b. b ++ 32 ∷ []) (c.in_ok-then-2.ensures.text ∙ c.in_ok-then.ensures.text))
-    (two_more c.args.page.now.tasks.items c.then.new.self.tasks.items c.then-2.new.self.tasks.items c.put.new.self.tasks.items _ _
-    c.in_ok-then.ensures.tasks c.in_ok-then-2.ensures.tasks c.put.ensures.tasks)
-    (c.put.ensures.names ∙ (c.in_ok-then-2.ensures.names ∙ c.in_ok-then.ensures.names))) c.put.ensures.text
+    next_performs plan c.args.symbols.now c.args.terms.now c.args.page.now c.put.new.self ts
+    (subst (λ ks. PutsArgument c.args.symbols.now c.args.terms.now c.args.page.now.tasks.items ks ts) (sym c.put.ensures.tasks)
+    (subst (λ f. TakesArgument f c.args.symbols.now c.args.terms.now c.args.page.now.tasks.items c.next_argument.new.tasks.items ts)
+    c.if-not-found.false (c.in_ok-found.ensures.next ts h))) text c.put.ensures.names) c.put.ensures.text

@@ -1,25 +1,27 @@
-use Rattle.std.proofs.Common.{◌≡◌, ◌^◌, ◌++◌, sym, subst}
+use Rattle.std.proofs.Common.{◌≡◌, ◌++◌, ◌∷◌, [], codes}
 use Rattle.std.proofs.lemmas.Result.{on_ok_weaker}
-use Rattle.sym_table.specs.Table.{IsLeaf}
+use Rattle.term_walk.specs.declared.tasks.Task.{Task}
 use Rattle.term_printer.specs.Pages.{leaf_text}
-use Rattle.term_printer.proofs.Pieces.{is_low, is_high, of_leaf, leaf_within}
-use Rattle.term_printer.proofs.TermCells.{has_leaf, leaf_performs}
+use Rattle.term_printer.proofs.Pieces.{on_ok_both, of_leaf}
+use Rattle.term_printer.proofs.TermParts.{leaf_performs, let_performs}
 use Rattle.term_printer.proofs.terms.print_term.Goals as goal
 
-pub print_leaf-requires : goal.print_leaf-requires
-print_leaf-requires c =
-    let h = has_leaf c.args.terms.now c.one_to_one.ensures c.parts_of_trees.ensures c.args.symbols.now c.args.r c.requires.means c.requires.refers
-    (is_low c.is_leaf.result c.args.r (2 ^ 30) c.if-is_leaf.true c.is_leaf.ensures.0) in
-    rw c.number-leaf.ensures.number (leaf_within c.args.symbols.now c.args.r h.stands_for h.is)
-
-pub print_cell-requires-clause-cell : goal.print_cell-requires-clause-cell
-print_cell-requires-clause-cell c = is_high c.is_leaf.result c.args.r (2 ^ 30) c.if-is_leaf.false c.is_leaf.ensures.1
-
-pub returns-then-is_leaf-clause-performs : goal.returns-then-is_leaf-clause-performs
-returns-then-is_leaf-clause-performs c =
+pub returns-in-Leaf-clause-performs : goal.returns-in-Leaf-clause-performs
+returns-in-Leaf-clause-performs c =
     on_ok_weaker c.print_leaf.result (λ meets t refers plan.
-    leaf_performs c.args.terms.now c.one_to_one.ensures c.parts_of_trees.ensures plan c.args.symbols.now c.args.page.now c.print_leaf.new.page c.args.r
-    (is_low c.is_leaf.result c.args.r (2 ^ 30) c.if-is_leaf.true c.is_leaf.ensures.0)
-    (λ l there. of_leaf c.args.symbols.now c.number-leaf.result l (λ l. c.print_leaf.new.page.text.items ≡ c.args.page.now.text.items ++ leaf_text l)
-    meets (subst (λ k. IsLeaf c.args.symbols.now k l) (sym c.number-leaf.ensures.number) there))
-    c.print_leaf.ensures.tasks c.print_leaf.ensures.names t refers) c.print_leaf.ensures.text
+    let h = c.in-Leaf.ensures.top t refers in
+    leaf_performs plan c.args.symbols.now c.args.terms.now c.args.page.now c.print_leaf.new.page c.in-Leaf.leaf c.args.r h.1
+    (λ l there. of_leaf c.args.symbols.now c.in-Leaf.leaf l (λ l. c.print_leaf.new.page.text.items ≡ c.args.page.now.text.items ++ leaf_text l)
+    meets there) c.print_leaf.ensures.tasks c.print_leaf.ensures.names t refers h.2) c.print_leaf.ensures.text
+
+pub returns-in-Application-clause-performs : goal.returns-in-Application-clause-performs
+returns-in-Application-clause-performs c =
+    on_ok_weaker c.print_application.result (λ performs t refers. performs c.args.terms.now t (c.in-Application.ensures.top t refers) refers)
+    c.print_application.ensures
+
+pub returns-in-Let-clause-performs : goal.returns-in-Let-clause-performs
+returns-in-Let-clause-performs c =
+    on_ok_weaker c.print_let.result (λ both t refers plan.
+    let_performs plan c.args.symbols.now c.args.terms.now c.args.page.now c.print_let.new.page c.in-Let.list c.in-Let.body t
+    (c.in-Let.ensures.top t refers) both.0 both.1 c.print_let.ensures.names)
+    (on_ok_both _ _ c.print_let.result c.print_let.ensures.text c.print_let.ensures.tasks)
