@@ -16,6 +16,7 @@ ghost use Rattle.term_pool.specs.Placing.{LacksCellOf, PlacesCellsOf};
 ghost use Rattle.term_pool.specs.Views.{KeepsTerms};
 
 use crate::choosing::{is_denial, is_not_strict, is_resolution};
+use crate::trimming::trimmed;
 use elaborator::Elaborate;
 use equality_blocks::made_terms_grow;
 use equality_steps::Site;
@@ -201,7 +202,10 @@ impl<'a> Elaborate for Replacements<'a> {
         terms: &mut Terms<'_>,
     ) -> Result<Vec<Added>, RuleStop> {
         if is_not_strict(self.strict, i) {
-            replaced(alloc, self, proof, i, kept, terms)
+            match replaced(alloc, self, proof, i, kept, terms) {
+                Ok(block) => Ok(trimmed(block)),
+                Err(stop) => Err(stop),
+            }
         } else {
             Ok(Vec::new(alloc))
         }
