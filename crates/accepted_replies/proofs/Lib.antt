@@ -1,0 +1,11 @@
+mod NoNames
+mod UnitResolution
+mod ReplyLines
+mod ReplyStatuses
+mod ReplyForm
+mod ReplyReading
+mod InferenceRules
+mod OwnNames
+mod ReadForms
+mod ReadPrintable
+mod ReadAssertions

@@ -1,0 +1,3 @@
+pub mod Refutations
+pub mod Replies
+pub mod Numbering

@@ -1,0 +1,2 @@
+pub mod SymbolTrees
+pub mod Definitions
