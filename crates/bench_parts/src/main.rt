@@ -4,6 +4,7 @@
 #![tactic(auto)]
 
 mod commands;
+mod filling;
 mod pool;
 mod printing;
 #[cfg(test)]
@@ -21,7 +22,21 @@ use std::rt::{Clock, Files};
 
 fn main(rt: HostRuntime) -> Result<()> {
     let words: Vec<String> = env::args(&rt)?.skip(1).collect(rt.alloc())?;
+    if words.first().is_some_and(|topic| topic.as_str() == "fill") {
+        return match filling::made(&rt, words.as_slice())? {
+            Some(mut outside) => ended(filling::run(&rt, &mut outside)),
+            None => usage(),
+        };
+    }
     run(&rt, words.as_slice())
+}
+
+// A status but 0 is told.
+fn ended(status: u8) -> Result<()> {
+    if status == 0 {
+        return Ok(());
+    }
+    bail!("status {status}")
 }
 
 // The topic of the first word. The words are borrowed here: each of the many ways out of a function that owns them would
@@ -45,7 +60,7 @@ fn run(rt: &HostRuntime, words: &[String]) -> Result<()> {
 
 fn usage() -> Result<()> {
     bail!(
-        "usage: bench_parts (pool | terms | substitution | commands | symbols | tokens | propagation | print) .."
+        "usage: bench_parts (pool | terms | substitution | commands | symbols | tokens | propagation | print | fill) .."
     )
 }
 

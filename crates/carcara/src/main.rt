@@ -1,18 +1,25 @@
-//! The program `carcara`: the top call on the real files and the standard output.
+//! The program `carcara`: the top call on the real files and the standard output, without fillers of holes.
 #![tactic(auto)]
 
 ghost use Rattle.std.specs.Prelude.{◌≡◌, IfOk, IfErr};
 ghost use Rattle.std.specs.Process.{exit_status};
 
-use carcara_cli::carcara;
 use file_ports::{OpenGate, RealFolder, RealSink};
+use filling_cli::carcara_with;
+use hole_fillers::Bench;
 use std::alloc::AllocError;
 use std::process::ExitCode;
 use std::thread::Threads;
 use std::{env, io};
 
 #[cfg(test)]
+mod fill_calls;
+#[cfg(test)]
+mod filling_tests;
+#[cfg(test)]
 mod pool_tests;
+#[cfg(test)]
+mod question_tests;
 #[cfg(test)]
 mod resolution_tests;
 #[cfg(test)]
@@ -30,7 +37,8 @@ struct Outside {
 }
 
 fn main(rt: HostRuntime) -> ExitCode {
-    ended(run(&rt, made_outside(&rt)))
+    let mut nobody = Bench::new(Vec::new(rt.alloc()));
+    ended(run(&rt, made_outside(&rt), &mut nobody))
 }
 
 /// How the program ends: with the status that the top call returned, or with that of out of memory where the top call was not
@@ -42,18 +50,20 @@ fn ended(found: Result<u8, AllocError>) -> ExitCode
     ExitCode::from(found.unwrap_or(NO_MEMORY))
 }
 
-/// Runs the top call on what the program is run on.
+/// Runs the top call on what the program is run on, with fillers of holes.
 fn run<R: AllocGlobal + Threads + Sync>(
     rt: &R,
     outside: Result<Outside, AllocError>,
+    bench: &mut Bench,
 ) -> Result<u8, AllocError> {
     let mut outside = outside?;
-    Ok(carcara(
+    Ok(carcara_with(
         rt,
         &outside.words,
         &mut outside.folder,
         &mut outside.out,
         &OpenGate,
+        bench,
     ))
 }
 

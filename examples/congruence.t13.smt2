@@ -1,0 +1,2 @@
+(assert (not (= (not true) false)))
+(check-sat)
