@@ -1,4 +1,4 @@
--- Cited by crates above. What all items of a list have, each has that is there.
+-- Private. What all items of a list have, each has that is there.
 use Rattle.std.proofs.Common.{List, [], ◌∷◌, inl, inr, subst}
 use Rattle.std.specs.List.{AllByRecursion, Contains}
 use Rattle.term_model.proofs.Lists.{contains_cases, contains_none}
