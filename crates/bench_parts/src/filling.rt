@@ -9,13 +9,12 @@ use std::alloc::{AllocError, Global};
 use std::fs;
 use std::thread::Threads;
 
-/// What the top call is made on.
+/// What the top call is made on, beside fillers.
 #[derive(Drop)]
 pub(crate) struct Outside {
     words: Vec<String>,
     folder: RealFolder<HostRuntime>,
     out: RealSink<HostRuntime>,
-    bench: Bench,
 }
 
 // The same reply so many times.
@@ -27,8 +26,8 @@ fn replies(alloc: Global, reply: &[u8], count: u32) -> Result<Vec<Option<Vec<u8>
     Ok(replies)
 }
 
-/// The words `fill PROOF PROBLEM`, and one filler with the replies.
-pub(crate) fn made(rt: &HostRuntime, words: &[String]) -> Result<Option<Outside>> {
+/// The words `fill PROOF PROBLEM`, and a filler with the replies.
+pub(crate) fn made(rt: &HostRuntime, words: &[String]) -> Result<Option<(Outside, ScriptFiller)>> {
     let [_, proof, problem, reply, count] = words else {
         return Ok(None);
     };
@@ -36,28 +35,32 @@ pub(crate) fn made(rt: &HostRuntime, words: &[String]) -> Result<Option<Outside>
     let count = count.parse::<u32>()?;
     let reply = fs::read(rt, reply.as_str())?;
     let script = ScriptFiller::new(u64::from(count), replies(alloc, &reply, count)?);
-    let mut fillers: Vec<Box<dyn Filler>> = Vec::new(alloc);
-    fillers.push(Box::new(alloc, script)?)?;
     let mut words = Vec::new(alloc);
     words.push(String::from_str(alloc, "fill")?)?;
     words.push(proof.clone()?)?;
     words.push(problem.clone()?)?;
-    Ok(Some(Outside {
+    let outside = Outside {
         words,
         folder: RealFolder::new(rt.clone()?, alloc),
         out: RealSink::new(rt.clone()?),
-        bench: Bench::new(fillers),
-    }))
+    };
+    Ok(Some((outside, script)))
 }
 
-/// Fills them. The status is that of the top call.
-pub(crate) fn run<R: AllocGlobal + Threads + Sync>(rt: &R, outside: &mut Outside) -> u8 {
-    carcara_with(
+/// Fills them by this filler alone. The status is that of the top call.
+pub(crate) fn run<R: AllocGlobal + Threads + Sync>(
+    rt: &R,
+    outside: &mut Outside,
+    script: ScriptFiller,
+) -> Result<u8, AllocError> {
+    let mut fillers: Vec<Box<dyn Filler>> = Vec::new(rt.alloc());
+    fillers.push(Box::new(rt.alloc(), script)?)?;
+    Ok(carcara_with(
         rt,
         &outside.words,
         &mut outside.folder,
         &mut outside.out,
         &OpenGate,
-        &mut outside.bench,
-    )
+        &mut Bench::new(fillers),
+    ))
 }

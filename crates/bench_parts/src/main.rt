@@ -24,7 +24,7 @@ fn main(rt: HostRuntime) -> Result<()> {
     let words: Vec<String> = env::args(&rt)?.skip(1).collect(rt.alloc())?;
     if words.first().is_some_and(|topic| topic.as_str() == "fill") {
         return match filling::made(&rt, words.as_slice())? {
-            Some(mut outside) => ended(filling::run(&rt, &mut outside)),
+            Some((mut outside, script)) => ended(filling::run(&rt, &mut outside, script)?),
             None => usage(),
         };
     }
