@@ -9,3 +9,4 @@ mod OwnNames
 mod ReadForms
 mod ReadPrintable
 mod ReadAssertions
+mod ReplyReferences

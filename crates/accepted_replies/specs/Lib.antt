@@ -1,3 +1,4 @@
 pub mod Refutations
 pub mod Replies
 pub mod Numbering
+pub mod Texts

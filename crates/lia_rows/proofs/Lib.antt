@@ -1,2 +1,9 @@
 mod Steps
 mod Assertions
+mod Lists
+mod ColumnLemmas
+mod FormLemmas
+mod RowLemmas
+mod Combining
+mod UsedLemmas
+mod Reading

@@ -1,14 +1,13 @@
 -- A plain combination of assertions meets la_generic, and its numbers are not too wide.
-use Rattle.std.proofs.Common.{◌≡◌, ◌≢◌, inl, inr, ◌≤◌, ◌<◌, ◌^◌, ℕ, zero, suc, ◌+◌, ◌*◌, ℤ, pos, negsuc, ◌+ℤ◌, ◌*ℤ◌, ◌≤ℤ◌, ◌<ℤ◌, max, unsigned_abs}
-use Rattle.std.proofs.Common.{List, [], ◌∷◌, map, length, All, Option, Some, refl, sym, ap, subst, ◌∙◌, arith}
+use Rattle.std.proofs.Common.{◌≡◌, ◌≢◌, ◌⊎◌, inl, inr, ◌≤◌, ◌<◌, ◌^◌, ℕ, zero, suc, ◌+◌, ◌*◌, ◌/◌, ℤ, pos, negsuc, ◌+ℤ◌, ◌*ℤ◌, ◌≤ℤ◌, ◌<ℤ◌, max, unsigned_abs, List, [], ◌∷◌, map, length, All, Option, Some, None, refl, sym, ap, subst, ◌∙◌, arith}
 use Rattle.std.specs.List.{AllZip}
 use Rattle.std.proofs.Math.IntN.{*ℤ_comm, suc_ℤ-*ℤ, zero-*ℤ}
 use Rattle.std.proofs.Math.Nat.{mul-le-mul, mul-le-mul_right}
 use Rattle.std.proofs.lemmas.Int.{ints, unsigned_abs-mul}
 use Rattle.std.proofs.lemmas.List.Elements.{All-head, All-tail, All-cons, All-nil, All-map, All-weaker}
 use Rattle.term_model.specs.Terms.{Term, not_of}
-use Rattle.rule_model.specs.Arith.{Relation, exceeds, reaches, equals, Comparison, CoefficientLine, AreLines, Divides, IsMultipleOfAll, IsLeastMultiple}
-use Rattle.rule_model.specs.Arith.{signed_by, factor, scaled, IsWhole, IsScaledBound, added_coefficient, IsAddedBound, denial}
+use Rattle.rule_model.specs.Arith.{Relation, exceeds, reaches, equals, Comparison, CoefficientLine, IsEquation, AreLines, Divides, IsMultipleOfAll, IsLeastMultiple}
+use Rattle.rule_model.specs.Arith.{signed_by, factor, scaled, IsWhole, IsRounded, IsRoundedUp, IsScaledBound, added_coefficient, IsAddedBound, bound_in, coefficient_in, denial}
 use Rattle.rule_model.specs.Arith.{IsLinearStep, MeetsLaGeneric, IsWideLaGeneric, line_weight, lines_weight, limit}
 use Rattle.rule_model.specs.Conditions.{MeetsRule, Met, IsTooWideBy, IsTooWide}
 use Rattle.rule_model.specs.Judged.{Judged}
@@ -140,8 +139,7 @@ module _ (m : ℤ) (row : Row) (sign : MayMultiply row m) where
 nothing_added : (b rest : ℤ) → rest ≡ pos 0 *ℤ b +ℤ rest
 nothing_added b rest = omega (arith, ints, zero-*ℤ b)
 
-added_is : (rows : List Row) (ms : List ℤ) (u : Term) → AllZip MayMultiply rows ms
-    → added_coefficient 1 (lines ms rows) u ≡ multiplied (coefficient_of u) rows ms
+added_is : (rows : List Row) (ms : List ℤ) (u : Term) → AllZip MayMultiply rows ms → added_coefficient 1 (lines ms rows) u ≡ multiplied (coefficient_of u) rows ms
 added_is [] [] u signs = refl
 added_is [] (m ∷ ms) u signs = absurd signs
 added_is (row ∷ rows) [] u signs = absurd signs
@@ -175,8 +173,7 @@ lines_light : (big : ℕ) → 1 ≤ big → (rows : List Row) (ms : List ℤ) �
 lines_light big some rows [] all narrow = omega arith
 lines_light big some [] (m ∷ ms) all narrow = omega arith
 lines_light big some (row ∷ rows) (m ∷ ms) all narrow =
-    go m (All-head (λ z. unsigned_abs z ≤ big) m ms narrow)
-    (lines_light big some rows ms (All-tail IsSmall row rows all) (All-tail (λ z. unsigned_abs z ≤ big) m ms narrow))
+    go m (All-head (λ z. unsigned_abs z ≤ big) m ms narrow) (lines_light big some rows ms (All-tail IsSmall row rows all) (All-tail (λ z. unsigned_abs z ≤ big) m ms narrow))
   where
     counted : (r : Relation) → big * 262144 + 1 + inequalities_of rows * (big * 262144 + 1) ≤ (inequalities_in r + inequalities_of rows) * (big * 262144 + 1)
     counted exceeds = omega arith
@@ -186,14 +183,11 @@ lines_light big some (row ∷ rows) (m ∷ ms) all narrow =
     go : (z : ℤ) → unsigned_abs z ≤ big → lines_weight 1 (lines ms rows) ≤ inequalities_of rows * (big * 262144 + 1)
         → lines_weight 1 (lines (z ∷ ms) (row ∷ rows)) ≤ inequalities_of (row ∷ rows) * (big * 262144 + 1)
     go (pos zero) small rest = omega (arith, rest, counted row.comparison.relation)
-    go (pos (suc n)) small rest =
-        omega (arith, rest, counted row.comparison.relation, one_light big (pos (suc n)) row some small (All-head IsSmall row rows all))
-    go (negsuc n) small rest =
-        omega (arith, rest, counted row.comparison.relation, one_light big (negsuc n) row some small (All-head IsSmall row rows all))
+    go (pos (suc n)) small rest = omega (arith, rest, counted row.comparison.relation, one_light big (pos (suc n)) row some small (All-head IsSmall row rows all))
+    go (negsuc n) small rest = omega (arith, rest, counted row.comparison.relation, one_light big (negsuc n) row some small (All-head IsSmall row rows all))
 
 -- ---- the step
-meets : (rows : List Row) (ms : List ℤ) (j : Judged) → All IsRow rows → IsPlainCombination rows ms → IsStepBy rows ms j
-    → MeetsLaGeneric j.ratios j.premises j.clause
+meets : (rows : List Row) (ms : List ℤ) (j : Judged) → All IsRow rows → IsPlainCombination rows ms → IsStepBy rows ms j → MeetsLaGeneric j.ratios j.premises j.clause
 meets rows ms j all plain step = record {
   form = record {
     fractions = fractions_of ms;
@@ -220,22 +214,17 @@ not_wide : (rows : List Row) (ms : List ℤ) (j : Judged) → All IsRow rows →
 not_wide rows ms j all plain step searched narrow wide =
     let given : ◌≡◌ {A = Option (List Fraction)} (Some wide.form.fractions) (Some (fractions_of ms)) = sym wide.form.given ∙ step.ratios in
     let fractions : wide.form.fractions ≡ fractions_of ms = cc in
-    let read =
-    subst (λ qs. AreLines (clause_of ms rows) qs wide.form.lines) fractions
-    (subst (λ ts. AreLines ts wide.form.fractions wide.form.lines) step.clause wide.form.read) in
+    let read = subst (λ qs. AreLines (clause_of ms rows) qs wide.form.lines) fractions (subst (λ ts. AreLines ts wide.form.fractions wide.form.lines) step.clause wide.form.read) in
     let same = same_lines (clause_of ms rows) (fractions_of ms) wide.form.lines (lines ms rows) read (are_lines rows ms all plain.signs) in
     let one = least_is_one rows ms wide.form.multiple (subst (λ ls. IsLeastMultiple ls wide.form.multiple) same wide.form.least) in
-    let over : limit ≤ lines_weight 1 (lines ms rows) =
-    subst (λ n. limit ≤ lines_weight n (lines ms rows)) one
-    (subst (λ ls. limit ≤ lines_weight wide.form.multiple ls) same wide.wide) in
-    absurd (too_much (inequalities_of rows) (lines_weight 1 (lines ms rows)) searched.few
-    (lines_light (2 ^ 105) (omega arith) rows ms searched.small narrow) over)
+    let over : limit ≤ lines_weight 1 (lines ms rows) = subst (λ n. limit ≤ lines_weight n (lines ms rows)) one (subst (λ ls. limit ≤ lines_weight wide.form.multiple ls) same wide.wide) in
+    absurd (too_much (inequalities_of rows) (lines_weight 1 (lines ms rows)) searched.few (lines_light (2 ^ 105) (omega arith) rows ms searched.small narrow) over)
   where
     too_much : (n w : ℕ) → n ≤ 8 → w ≤ n * (2 ^ 105 * 262144 + 1) → limit ≤ w → ⊥
     too_much n w few light over = omega (arith, light, over, mul-le-mul_right (2 ^ 105 * 262144 + 1) few)
 
-pub is_narrow : (rows : List Row) (ms : List ℤ) (j : Judged) → All IsRow rows → IsPlainCombination rows ms → IsStepBy rows ms j
-    → AreSearched rows → AreNarrow ms → ¬ IsTooWide j
+pub is_narrow : (rows : List Row) (ms : List ℤ) (j : Judged) → All IsRow rows → IsPlainCombination rows ms → IsStepBy rows ms j → AreSearched rows → AreNarrow ms
+    → ¬ IsTooWide j
 is_narrow rows ms j all plain step searched narrow wide =
     not_wide rows ms j all plain step searched narrow (subst (λ r. IsTooWideBy r j) step.rule wide)
 
@@ -264,5 +253,4 @@ whole_is_lowest m h = record {
 pub are_lowest : (ms : List ℤ) → AreNarrow ms → All IsLowest (fractions_of ms)
 are_lowest ms narrow =
     All-map IsLowest whole_fraction (used ms ms)
-    (All-weaker (λ m. unsigned_abs m ≤ 2 ^ 105) (λ m. IsLowest (whole_fraction m)) whole_is_lowest (used ms ms)
-    (all_used (λ m. unsigned_abs m ≤ 2 ^ 105) ms ms narrow))
+    (All-weaker (λ m. unsigned_abs m ≤ 2 ^ 105) (λ m. IsLowest (whole_fraction m)) whole_is_lowest (used ms ms) (all_used (λ m. unsigned_abs m ≤ 2 ^ 105) ms ms narrow))

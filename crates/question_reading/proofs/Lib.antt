@@ -1,0 +1,2 @@
+mod CellTrees
+mod LeftOut

@@ -1,0 +1,6 @@
+use Rattle.question_reading.proofs.CellTrees.{few_places}
+use Rattle.question_reading.proofs.laws.full_pools_have_few_places.Goals as goal
+
+pub returns : goal.returns
+returns c = λ s pass IsWanted terms most table shares one order holds lacks have among.
+    few_places s table pass IsWanted shares one order holds lacks terms most have among
