@@ -142,6 +142,7 @@ module _ (s : Table) (v : TermsView) (table : IsTable s) where
       pivots = pivots h.pivots;
       ratios = ratios h.ratios;
       lowest = subst (λ o. IfSome o (λ qs. All IsLowest qs)) k.ratios h.lowest;
+      index = index h.index;
     }
       where
         pivots : ((a.rule ≡ Rule.Resolution) ⊎ (a.rule ≡ Rule.ThResolution)) ⊎ (a.pivots ≡ [])
@@ -153,6 +154,10 @@ module _ (s : Table) (v : TermsView) (table : IsTable s) where
         ratios : (a.rule ≡ Rule.LaGeneric) ⊎ (a.ratios ≡ None) → (of.rule ≡ Rule.LaGeneric) ⊎ (of.ratios ≡ None)
         ratios (inl e) = inl (sym k.rule ∙ e)
         ratios (inr e) = inr (sym k.ratios ∙ e)
+
+        index : (takes_index a.rule ≡ true) ⊎ (a.index ≡ IndexArg.Free) → (takes_index of.rule ≡ true) ⊎ (of.index ≡ IndexArg.Free)
+        index (inl e) = inl (ap takes_index (sym k.rule) ∙ e)
+        index (inr e) = inr (sym k.index ∙ e)
 
     may_open : (a : Anchor ℕ ℕ) (b : Anchor Var Term) → a.id ≡ b.id → AllZip (IsBindingOf s v) a.bindings b.bindings → MayOpen n is a → MayOpen m ps b
     may_open a b e zip h = record {

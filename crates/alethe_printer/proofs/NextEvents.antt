@@ -70,6 +70,7 @@ module _ (s : Table) (v : TermsView) (refs : ProofItems ℕ ℕ) (of : ProofItem
         subst (λ ps. AllZip (Rattle.proof_store.specs.Meaning.IsPivotOf s v) (Rattle.rule_model.specs.Reading.pivots_at refs i) ps)
         (at_line (λ c. (step_of c).pivots) [] ∙ ap (λ (x : Step Term). x.pivots) is) same.pivots;
     ratios = same.ratios ∙ (at_line (λ c. (step_of c).ratios) None ∙ ap (λ (x : Step Term). x.ratios) is);
+    index = same.index ∙ (at_line (λ c. (step_of c).index) IndexArg.Free ∙ ap (λ (x : Step Term). x.index) is);
   }
 
   term_there : (t : Term) → (step_of l.command).clause ≡ t ∷ [] → AllZip (RefersTo s v) (Rattle.rule_model.specs.Reading.clause_at refs i) (t ∷ [])

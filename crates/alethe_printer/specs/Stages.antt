@@ -20,6 +20,7 @@ pub record IsStepAt (s : Table) (v : TermsView) (refs : ProofItems ℕ ℕ) (i :
   pub discharged : discharged_at refs i ≡ step.discharged
   pub pivots : AllZip (IsPivotOf s v) (pivots_at refs i) step.pivots
   pub ratios : ratios_at refs i ≡ step.ratios
+  pub index : index_arg_at refs i ≡ step.index
 
 -- the space before each item of a list but the first one
 abbrev pub space_before : ℕ → List ℕ

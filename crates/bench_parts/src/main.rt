@@ -4,6 +4,7 @@
 #![tactic(auto)]
 
 mod commands;
+mod filling;
 mod pool;
 mod printing;
 #[cfg(test)]
@@ -21,6 +22,15 @@ use std::rt::{Clock, Files};
 
 fn main(rt: HostRuntime) -> Result<()> {
     let words: Vec<String> = env::args(&rt)?.skip(1).collect(rt.alloc())?;
+    if words.first().is_some_and(|topic| topic.as_str() == "fill") {
+        return match filling::made(&rt, words.as_slice())? {
+            Some(mut outside) => {
+                filling::run(&rt, &mut outside);
+                Ok(())
+            }
+            None => usage(),
+        };
+    }
     run(&rt, words.as_slice())
 }
 
@@ -45,7 +55,7 @@ fn run(rt: &HostRuntime, words: &[String]) -> Result<()> {
 
 fn usage() -> Result<()> {
     bail!(
-        "usage: bench_parts (pool | terms | substitution | commands | symbols | tokens | propagation | print) .."
+        "usage: bench_parts (pool | terms | substitution | commands | symbols | tokens | propagation | print | fill) .."
     )
 }
 

@@ -1,16 +1,19 @@
-//! The program `carcara`: the top call on the real files and the standard output.
+//! The program `carcara`: the top call on the real files and the standard output, without fillers of holes.
 #![tactic(auto)]
 
 ghost use Rattle.std.specs.Prelude.{◌≡◌, IfOk, IfErr};
 ghost use Rattle.std.specs.Process.{exit_status};
 
-use carcara_cli::carcara;
 use file_ports::{OpenGate, RealFolder, RealSink};
+use filling_cli::carcara_with;
+use hole_fillers::Bench;
 use std::alloc::AllocError;
 use std::process::ExitCode;
 use std::thread::Threads;
 use std::{env, io};
 
+#[cfg(test)]
+mod filling_tests;
 #[cfg(test)]
 mod pool_tests;
 #[cfg(test)]
@@ -21,12 +24,13 @@ mod worker_tests;
 /// The status of out of memory.
 const NO_MEMORY: u8 = 7;
 
-/// What the program is run on: the words of the command line, the real files and the standard output.
+/// What the program is run on: the words of the command line, the real files, the standard output, and a bench without fillers.
 #[derive(Drop)]
 struct Outside {
     words: Vec<String>,
     folder: RealFolder<HostRuntime>,
     out: RealSink<HostRuntime>,
+    bench: Bench,
 }
 
 fn main(rt: HostRuntime) -> ExitCode {
@@ -48,12 +52,13 @@ fn run<R: AllocGlobal + Threads + Sync>(
     outside: Result<Outside, AllocError>,
 ) -> Result<u8, AllocError> {
     let mut outside = outside?;
-    Ok(carcara(
+    Ok(carcara_with(
         rt,
         &outside.words,
         &mut outside.folder,
         &mut outside.out,
         &OpenGate,
+        &mut outside.bench,
     ))
 }
 
@@ -64,6 +69,7 @@ fn made_outside(rt: &HostRuntime) -> Result<Outside, AllocError> {
         words,
         folder: RealFolder::new(rt.clone()?, rt.alloc()),
         out: RealSink::new(rt.clone()?),
+        bench: Bench::new(Vec::new(rt.alloc())),
     })
 }
 

@@ -3,8 +3,9 @@
 ghost use Rattle.std.specs.Prelude.{◌≤◌};
 
 use crate::case::{Answer, Call};
-use carcara_cli::carcara;
 use file_ports::{MemoryFolder, MemorySink, OpenGate};
+use filling_cli::carcara_with;
+use hole_fillers::Bench;
 use std::alloc::{AllocError, Global};
 use std::thread::Threads;
 
@@ -39,14 +40,16 @@ pub fn answer(
     found
 }
 
-// The answer to the words, over a folder and an output.
+// The answer to the words, over a folder and an output, without fillers of holes.
 fn answer_over(
     rt: &(impl AllocGlobal + Threads + Sync),
     words: &[String],
     folder: &mut MemoryFolder,
     out: &mut MemorySink,
 ) -> Result<Answer, AllocError> {
-    let status = carcara(rt, words, folder, out, &OpenGate);
+    let mut bench = Bench::new(Vec::new(rt.alloc()));
+    let status = carcara_with(rt, words, folder, out, &OpenGate, &mut bench);
+    drop(bench);
     let output = Vec::from_slice(rt.alloc(), out.written())?;
     Ok(Answer { status, output })
 }

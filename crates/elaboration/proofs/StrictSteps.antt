@@ -11,6 +11,7 @@ use Rattle.term_pool.specs.Views.{TermsView, ReferToAll}
 use Rattle.proof_store.specs.AddedSteps.{AddedStep}
 use Rattle.proof_store.specs.Meaning.{StandForItems}
 use Rattle.proof_store.specs.declared.added.Link.{Link}
+use Rattle.rule_model.specs.declared.index_arg.IndexArg.{IndexArg}
 use Rattle.rule_model.specs.declared.rules.Mode.{Mode}
 use Rattle.rule_model.specs.declared.statuses.Status.{Status}
 use Rattle.rule_model.specs.Columns.{checking_in}
@@ -57,6 +58,7 @@ module _ (s : Table) (v : TermsView) (c : Checking) (refs : ProofItems ℕ ℕ) 
     premises = h.premises;
     pivots = h.pivots;
     ratios = None;
+    index = IndexArg.Free;
     anchors = anchors;
   }
 
@@ -71,6 +73,7 @@ module _ (s : Table) (v : TermsView) (c : Checking) (refs : ProofItems ℕ ℕ) 
       premises = subst (λ cs. AllZip (ReferToAll s v) cs h.premises) (same_links refs block number _ a.premises h.links) h.premises_refer;
       pivots = h.pivots_refer;
       ratios = refl;
+      index = refl;
       anchors = stand;
     };
     mode = refl;

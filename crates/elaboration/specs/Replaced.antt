@@ -8,6 +8,7 @@ use Rattle.term_model.specs.Terms.{Var, Term}
 use Rattle.term_pool.specs.Views.{TermsView, ReferToAll}
 use Rattle.proof_store.specs.AddedSteps.{AddedStep}
 use Rattle.proof_store.specs.Meaning.{IsPivotOf, StandForItems}
+use Rattle.rule_model.specs.declared.index_arg.IndexArg.{IndexArg}
 use Rattle.rule_model.specs.declared.rules.Mode.{Mode}
 use Rattle.rule_model.specs.declared.rules.Rule.{Rule}
 use Rattle.rule_model.specs.declared.statuses.Status.{Status}
@@ -50,6 +51,7 @@ pub record IsTermStep (s : Table) (v : TermsView) (refs : ProofItems ℕ ℕ) (p
     premises = premises;
     pivots = pivots;
     ratios = None;
+    index = IndexArg.Free;
     anchors = anchors;
   })
 

@@ -38,6 +38,7 @@ pub record StandsForJudged (s : Table) (v : TermsView) (x : Looked) (j : Judged)
   pub premises : AllZip (ReferToAll s v) x.premises j.premises
   pub pivots : AllZip (IsPivotOf s v) x.pivots j.pivots
   pub ratios : x.ratios ≡ j.ratios
+  pub index : x.index ≡ j.index
   pub anchors : AnchorsStand s v x.anchors j.anchors
 
 -- an assume's term is an assertion; of any other step the numbers are not too wide, and it meets the condition of its rule

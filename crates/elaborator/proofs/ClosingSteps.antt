@@ -217,7 +217,7 @@ module _ (job : Job) (is : IsJob job) (i : ℕ) (s : State) (h : IsClosing job i
         line_of_last i block b.last block_is b.is_last in_its_place (from_old (looked_of job.proof block (anchors_at job.proof i) b.last)
         (looks_added (lines_to u.builder) s.places job.proof told block start (length block - 1) (omega arith) news b.last (closing_line new) (anchors_at job.proof i)
         (ap (λ (x : Step ℕ). x.rule) is_new) (ap (λ (x : Step ℕ). x.clause) is_new) (ap (λ (x : Step ℕ). x.premises) is_new) (ap (λ (x : Step ℕ). x.pivots) is_new)
-        (ap (λ (x : Step ℕ). x.ratios) is_new)
+        (ap (λ (x : Step ℕ). x.ratios) is_new) (ap (λ (x : Step ℕ). x.index) is_new)
         (found_may s.places (visible h.around h.before) (at h.old_around h.old_before) (length block - 1) b.last sees_now (b.each (length block - 1) b.last b.is_last))
         (anchored ∙ sym (anchors_are job.proof i _ h.there))))
       where
@@ -275,7 +275,7 @@ module _ (job : Job) (is : IsJob job) (i : ℕ) (s : State) (h : IsClosing job i
         discharged = discharged_now;
       }) refl (kept_source new id (λ c. moved_takes c s.places h.old (name_of o.name) new_discharged) refl none
       (looks_kept (lines_to (at h.around (with_subproof h.before h.anchor.bindings h.items new))) s.places job.proof (told new id (λ c. moved_takes c s.places h.old (name_of o.name) new_discharged) refl) i
-      old_line (closing_line new) h.there (record { rule = refl; clause_is = refl; premises = refl; pivots = refl; ratios = refl }) within_old
+      old_line (closing_line new) h.there (record { rule = refl; clause_is = refl; premises = refl; pivots = refl; ratios = refl; index = refl }) within_old
       (anchored new id (λ c. moved_takes c s.places h.old (name_of o.name) new_discharged) refl))) in
       let kept : kept_step s.places job.proof i (name_of o.name) (map (slice_index s.places) (discharged_at job.proof i)) ≡ new =
       kept_is_moved s.places job.proof i _ h.old h.there refl (name_of o.name) (map (slice_index s.places) (discharged_at job.proof i))

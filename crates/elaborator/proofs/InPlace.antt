@@ -44,6 +44,7 @@ moved_step places s id discharged = record {
   discharged = discharged;
   pivots = s.pivots;
   ratios = s.ratios;
+  index = s.index;
 }
 
 pub kept_is_moved : (places : List ℕ) (proof : ProofItems ℕ ℕ) (i : ℕ) (l : Line ℕ ℕ) (s : Step ℕ) → slice_get (lines_in outermost proof) i ≡ Some l
@@ -53,7 +54,7 @@ kept_is_moved places proof i l s there same id discharged =
 
 pub moved_rule : (places : List ℕ) (s : Step ℕ) (id discharged : List ℕ) → HasRule s → HasRule (moved_step places s id discharged)
 moved_rule places s id discharged h =
-    record { named = h.named; symbol = h.symbol; kept = h.kept; pivots = h.pivots; ratios = h.ratios; lowest = h.lowest }
+    record { named = h.named; symbol = h.symbol; kept = h.kept; pivots = h.pivots; ratios = h.ratios; lowest = h.lowest; index = h.index }
 
 pub moved_takes : (c : Checking) (places : List ℕ) (s : Step ℕ) (id discharged : List ℕ) → TakesPlace c s (moved_step places s id discharged)
 moved_takes c places s id discharged = record { clause = refl; hole = λ e. (e, refl); no_hole = λ e. e }

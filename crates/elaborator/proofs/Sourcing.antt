@@ -9,10 +9,12 @@ use Rattle.term_model.proofs.Lists.{nth_there, slice_get-last}
 use Rattle.term_model.proofs.Zips.{zip_weaken}
 use Rattle.proof_store.specs.AddedSteps.{AddedStep}
 use Rattle.proof_store.specs.declared.added.Link.{Link}
+use Rattle.rule_model.specs.declared.index_arg.IndexArg.{IndexArg}
 use Rattle.rule_model.specs.Commands.{Line, Entry, entry_of, entries, lines_in, lines_to}
 use Rattle.rule_model.specs.Judged.{open_anchors}
 use Rattle.rule_model.specs.Proofs.{ProofItems}
-use Rattle.rule_model.specs.Reading.{rule_of, clause_of, premises_of, pivots_of, ratios_of, discharged_of, clause_at, discharged_at, pivots_at, ratios_at, last_inside_at}
+use Rattle.rule_model.specs.Reading.{rule_of, clause_of, premises_of, pivots_of, ratios_of, index_arg_of, discharged_of, clause_at}
+use Rattle.rule_model.specs.Reading.{discharged_at, pivots_at, ratios_at, index_arg_at, last_inside_at}
 use Rattle.rule_model.specs.Scopes.{outermost, Scope, last_index, next_index}
 use Rattle.rule_model.specs.Visibility.{visible}
 use Rattle.rule_model.proofs.LineReading.{rule_is, clause_is, premises_are, anchors_are}
@@ -37,6 +39,7 @@ module _ (s t : State) (g : Grows s t) where
     premises = zip_weaken (IsTold (lines_to s.builder)) (IsTold (lines_to t.builder)) (λ p c y. told_more p c y) (premises_of l.command) x.premises h.premises;
     pivots = h.pivots;
     ratios = h.ratios;
+    index = h.index;
     anchors = h.anchors;
   }
 
@@ -169,6 +172,7 @@ pub record KeepsLine (places : List ℕ) (old new : Line ℕ ℕ) : Type 0 where
   pub premises : premises_of new.command ≡ map (slice_index places) (premises_of old.command)
   pub pivots : pivots_of new.command ≡ pivots_of old.command
   pub ratios : ratios_of new.command ≡ ratios_of old.command
+  pub index : index_arg_of new.command ≡ index_arg_of old.command
 
 -- commands and their new indices, in step
 pub all_at_places : (places js : List ℕ) → All (λ j. j < length places) js → AllZip (IsAt places) js (map (slice_index places) js)
@@ -187,6 +191,9 @@ module _ {V T : Type 0} (proof : ProofItems V T) (i : ℕ) (l : Line V T) (there
 
   pub ratios_are : ratios_at proof i ≡ ratios_of l.command
   ratios_are = ap (λ e. option_map_or (λ (e : Entry T). ratios_of e.command) e None) entry_there
+
+  pub index_arg_is : index_arg_at proof i ≡ index_arg_of l.command
+  index_arg_is = ap (λ e. option_map_or (λ (e : Entry T). index_arg_of e.command) e IndexArg.Free) entry_there
 
 -- premises at their new indices
 module _ (lines : List (Line ℕ ℕ)) (places : List ℕ) (proof : ProofItems ℕ ℕ) (told : (j p : ℕ) → slice_get places j ≡ Some p → IsTold lines p (clause_at proof j)) where
@@ -210,6 +217,7 @@ module _ (lines : List (Line ℕ ℕ)) (places : List ℕ) (proof : ProofItems �
         (told_kept (premises_of old.command) within));
     pivots = k.pivots ∙ sym (pivots_are proof i old there);
     ratios = k.ratios ∙ sym (ratios_are proof i old there);
+    index = k.index ∙ sym (index_arg_is proof i old there);
     anchors = anchored ∙ sym (anchors_are proof i old there);
   }
 
@@ -228,12 +236,13 @@ module _ (lines : List (Line ℕ ℕ)) (places : List ℕ) (proof : ProofItems �
 
     pub looks_added : (a : AddedStep) (line : Line ℕ ℕ) (anchors : List (List (ℕ × ℕ))) → rule_of line.command ≡ a.rule → clause_of line.command ≡ a.clause
         → premises_of line.command ≡ map (target places start) a.premises → pivots_of line.command ≡ a.pivots → ratios_of line.command ≡ None
-        → All (IsFound (length places) number) a.premises → open_anchors line.scope.nesting ≡ anchors → LooksAs lines line (looked_of proof block anchors a)
-    looks_added a line anchors rule clause premises pivots ratios found anchored = record {
+        → index_arg_of line.command ≡ IndexArg.Free → All (IsFound (length places) number) a.premises → open_anchors line.scope.nesting ≡ anchors → LooksAs lines line (looked_of proof block anchors a)
+    looks_added a line anchors rule clause premises pivots ratios index found anchored = record {
       rule = rule;
       clause_is = clause;
       premises = subst (λ ps. AllZip (IsTold lines) ps (map (linked_clause proof block) a.premises)) (sym premises) (told_linked a.premises found);
       pivots = pivots;
       ratios = ratios;
+      index = index;
       anchors = anchored;
     }

@@ -133,7 +133,8 @@ module _ (job : Job) (is : IsJob job) (i : ℕ) (scope : Scope ℕ ℕ) (command
           line_of_last i block b.last block_is b.is_last (in_its_place old_none (ap (λ (x : Step ℕ). x.discharged) is_new) place) (record {
             looks = looks_added (lines_to u.builder) t.places job.proof told block (next_index s.builder) (length block - 1) (omega arith) news b.last new_line (anchors_at job.proof i)
                 (ap (λ (x : Step ℕ). x.rule) is_new) (ap (λ (x : Step ℕ). x.clause) is_new) (ap (λ (x : Step ℕ). x.premises) is_new) (ap (λ (x : Step ℕ). x.pivots) is_new)
-                (ap (λ (x : Step ℕ). x.ratios) is_new) (found_may t.places (seen_in t) scope (length block - 1) b.last sees_now may) (anchored ∙ sym (anchors_are job.proof i _ there));
+                (ap (λ (x : Step ℕ). x.ratios) is_new) (ap (λ (x : Step ℕ). x.index) is_new)
+                (found_may t.places (seen_in t) scope (length block - 1) b.last sees_now may) (anchored ∙ sym (anchors_are job.proof i _ there));
             own = numbered;
             closing = sym none;
           })
@@ -260,7 +261,7 @@ module _ (job : Job) (is : IsJob job) (i : ℕ) (s t : State) where
           let within_old = all_within t.places (seen_in t) old.premises premises in
           let looks = looks_kept (lines_to (add_step t.builder new)) t.places job.proof (told job is i scope (step old) there s t reached ext few new refl) i
           (record { scope = scope; command = step old }) (record { scope = t.builder; command = step new }) there
-          (record { rule = refl; clause_is = refl; premises = refl; pivots = refl; ratios = refl }) within_old (anchored job is i scope (step old) there s t reached ext few new refl refl none number) in
+          (record { rule = refl; clause_is = refl; premises = refl; pivots = refl; ratios = refl; index = refl }) within_old (anchored job is i scope (step old) there s t reached ext few new refl refl none number) in
           from_none empty
           (subst (All (λ j. j < length t.places)) (sym (premises_are job.proof i (record { scope = scope; command = step old }) there)) within_old)
           (subst (IsStood job i t) (sym same) (stood_by new refl may (λ c. moved_takes c t.places old id []) refl
@@ -393,7 +394,7 @@ module _ (job : Job) (is : IsJob job) (i : ℕ) (s : State) where
             last = λ k e. absurd (nothing (sym closes ∙ e));
           }) (record {
             looks = looks_kept (lines_to u.builder) s.places job.proof (told_on s u g job reached.told s.places refl) i line (record { scope = at n s.builder.items; command = assume (name_of (new_name s)) r }) there
-                (record { rule = refl; clause_is = refl; premises = refl; pivots = refl; ratios = refl }) (All-nil _) anchored;
+                (record { rule = refl; clause_is = refl; premises = refl; pivots = refl; ratios = refl; index = refl }) (All-nil _) anchored;
             own = number;
             closing = sym closes;
           })

@@ -5,12 +5,13 @@ use Rattle.std.specs.List.{AllZip}
 use Rattle.std.specs.Option.{option_map_or}
 use Rattle.proof_store.specs.AddedSteps.{AddedStep}
 use Rattle.proof_store.specs.declared.added.Link.{Link}
+use Rattle.rule_model.specs.declared.index_arg.IndexArg.{IndexArg}
 use Rattle.rule_model.specs.declared.rules.Rule.{Rule}
 use Rattle.rule_model.specs.Commands.{Line, lines_in, lines_to, own_scope, closed_scope}
 use Rattle.rule_model.specs.Judged.{open_anchors, anchors_at}
 use Rattle.rule_model.specs.Elaboration.{Adds, Keeps}
 use Rattle.rule_model.specs.Proofs.{ProofItems}
-use Rattle.rule_model.specs.Reading.{rule_of, clause_of, premises_of, pivots_of, ratios_of, discharged_of}
+use Rattle.rule_model.specs.Reading.{rule_of, clause_of, premises_of, pivots_of, ratios_of, index_arg_of, discharged_of}
 use Rattle.rule_model.specs.Reading.{clause_at, discharged_at, scope_at, closes_at, bindings_at, last_inside_at, is_assume}
 use Rattle.rule_model.specs.RuleNames.{kind_of, IsJudged}
 use Rattle.rule_model.specs.Scopes.{Anchor, Nesting, outermost, inside, Scope, subproofs_in, scope_number, own_bindings, last_index, next_index, next_scope}
@@ -114,6 +115,7 @@ pub record IsAddedLine (s : State) (start : ℕ) (a : AddedStep) (line : Line �
   pub premises : premises_of line.command ≡ map (target s.places start) a.premises
   pub pivots : pivots_of line.command ≡ a.pivots
   pub ratios : ratios_of line.command ≡ None
+  pub index : index_arg_of line.command ≡ IndexArg.Free
 
 -- some steps were added to what was written before
 pub record IsExtended (added : List AddedStep) (s t : State) : Type 0 where
@@ -163,6 +165,7 @@ pub record LooksAs (lines : List (Line ℕ ℕ)) (line : Line ℕ ℕ) (x : Look
   pub premises : AllZip (IsTold lines) (premises_of line.command) x.premises
   pub pivots : pivots_of line.command ≡ x.pivots
   pub ratios : ratios_of line.command ≡ x.ratios
+  pub index : index_arg_of line.command ≡ x.index
   pub anchors : open_anchors line.scope.nesting ≡ x.anchors
 
 -- it looks at this, in the scope of this number, and closes that scope, or none

@@ -4,22 +4,25 @@ use Rattle.std.specs.List.{AllZip}
 use Rattle.std.specs.Option.{option_map_or}
 use Rattle.proof_store.specs.AddedSteps.{AddedStep}
 use Rattle.proof_store.specs.declared.added.Link.{Link}
+use Rattle.rule_model.specs.declared.index_arg.IndexArg.{IndexArg}
 use Rattle.rule_model.specs.declared.rules.Rule.{Rule}
 use Rattle.rule_model.specs.Commands.{lines_in}
 use Rattle.rule_model.specs.Judged.{open_anchors, anchors_at}
 use Rattle.rule_model.specs.Proofs.{Fraction, ProofItems}
-use Rattle.rule_model.specs.Reading.{rule_at, clause_at, premises_at, discharged_at, pivots_at, ratios_at, scope_at, closes_at, bindings_at, last_inside_at}
+use Rattle.rule_model.specs.Reading.{rule_at, clause_at, premises_at, discharged_at, pivots_at, ratios_at, index_arg_at}
+use Rattle.rule_model.specs.Reading.{scope_at, closes_at, bindings_at, last_inside_at}
 use Rattle.rule_model.specs.Scopes.{outermost, commands_in}
 use Rattle.rule_model.specs.Writing.{own_nesting}
 
--- What a rule looks at of a step: its rule, its clause, the premises' clauses, the pivots, the coefficients, and what the open
--- anchors bind. It is `Judged` of `rule_model`, over references and for either mode.
+-- What a rule looks at of a step: its rule, its clause, the premises' clauses, the pivots, the coefficients, the index argument, and
+-- what the open anchors bind. It is `Judged` of `rule_model`, over references and for either mode.
 pub record Looked : Type 0 where
   pub rule : Rule
   pub clause : List ℕ
   pub premises : List (List ℕ)
   pub pivots : List (ℕ × Bool)
   pub ratios : Option (List Fraction)
+  pub index : IndexArg
   pub anchors : List (List (ℕ × ℕ))
 
 -- the same of the command at an index
@@ -30,6 +33,7 @@ looked_at proof i = record {
   premises = map (clause_at proof) (premises_at proof i);
   pivots = pivots_at proof i;
   ratios = ratios_at proof i;
+  index = index_arg_at proof i;
   anchors = anchors_at proof i;
 }
 
@@ -51,6 +55,7 @@ looked_of proof block anchors a = record {
   premises = map (linked_clause proof block) a.premises;
   pivots = a.pivots;
   ratios = None;
+  index = IndexArg.Free;
   anchors = anchors;
 }
 

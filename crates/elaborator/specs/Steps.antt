@@ -3,8 +3,9 @@ use Rattle.std.specs.Prelude.{◌<◌, ◌-◌, ℕ, List, [], map, length, take
 use Rattle.std.specs.Borrow.{Bor}
 use Rattle.proof_store.specs.AddedSteps.{AddedStep}
 use Rattle.proof_store.specs.Steps.{step_with}
+use Rattle.rule_model.specs.declared.index_arg.IndexArg.{IndexArg}
 use Rattle.rule_model.specs.Proofs.{Step, ProofItems}
-use Rattle.rule_model.specs.Reading.{rule_at, rule_name_at, clause_at, premises_at, pivots_at, ratios_at}
+use Rattle.rule_model.specs.Reading.{rule_at, rule_name_at, clause_at, premises_at, pivots_at, ratios_at, index_arg_at}
 use Rattle.rule_model.specs.RuleNames.{word_of}
 use Rattle.elaborator.specs.declared.steps.NewStep.{NewStep}
 use Rattle.elaborator.specs.Links.{IsWithin, target}
@@ -23,6 +24,7 @@ added_step places start a id discharged = record {
   discharged = discharged;
   pivots = a.pivots;
   ratios = None;
+  index = IndexArg.Free;
 }
 
 -- a step of the proof, whose premises have their new indices
@@ -36,11 +38,12 @@ kept_step places proof i id discharged = record {
   discharged = discharged;
   pivots = pivots_at proof i;
   ratios = ratios_at proof i;
+  index = index_arg_at proof i;
 }
 
 abbrev pub new_step : NewStep → List ℕ → List ℕ → Step ℕ
 new_step n id discharged =
-    step_with id n.rule n.rule_name.now n.clause.now n.premises.items discharged n.pivots.now n.ratios
+    step_with id n.rule n.rule_name.now n.clause.now n.premises.items discharged n.pivots.now n.ratios n.index
 
 -- all but the last one
 abbrev pub front : {X : Type 0} → List X → List X

@@ -9,7 +9,7 @@ ghost use Rattle.rule_model.specs.Scopes.{commands_in};
 
 use crate::placing::{places_of, targets_of};
 use pair_pool::{Memory, Ref};
-use proof_store::{Added, Proof, Ratio, word};
+use proof_store::{Added, IndexArg, Proof, Ratio, word};
 use rule_model::Rule;
 use std::alloc::Global;
 
@@ -22,6 +22,7 @@ pub(crate) struct NewStep<'a> {
     pub(crate) premises: Vec<u32>,
     pub(crate) pivots: &'a [(Ref, bool)],
     pub(crate) ratios: Option<&'a [Ratio]>,
+    pub(crate) index: IndexArg,
 }
 
 /// An added step, where those of its block begin at `start`.
@@ -42,6 +43,7 @@ pub(crate) fn step_of_added<'a>(
         premises,
         pivots: &added.pivots,
         ratios: None,
+        index: IndexArg::Free,
     })
 }
 
@@ -64,6 +66,7 @@ pub(crate) fn step_of_kept<'a>(
         premises,
         pivots: proof.pivots(i),
         ratios: proof.ratios(i),
+        index: proof.index(i),
     })
 }
 

@@ -109,7 +109,7 @@ pub assume_step : (p : Site) (w : TermsView) (steps : List AddedStep) (h : IsBlo
 assume_step p w steps h r outer has literals = record {
   links = All-nil (IsLinkAt p (length steps));
   judged = record_of p w Rule.Assume literals.clause [] [] h.site.anchors;
-  stands = record { rule = refl; clause = literals.refer; premises = tt; pivots = tt; ratios = refl; anchors = h.site.anchors_stand };
+  stands = record { rule = refl; clause = literals.refer; premises = tt; pivots = tt; ratios = refl; index = refl; anchors = h.site.anchors_stand };
   strict = refl;
   literals = literals.fit;
   done = inr (record { rule = refl; outer = outer; term = r; asserted = has; clause = refl; premises = refl; pivots = refl });

@@ -111,11 +111,19 @@ anchor_gives id others at c e = anchor_of at (at + 1 + 0) _ _ _ c e
 -- a step of a proof without pivots
 arguments_none : (plan : Plan) (s : Script) (x : Step Term) → HasRule x → x.pivots ≡ [] → takes_pivots (rule_named x.rule_name) ≡ true
     → step_arguments plan s x ≡ no_items
-arguments_none plan s x is none takes = go is.ratios
+arguments_none plan s x is none takes = go is.ratios is.index
   where
-    go : (x.rule ≡ Rule.LaGeneric) ⊎ (x.ratios ≡ None) → step_arguments plan s x ≡ no_items
-    go (inl generic) = absurd (let f : true ≡ false = sym takes ∙ (ap takes_pivots (sym is.named) ∙ ap takes_pivots generic) in cc)
-    go (inr e) = rw (e, none) refl
+    indexed : (r : Rule) → takes_index r ≡ true → takes_pivots r ≡ true → ⊥
+    indexed Rule.And e f = absurd (let g : false ≡ true = f in cc)
+    indexed Rule.NotOr e f = absurd (let g : false ≡ true = f in cc)
+    indexed Rule.AndPos e f = absurd (let g : false ≡ true = f in cc)
+    indexed Rule.OrNeg e f = absurd (let g : false ≡ true = f in cc)
+    indexed _ e f = absurd (let g : false ≡ true = e in cc)
+
+    go : (x.rule ≡ Rule.LaGeneric) ⊎ (x.ratios ≡ None) → (takes_index x.rule ≡ true) ⊎ (x.index ≡ IndexArg.Free) → step_arguments plan s x ≡ no_items
+    go (inl generic) i = absurd (let f : true ≡ false = sym takes ∙ (ap takes_pivots (sym is.named) ∙ ap takes_pivots generic) in cc)
+    go (inr e) (inl i) = absurd (indexed x.rule i (ap takes_pivots is.named ∙ takes))
+    go (inr e) (inr free) = rw (e, free, none) refl
 
 shared_step_gives : (plan : Plan) (s : Script) (index : ℕ) (x : Step Term) → HasRule x → x.pivots ≡ [] → PlacedGivesNone (shared_step plan s index x)
 shared_step_gives plan s index x is none =

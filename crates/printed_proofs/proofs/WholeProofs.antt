@@ -229,10 +229,30 @@ pivots_spelled settings plan base nesting (p ∷ ps) s sound h = (
   (truth_spelled p.1, pivots_spelled settings plan base nesting ps (behind_term plan s p.0) sound h.1),
 )
 
+-- an index of 32 bits is a number in lowest terms
+numbers_lowest : (o : Option (List Fraction)) (k : IndexArg) → IfSome o (λ qs. All IsLowest qs) → ((j : ℕ) → k ≡ IndexArg.At j → j < 2 ^ 32)
+    → IfSome (numbers_of o k) (λ qs. All IsLowest qs)
+numbers_lowest (Some qs) k h low = h
+numbers_lowest None (IndexArg.At j) h low = ?
+numbers_lowest None IndexArg.Free h low = tt
+numbers_lowest None IndexArg.Missing h low = tt
+numbers_lowest None IndexArg.Bad h low = tt
+
 arguments_spelled : (settings : ProofSettings) (plan : Plan) (base : Script) (nesting : Nesting Var Term) (step : Step Term) (s : Script) → IsPlan plan
     → HasRule step → IsStepReadable settings plan base nesting step → AreSpelledItems (step_arguments plan s step)
-arguments_spelled settings plan base nesting step s sound rule readable = go step.ratios rule.lowest
+arguments_spelled settings plan base nesting step s sound rule readable =
+    go (numbers_of step.ratios step.index) (numbers_lowest step.ratios step.index rule.lowest (low (reads_index settings step.rule) step.index readable.index))
   where
+    low : (b : Bool) (k : IndexArg) → IsIndexReadable b k → (j : ℕ) → k ≡ IndexArg.At j → j < 2 ^ 32
+    low true (IndexArg.At i) h j e = let same : i ≡ j = cc in subst (λ n. n < 2 ^ 32) same h
+    low true IndexArg.Missing h j e = absurd cc
+    low true IndexArg.Free h j e = absurd h
+    low true IndexArg.Bad h j e = absurd h
+    low false IndexArg.Free h j e = absurd cc
+    low false IndexArg.Missing h j e = absurd h
+    low false (IndexArg.At i) h j e = absurd h
+    low false IndexArg.Bad h j e = absurd h
+
     go : (o : Option (List Fraction)) → IfSome o (λ qs. All IsLowest qs)
         → AreSpelledItems (elim o [ Some qs ↦ coefficient_items qs | None ↦ pivot_items (shared_pivots plan s step.pivots) ])
     go (Some qs) lowest = coefficients_spelled qs lowest

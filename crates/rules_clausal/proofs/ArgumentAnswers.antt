@@ -1,5 +1,5 @@
 -- The arguments of an application, or one of them, as literals with a sign.
-use Rattle.std.proofs.Common.{◌≡◌, ◌≢◌, ◌↔◌, ◌<◌, ◌≤◌, ◌+◌, ◌∷◌, ◌++◌, [], List, ℕ, suc, length, map, take, get_or, Bool, true, false, not, nat_eq, IsTrue, Option, Some, None, Contains, refl, sym, ◌∙◌, ap, subst, arith}
+use Rattle.std.proofs.Common.{◌≡◌, ◌≢◌, ◌↔◌, ◌<◌, ◌≤◌, ◌+◌, ◌∷◌, ◌++◌, [], List, ℕ, zero, suc, length, map, take, get_or, Bool, true, false, not, nat_eq, IsTrue, Option, Some, None, slice_get, refl, sym, ◌∙◌, ap, subst, arith}
 use Rattle.std.specs.Option.{IfSome, IfNone, option_eq}
 use Rattle.std.proofs.lemmas.Bool.{eqb-true, eq-eqb}
 use Rattle.std.proofs.lemmas.List.{take_more, take_all, map-append, get_or-map}
@@ -9,15 +9,37 @@ use Rattle.term_model.proofs.Lists.{same_one}
 use Rattle.term_pool.specs.Views.{TermsView, RefersTo, ReferToAll}
 use Rattle.term_pool.proofs.References.{AreOne}
 use Rattle.schema_match.specs.declared.signs.Sign.{Sign}
-use Rattle.rules_clausal.specs.ArgumentRules.{IsOneOf}
+use Rattle.rules_clausal.specs.ArgumentRules.{IsOneOf, StandsAt}
 use Rattle.schema_match.specs.Signs.{sign_of, IsSigned}
 use Rattle.schema_match.proofs.ArgumentLemmas.{one_term}
-use Rattle.schema_match.proofs.ReferLemmas.{contains_terms, contains_references, refer_length, refer_at}
+use Rattle.schema_match.proofs.ReferLemmas.{refer_length, refer_at}
+
+module _ (s : Table) (v : TermsView) (one : AreOne s v) (allowed : ℕ → Type 0) where
+  -- the term stands at the same places as the reference that stands for it
+  at_same : (rs : List ℕ) (ts : List Term) (k r : ℕ) (t : Term) → ReferToAll s v rs ts → RefersTo s v r t
+      → (slice_get rs k ≡ Some r) ↔ (slice_get ts k ≡ Some t)
+  at_same [] [] k r t h refers = (λ e. absurd cc, λ e. absurd cc)
+  at_same [] (u ∷ ts) k r t h refers = absurd h
+  at_same (q ∷ rs) [] k r t h refers = absurd h
+  at_same (q ∷ rs) (u ∷ ts) zero r t h refers = (
+    λ e. (let same : q ≡ r = cc in ap Some ((one q r u t h.0 refers).0 same)),
+    λ e. (let same : u ≡ t = cc in ap Some ((one q r u t h.0 refers).1 same)),
+  )
+  at_same (q ∷ rs) (u ∷ ts) (suc k) r t h refers = at_same rs ts k r t h.1 refers
+
+  stands_term : (rs : List ℕ) (ts : List Term) (r : ℕ) (t : Term) → ReferToAll s v rs ts → RefersTo s v r t → StandsAt allowed rs r → StandsAt allowed ts t
+  stands_term rs ts r t h refers at =
+      record { place = at.place; at_place = (at_same rs ts at.place r t h refers).0 at.at_place; allows = at.allows }
+
+  stands_reference : (rs : List ℕ) (ts : List Term) (r : ℕ) (t : Term) → ReferToAll s v rs ts → RefersTo s v r t → StandsAt allowed ts t
+      → StandsAt allowed rs r
+  stands_reference rs ts r t h refers at =
+      record { place = at.place; at_place = (at_same rs ts at.place r t h refers).1 at.at_place; allows = at.allows }
 
 module _ (s : Table) (v : TermsView) (sign : Sign) (arguments literals : List ℕ) (us ts : List Term) (refer_arguments : ReferToAll s v arguments us) (refer_literals : ReferToAll s v literals ts) where
   -- there are two literals or more, or none
-  pub many_are_not_one : (length literals ≢ 1) → IsTrue false ↔ IsOneOf sign us ts
-  many_are_not_one many = (λ e. absurd cc, λ one. absurd (many (refer_length s v literals ts refer_literals ∙ ap length one.is)))
+  pub many_are_not_one : (allowed : ℕ → Type 0) → (length literals ≢ 1) → IsTrue false ↔ IsOneOf allowed sign us ts
+  many_are_not_one allowed many = (λ e. absurd cc, λ one. absurd (many (refer_length s v literals ts refer_literals ∙ ap length one.is)))
 
   only : (rs : List ℕ) (xs : List Term) (r : ℕ) → 1 ≤ length rs → length rs < 2 → r ≡ get_or rs 0 r → ReferToAll s v rs xs → (x : Term) × (xs ≡ x ∷ []) × RefersTo s v r x
   only [] xs r some few is h = absurd (omega arith)
@@ -27,27 +49,27 @@ module _ (s : Table) (v : TermsView) (sign : Sign) (arguments literals : List �
   only (q ∷ p ∷ rs) xs r some few is h = absurd (omega arith)
 
   -- there is one literal, and the term for which it stands is tested
-  pub one_is : (r a : ℕ) (b : Bool) → AreOne s v → 1 ≤ length literals → length literals < 2 → r ≡ get_or literals 0 r → ((t : Term) → RefersTo s v r t → IsSigned s v sign a t) → IsTrue b ↔ Contains arguments a → IsTrue b ↔ IsOneOf sign us ts
-  one_is r a b one some few is signed test = go (only literals ts r some few is refer_literals)
+  pub one_is : (allowed : ℕ → Type 0) (r a : ℕ) (b : Bool) → AreOne s v → 1 ≤ length literals → length literals < 2 → r ≡ get_or literals 0 r → ((t : Term) → RefersTo s v r t → IsSigned s v sign a t) → IsTrue b ↔ StandsAt allowed arguments a → IsTrue b ↔ IsOneOf allowed sign us ts
+  one_is allowed r a b one some few is signed test = go (only literals ts r some few is refer_literals)
     where
-      go : ((x : Term) × (ts ≡ x ∷ []) × RefersTo s v r x) → IsTrue b ↔ IsOneOf sign us ts
+      go : ((x : Term) × (ts ≡ x ∷ []) × RefersTo s v r x) → IsTrue b ↔ IsOneOf allowed sign us ts
       go (x, same, refers) =
           (let h = signed x refers in (
             λ e. record {
               term = h.means;
-              among = contains_terms s v one arguments us a h.means refer_arguments h.refers (test.0 e);
+              stands = stands_term s v one allowed arguments us a h.means refer_arguments h.refers (test.0 e);
               is = same ∙ ap (λ y. y ∷ []) h.is;
             },
             λ o.
                 (let term = one_term sign h.means o.term (sym h.is ∙ same_one x (sign_of sign o.term) (sym same ∙ o.is)) in
-                test.1 (contains_references s v one arguments us a h.means refer_arguments h.refers (rw term o.among))),
+                test.1 (stands_reference s v one allowed arguments us a h.means refer_arguments h.refers (rw term o.stands))),
           ))
 
   -- there is one literal, which has not the sign
-  pub none_is : (r : ℕ) → 1 ≤ length literals → length literals < 2 → r ≡ get_or literals 0 r → ((t u : Term) → RefersTo s v r t → t ≢ sign_of sign u) → IsTrue false ↔ IsOneOf sign us ts
-  none_is r some few is other = go (only literals ts r some few is refer_literals)
+  pub none_is : (allowed : ℕ → Type 0) (r : ℕ) → 1 ≤ length literals → length literals < 2 → r ≡ get_or literals 0 r → ((t u : Term) → RefersTo s v r t → t ≢ sign_of sign u) → IsTrue false ↔ IsOneOf allowed sign us ts
+  none_is allowed r some few is other = go (only literals ts r some few is refer_literals)
     where
-      go : ((x : Term) × (ts ≡ x ∷ []) × RefersTo s v r x) → IsTrue false ↔ IsOneOf sign us ts
+      go : ((x : Term) × (ts ≡ x ∷ []) × RefersTo s v r x) → IsTrue false ↔ IsOneOf allowed sign us ts
       go (x, same, refers) = (λ e. absurd cc, λ o. absurd (other x o.term refers (same_one x (sign_of sign o.term) (sym same ∙ o.is))))
 
   -- as many literals as arguments, up to a place

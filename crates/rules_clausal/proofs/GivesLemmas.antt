@@ -1,13 +1,14 @@
 -- What rules over arguments ask.
-use Rattle.std.proofs.Common.{◌≡◌, ◌≢◌, ◌↔◌, ◌∷◌, [], List, ℕ, map, length, Bool, false, IsTrue, Contains, refl, sym, ◌∙◌, ap, subst}
+use Rattle.std.proofs.Common.{◌≡◌, ◌≢◌, ◌↔◌, ◌∷◌, [], List, ℕ, map, length, Bool, false, IsTrue, slice_get, Some, refl, sym, ◌∙◌, ap, subst}
 use Rattle.std.specs.Borrow.{Bor}
 use Rattle.sym_table.specs.Table.{Table}
 use Rattle.term_model.specs.declared.symbols.Op.{Op}
 use Rattle.term_model.specs.Terms.{Term, operation, list_of, terms_of}
-use Rattle.term_model.proofs.Lists.{contains_none, list_of-terms_of}
+use Rattle.term_model.proofs.Lists.{list_of-terms_of}
 use Rattle.term_pool.specs.Views.{TermsView, RefersTo, ReferToAll}
-use Rattle.rule_model.specs.Clausal.{Begins, IsOnlyPremise}
+use Rattle.rule_model.specs.Clausal.{Allows, Begins, IsOnlyPremise}
 use Rattle.rule_model.proofs.ArgumentLists.{same_operands}
+use Rattle.rules_clausal.specs.declared.argument_rules.Choice.{Choice}
 use Rattle.rules_clausal.specs.declared.argument_rules.Which.{Which}
 use Rattle.schema_match.specs.declared.signs.Sign.{Sign}
 use Rattle.rules_clausal.specs.ArgumentRules.{Gives, IsOneOf}
@@ -27,22 +28,38 @@ same_arguments op sign ts us e =
 
 -- no application to one argument or more
 pub gives_none : (which : Which) (op : Op) (sign each : Sign) (t : Term) (ts : List Term) → HasNoArguments op sign t → IsTrue false ↔ Gives which op sign each t ts
-gives_none Which.One op sign each t ts none = (λ e. absurd cc, λ g. absurd (go g.arguments g.argument g.among g.whole_is))
+gives_none (Which.One choice) op sign each t ts none = (λ e. absurd cc, λ g. absurd (go g.arguments g.place g.argument g.at_place g.whole_is))
   where
-    go : (us : List Term) (u : Term) → Contains us u → t ≡ sign_of sign (operation op (terms_of us)) → ⊥
-    go [] u c is = contains_none u c
-    go (x ∷ us) u c is = none x us is
+    go : (us : List Term) (k : ℕ) (u : Term) → slice_get us k ≡ Some u → t ≡ sign_of sign (operation op (terms_of us)) → ⊥
+    go [] k u there is = absurd cc
+    go (x ∷ us) k u there is = none x us is
 gives_none Which.All op sign each t ts none = (λ e. absurd cc, λ g. absurd (none g.first g.others g.whole_is))
 
-pub gives_one : (s : Table) (v : TermsView) (op : Op) (sign each : Sign) (t : Term) (ts : List Term) (items : List ℕ) (b : Bool) → (h : HasArguments s v op sign t items) → IsTrue b ↔ IsOneOf each (h.first ∷ h.others) ts → IsTrue b ↔ Gives Which.One op sign each t ts
-gives_one s v op sign each t ts items b h test = (
+pub gives_one : (s : Table) (v : TermsView) (choice : Choice) (op : Op) (sign each : Sign) (t : Term) (ts : List Term) (items : List ℕ) (b : Bool)
+    → (h : HasArguments s v op sign t items) → IsTrue b ↔ IsOneOf (Allows choice.mode choice.index) each (h.first ∷ h.others) ts
+    → IsTrue b ↔ Gives (Which.One choice) op sign each t ts
+gives_one s v choice op sign each t ts items b h test = (
   λ e.
       (let o = test.0 e in
-      record { arguments = h.first ∷ h.others; argument = o.term; among = o.among; whole_is = h.is; rest_is = o.is }),
+      record {
+        arguments = h.first ∷ h.others;
+        place = o.stands.place;
+        argument = o.term;
+        at_place = o.stands.at_place;
+        allows = o.stands.allows;
+        whole_is = h.is;
+        rest_is = o.is;
+      }),
   λ g. test.1 (
       record {
         term = g.argument;
-        among = subst (λ us. Contains us g.argument) (sym (same_arguments op sign (h.first ∷ h.others) g.arguments (sym h.is ∙ g.whole_is))) g.among;
+        stands = record {
+          place = g.place;
+          at_place =
+              subst (λ us. slice_get us g.place ≡ Some g.argument)
+              (sym (same_arguments op sign (h.first ∷ h.others) g.arguments (sym h.is ∙ g.whole_is))) g.at_place;
+          allows = g.allows;
+        };
         is = g.rest_is;
       }
       ),

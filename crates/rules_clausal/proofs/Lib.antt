@@ -3,3 +3,4 @@ pub mod ChangeLemmas
 pub mod OppositeLemmas
 pub mod ArgumentAnswers
 pub mod GivesLemmas
+mod IndexLemmas

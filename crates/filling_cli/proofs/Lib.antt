@@ -1,0 +1,4 @@
+pub mod Spelled
+pub mod Coming
+pub mod Showing
+pub mod Running
