@@ -58,6 +58,16 @@ impl NameSet {
         }
     }
 
+    /// Takes all names away. The set keeps the memory that it has.
+    pub fn clear(&mut self)
+        ensures { self.new ≡ [] }
+    {
+        self.text.clear();
+        self.spans.clear();
+        self.keys.clear();
+        self.longer.clear();
+    }
+
     /// How many names there are.
     pub fn len(&self) -> usize
         ensures { result ≡ length self.now }

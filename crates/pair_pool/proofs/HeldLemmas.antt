@@ -120,5 +120,9 @@ seat_table f h seat table t is there e =
 pub has_no_words : (h : Hold) (words : Vec ℕ Global) (id : TableId) → h ≡ Words words → (held h).table ≡ Some id → ⊥
 has_no_words h words id is e = none-some id (sym (ap (λ x. (held x).table) is) ∙ e)
 
+-- a pass that has a pool for itself has no seat
+pub has_no_seat : (h : Hold) (seat : Declared (Unit {0}) Holder) → h ≡ Seat seat → (held h).table ≡ None → ⊥
+has_no_seat h seat is e = none-some seat.table_id (sym e ∙ ap (λ x. (held x).table) is)
+
 pub some_table : {T : Type 0} (table : Option T) (P : T → Type 0) (t : T) → IfSome table P → table ≡ Some t → P t
 some_table table P t h is = rw is at h

@@ -11,7 +11,7 @@ use crate::holder::Holder;
 use crate::plays::Good;
 use crate::reference::Ref;
 use crate::stops::{Memory, PoolFull};
-use crate::table::{join_all, new_words, split_off};
+use crate::table::{clear_words, join_all, new_words, split_off};
 use atomic_table::Table;
 use std::alloc::Global;
 use std::marker::{Brand, Model};
@@ -87,6 +87,31 @@ impl Pool {
             hold: Hold::Words(words),
         };
         Ok((pool, pass))
+    }
+
+    /// Makes the pool empty again, and returns its first pass anew, as `new` does. Nothing is left of what `pass` knew, which has
+    /// the pool for itself.
+    ///
+    /// Takes no memory, and costs what it costs to write 2^bits words.
+    pub fn clear(&self, pass: Pass) -> Pass
+        requires of_pool { IsPassOf self.now pass }
+        requires alone { IsForOne self.now }
+        ensures of_pool { IsPassOf self.now result }
+        ensures places { result.view.places ≡ 2 ^ self.now.bits }
+        ensures shares { result.view.shares ≡ 65 }
+        ensures steps { result.steps ≡ 0 }
+        ensures seen { result.view.seen ≡ [] }
+        ensures known { result.view.known ≡ [] }
+        ensures placed { result.view.placed ≡ [] }
+        ensures leaves { (r : ℕ) (tree : Tree) → Knows result.view r tree → r < 2 ^ 30 }
+    {
+        let Hold::Words(mut words) = pass.hold else {
+            unreachable!();
+        };
+        clear_words(&mut words);
+        Pass {
+            hold: Hold::Words(words),
+        }
     }
 
     /// Lets passes share the pool: its words go to a table, on which other passes can be split from `pass`. Nothing else

@@ -1,7 +1,7 @@
 //! The words of a pool's table: making them, the probe, and what a word spells.
 
 ghost use Rattle.std.specs.Prelude.{◌≡◌, ◌≢◌, ℕ, ◌+◌, ◌-◌, ◌*◌, ◌/◌, ◌%◌, ◌^◌, ◌<◌, ◌≤◌, replicate, IfOk};
-ghost use Rattle.std.specs.Prelude.{[], MatchBool, IfSome, IfNone};
+ghost use Rattle.std.specs.Prelude.{[], length, MatchBool, IfSome, IfNone};
 ghost use Rattle.pair_pool.specs.Views.{IsListed};
 ghost use Rattle.pair_pool.specs.Words.{cell_word, probe_start};
 ghost use Rattle.pair_pool.specs.Holders.{IsListedPart, after_empty, left_half, right_half, both_of};
@@ -20,6 +20,13 @@ pub(crate) fn new_words(alloc: Global, bits: u32) -> Result<Vec<u64>, Memory>
     ensures { IfOk result (λ words. words.items ≡ replicate (2 ^ bits) 0) }
 {
     Ok(vec![in alloc; 0u64; 1 << bits]?)
+}
+
+/// Makes each word empty.
+pub(crate) fn clear_words(words: &mut Vec<u64>)
+    ensures { words.new.items ≡ replicate (length words.old.items) 0 }
+{
+    words.fill(0);
 }
 
 /// Where the probe for a cell starts.

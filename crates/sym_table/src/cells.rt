@@ -64,6 +64,15 @@ impl Keys {
         }
     }
 
+    // Takes all keys away.
+    pub(crate) fn clear(&mut self)
+        ensures { self.new ≡ [] }
+    {
+        self.all.clear();
+        self.found.clear();
+        self.places.clear();
+    }
+
     // How many keys there are.
     pub(crate) fn len(&self) -> usize
         ensures len { result ≡ length self.now }

@@ -63,6 +63,19 @@ impl Symbols {
         })
     }
 
+    /// Takes all leaves away but those of a new table, and all sorts. The table keeps the memory that it has, and the call takes
+    /// none. It costs what that memory costs to clear: a table that was once large stays dear.
+    pub fn clear(&mut self)
+        ensures leaves { self.new.leaves ≡ first_leaves }
+        ensures sorts { self.new.sorts ≡ [] }
+    {
+        self.sort_names.clear();
+        self.function_names.clear();
+        self.functions.clear();
+        self.variable_names.clear();
+        self.leaves.clear();
+    }
+
     /// The number of leaves. The leaves are the numbers below it.
     pub fn count(&self) -> u32
         ensures count { result ≡ length self.now.leaves }
