@@ -74,7 +74,8 @@ pub(crate) fn table_of(
     ensures { IfOk result (λ table. IsOccurrenceTable (clauses_of premises.now) goal.now table.items) }
 {
     let mut table = collect(alloc, premises, goal)?;
-    table.sort_unstable_by_key(|o| o.rank());
+    // The occurrences of a premise often rise already, and this sort goes by runs.
+    table.sort_by_key(|o| o.rank())?;
     table.dedup_by_key(|o| o.rank());
     Ok(table)
 }
