@@ -12,6 +12,7 @@ pub mod Progresses
 pub mod Scanning
 pub mod Ends
 pub mod Renamings
+pub mod InPlace
 pub mod Keys
 pub mod TermLiterals
 pub mod TermAnswers

@@ -13,7 +13,6 @@ use Rattle.pair_pool.specs.declared.stops.Memory.{Memory}
 use Rattle.rules_resolution.specs.Shows.{Shows}
 use Rattle.rules_resolution.specs.Trace.{Trace}
 use Rattle.rules_resolution.specs.Renaming.{all_literals, atom_of, atom_name_at, AreNames, renamed_atom, renamed_from, renamed_in, joined_clauses}
-use Rattle.rules_resolution.proofs.Premises.{length-clauses_of}
 use Rattle.rules_resolution.proofs.Tables.{clauses_of-take_more}
 
 -- what a trail shows of clauses it shows of the same clauses with other names for their atoms
@@ -99,25 +98,19 @@ renamed_in-append names i n (c ∷ cs) ds e =
     let parts = length-append c (joined_clauses cs) in
     ap (λ ls. renamed_from names i c ∷ ls) (renamed_in-append names (i + length c) n cs ds (omega arith))
 
-pub renamed_in-more : (names : List ℕ) (vs : List (Vec Lit)) (i from : ℕ) (v : Vec Lit) (slice : List Lit) → i < length vs → v ≡ get_or vs i v → slice ≡ v.items → from ≡ length (joined_clauses (clauses_of (take i vs)))
-    → renamed_in names 0 (clauses_of (take (i + 1) vs)) ≡ renamed_in names 0 (clauses_of (take i vs)) ++ renamed_from names from slice ∷ []
-renamed_in-more names vs i from v slice h is value size =
-    ap (renamed_in names 0) (clauses_of-take_more vs i v h)
-    ∙ (renamed_in-append names 0 from (clauses_of (take i vs)) ((get_or vs i v).items ∷ []) (omega (arith, size))
-    ∙ ap (λ ls. renamed_in names 0 (clauses_of (take i vs)) ++ renamed_from names from ls ∷ []) (sym (value ∙ ap (λ (w : Vec Lit). w.items) is)))
+pub renamed_in-more : (names : List ℕ) (vs : List (Vec Lit)) (i from : ℕ) (d : Vec Lit) → i < length vs → from ≡ length (joined_clauses (clauses_of (take i vs)))
+    → renamed_in names 0 (clauses_of (take (i + 1) vs)) ≡ renamed_in names 0 (clauses_of (take i vs)) ++ renamed_from names from (get_or vs i d).items ∷ []
+renamed_in-more names vs i from d h size =
+    ap (renamed_in names 0) (clauses_of-take_more vs i d h)
+    ∙ renamed_in-append names 0 from (clauses_of (take i vs)) ((get_or vs i d).items ∷ []) (omega (arith, size))
 
 pub length-renamed_from : (names : List ℕ) (i : ℕ) (ls : List Lit) → length (renamed_from names i ls) ≡ length ls
 length-renamed_from names i [] = refl
 length-renamed_from names i (l ∷ ls) = let e = length-renamed_from names (i + 1) ls in omega arith
 
-length-renamed_in : (names : List ℕ) (i : ℕ) (cs : List (List Lit)) → length (renamed_in names i cs) ≡ length cs
+pub length-renamed_in : (names : List ℕ) (i : ℕ) (cs : List (List Lit)) → length (renamed_in names i cs) ≡ length cs
 length-renamed_in names i [] = refl
 length-renamed_in names i (c ∷ cs) = let e = length-renamed_in names (i + length c) cs in omega arith
-
--- as many premises as before
-pub length-renamed : (names : List ℕ) (vs ws : List (Vec Lit)) → clauses_of ws ≡ renamed_in names 0 (clauses_of vs) → length ws ≡ length vs
-length-renamed names vs ws e =
-    sym (length-clauses_of ws) ∙ (ap length e ∙ (length-renamed_in names 0 (clauses_of vs) ∙ length-clauses_of vs))
 
 module _ (premises : List (List Lit)) (goal : List Lit) (names : List ℕ) (n : ℕ) (are : AreNames (all_literals premises goal) names) (goes_on : n ≡ length (joined_clauses premises)) where
   stand_all : StandFrom (all_literals premises goal) 0 (all_literals premises goal)

@@ -1,5 +1,5 @@
 //! Whether a conclusion follows: by scans of the premises where there are few literals, and else by a table.
-ghost use Rattle.std.specs.Prelude.{◌<◌, ◌^◌, ℕ, List, length, vec_len, All, IfOk, IfSome, IfNone, OnSome};
+ghost use Rattle.std.specs.Prelude.{◌≡◌, ◌<◌, ◌^◌, ℕ, List, length, vec_len, All, IfOk, IfSome, IfNone, OnSome};
 ghost use Rattle.rule_model.specs.Consequence.{Follows};
 ghost use Rattle.rule_model.specs.Literals.{Entails};
 ghost use Rattle.rule_model.specs.declared.literal.Literal.{Literal};
@@ -35,17 +35,17 @@ fn end_of(found: Option<Trail>, units: &mut Vec<(u32, u32)>) -> End
 }
 
 /// How propagation ends. The lists are kept from call to call, so that few literals take no memory; afterwards `units` has
-/// the units that were found.
+/// the units that were found. Many literals get new names, in place, so the clauses are not to be used again.
 pub(crate) fn decide(
     alloc: Global,
-    premises: &[Vec<Lit>],
-    goal: &[Lit],
+    premises: &mut [Vec<Lit>],
+    goal: &mut [Lit],
     falses: &mut Vec<Lit>,
     units: &mut Vec<(u32, u32)>,
 ) -> Result<End, Memory>
-    requires premises { length premises.now < 2 ^ 32 }
-    requires literals { All (λ clause. vec_len clause < 2 ^ 32) premises.now }
-    ensures { IfOk result (λ end. IsEnd end (clauses_of premises.now) goal.now units.new.items) }
+    requires premises { length premises.old < 2 ^ 32 }
+    requires literals { All (λ clause. vec_len clause < 2 ^ 32) premises.old }
+    ensures { IfOk result (λ end. IsEnd end (clauses_of premises.old) goal.old units.new.items) }
 {
     let count = literal_count(premises, goal);
     if count <= FEW {
@@ -55,6 +55,19 @@ pub(crate) fn decide(
     }
     let found = follow_by_table(alloc, premises, goal, count)?;
     Ok(end_of(found, units))
+}
+
+/// The clauses in vectors of their own.
+fn own_clauses(alloc: Global, clauses: &[Vec<Lit>]) -> Result<Vec<Vec<Lit>>, Memory>
+    requires literals { All (λ clause. vec_len clause < 2 ^ 32) clauses.now }
+    ensures literals { IfOk result (λ own. All (λ clause. vec_len clause < 2 ^ 32) own.items) }
+    ensures same { IfOk result (λ own. clauses_of own.items ≡ clauses_of clauses.now) }
+{
+    let mut own = Vec::with_capacity(alloc, clauses.len())?;
+    for clause in clauses {
+        own.push(Vec::from_slice(alloc, clause.as_slice())?)?;
+    }
+    Ok(own)
 }
 
 /// Whether the conclusion `goal` follows from the premises by unit propagation, with a trail that shows it
@@ -74,6 +87,8 @@ pub fn follows(alloc: Global, premises: &[Vec<Lit>], goal: &[Lit]) -> Result<Opt
 {
     let mut falses = Vec::new(alloc);
     let mut units = Vec::new(alloc);
-    let end = decide(alloc, premises, goal, &mut falses, &mut units)?;
+    let mut own = own_clauses(alloc, premises)?;
+    let mut own_goal = Vec::from_slice(alloc, goal)?;
+    let end = decide(alloc, &mut own, &mut own_goal, &mut falses, &mut units)?;
     Ok(trail_of(end, units))
 }

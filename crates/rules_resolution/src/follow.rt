@@ -12,7 +12,7 @@ ghost use Rattle.rules_resolution.specs.Progress.{IsSomeProgress, GoesOn, Looks}
 use crate::literal::{Lit, negate};
 use crate::naming::names_of;
 use crate::occurrence::Occurrence;
-use crate::renaming::{rename_all, rename_clause};
+use crate::renaming::{rename_all, rename_here};
 use crate::table::table_of;
 use crate::trail::Trail;
 use crate::work::{Work, falsify, is_falsified, start};
@@ -169,35 +169,37 @@ fn follow_plainly(
 /// one for the clauses as they were.
 fn follow_renamed(
     alloc: Global,
-    premises: &[Vec<Lit>],
-    goal: &[Lit],
+    premises: &mut [Vec<Lit>],
+    goal: &mut [Lit],
     count: usize,
 ) -> Result<Option<Trail>, Memory>
-    requires premises { length premises.now < 2 ^ 32 }
-    requires literals { All (λ clause. vec_len clause < 2 ^ 32) premises.now }
-    requires count { count ≡ length (all_literals (clauses_of premises.now) goal.now) }
+    requires premises { length premises.old < 2 ^ 32 }
+    requires literals { All (λ clause. vec_len clause < 2 ^ 32) premises.old }
+    requires count { count ≡ length (all_literals (clauses_of premises.old) goal.old) }
     requires few { count < 4294967296 }
-    ensures shown { IfOk result (λ found. IfSome found (Shows (clauses_of premises.now) goal.now)) }
-    ensures none { IfOk result (λ found. IfNone found (Follows (clauses_of premises.now) goal.now → ⊥)) }
+    ensures shown { IfOk result (λ found. IfSome found (Shows (clauses_of premises.old) goal.old)) }
+    ensures none { IfOk result (λ found. IfNone found (Follows (clauses_of premises.old) goal.old → ⊥)) }
 {
     let names = names_of(alloc, premises, goal, count)?;
-    let renamed = rename_all(alloc, premises, &names)?;
-    let renamed_goal = rename_clause(alloc, goal, &names, count - goal.len())?;
-    follow_plainly(alloc, &renamed, &renamed_goal)
+    rename_all(premises, &names);
+    let from = count - goal.len();
+    rename_here(goal, &names, from);
+    drop(names);
+    follow_plainly(alloc, premises, goal)
 }
 
 /// Whether the conclusion follows, by a table of all literals, where there are `count`.
 pub(crate) fn follow_by_table(
     alloc: Global,
-    premises: &[Vec<Lit>],
-    goal: &[Lit],
+    premises: &mut [Vec<Lit>],
+    goal: &mut [Lit],
     count: u128,
 ) -> Result<Option<Trail>, Memory>
-    requires premises { length premises.now < 2 ^ 32 }
-    requires literals { All (λ clause. vec_len clause < 2 ^ 32) premises.now }
-    requires count { count ≡ length (all_literals (clauses_of premises.now) goal.now) }
-    ensures shown { IfOk result (λ found. IfSome found (Shows (clauses_of premises.now) goal.now)) }
-    ensures none { IfOk result (λ found. IfNone found (Follows (clauses_of premises.now) goal.now → ⊥)) }
+    requires premises { length premises.old < 2 ^ 32 }
+    requires literals { All (λ clause. vec_len clause < 2 ^ 32) premises.old }
+    requires count { count ≡ length (all_literals (clauses_of premises.old) goal.old) }
+    ensures shown { IfOk result (λ found. IfSome found (Shows (clauses_of premises.old) goal.old)) }
+    ensures none { IfOk result (λ found. IfNone found (Follows (clauses_of premises.old) goal.old → ⊥)) }
 {
     if count < MANY || count >= 4294967296 {
         return follow_plainly(alloc, premises, goal);

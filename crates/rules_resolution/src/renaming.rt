@@ -1,11 +1,9 @@
 //! The same clauses with new names for their atoms.
-ghost use Rattle.std.specs.Prelude.{◌≡◌, ◌+◌, ◌<◌, ◌≤◌, ◌^◌, length, vec_len, All, IfOk};
+ghost use Rattle.std.specs.Prelude.{◌≡◌, ◌+◌, ◌<◌, ◌≤◌, ◌^◌, length, vec_len, All};
 ghost use Rattle.clause_chain.specs.Chaining.{clauses_of};
 ghost use Rattle.rules_resolution.specs.Renaming.{all_literals, joined_clauses, renamed_atom, renamed_from, renamed_in};
 
 use crate::literal::Lit;
-use pair_pool::Memory;
-use std::alloc::Global;
 
 /// How many literals the premises and the conclusion have together.
 pub(crate) fn literal_count(premises: &[Vec<Lit>], goal: &[Lit]) -> u128
@@ -34,39 +32,28 @@ fn rename(literal: Lit, name: u32) -> Lit
     }
 }
 
-/// The clause with the names from number `from` on.
-pub(crate) fn rename_clause(
-    alloc: Global,
-    clause: &[Lit],
-    names: &[u32],
-    from: usize,
-) -> Result<Vec<Lit>, Memory>
-    requires names { from + length clause.now ≤ length names.now }
-    ensures { IfOk result (λ renamed. renamed.items ≡ renamed_from names.now from clause.now) }
+/// Gives the literals of a clause the names from number `from` on.
+pub(crate) fn rename_here(clause: &mut [Lit], names: &[u32], from: usize)
+    requires names { from + length clause.old ≤ length names.now }
+    ensures { clause.new ≡ renamed_from names.now from clause.old }
 {
-    let mut renamed = Vec::with_capacity(alloc, clause.len())?;
-    for (place, literal) in clause.iter().enumerate() {
-        renamed.push(rename(*literal, names[from + place]))?;
+    for place in 0..clause.len() {
+        clause[place] = rename(clause[place], names[from + place]);
     }
-    Ok(renamed)
 }
 
-/// The premises with the names from number 0 on.
-pub(crate) fn rename_all(
-    alloc: Global,
-    premises: &[Vec<Lit>],
-    names: &[u32],
-) -> Result<Vec<Vec<Lit>>, Memory>
-    requires literals { All (λ clause. vec_len clause < 2 ^ 32) premises.now }
-    requires names { length (joined_clauses (clauses_of premises.now)) ≤ length names.now }
-    ensures literals { IfOk result (λ renamed. All (λ clause. vec_len clause < 2 ^ 32) renamed.items) }
-    ensures renamed { IfOk result (λ renamed. clauses_of renamed.items ≡ renamed_in names.now 0 (clauses_of premises.now)) }
+/// Gives the literals of the premises the names from number 0 on.
+pub(crate) fn rename_all(premises: &mut [Vec<Lit>], names: &[u32])
+    requires literals { All (λ clause. vec_len clause < 2 ^ 32) premises.old }
+    requires names { length (joined_clauses (clauses_of premises.old)) ≤ length names.now }
+    ensures literals { All (λ clause. vec_len clause < 2 ^ 32) premises.new }
+    ensures renamed { clauses_of premises.new ≡ renamed_in names.now 0 (clauses_of premises.old) }
 {
-    let mut renamed = Vec::with_capacity(alloc, premises.len())?;
     let mut from = 0;
-    for clause in premises {
-        renamed.push(rename_clause(alloc, clause.as_slice(), names, from)?)?;
-        from += clause.len();
+    for k in 0..premises.len() {
+        let clause = premises[k].as_mut_slice();
+        let len = clause.len();
+        rename_here(clause, names, from);
+        from += len;
     }
-    Ok(renamed)
 }

@@ -75,8 +75,8 @@ pub(crate) fn propagation_end(
     terms.equal_exactly_where_terms_are();
     decide(
         scratch.alloc,
-        &scratch.premises[..premises.len()],
-        &scratch.goal,
+        &mut scratch.premises[..premises.len()],
+        &mut scratch.goal,
         &mut scratch.falses,
         &mut scratch.units,
     )

@@ -8,7 +8,7 @@ use Rattle.rules_resolution.proofs.scratch.propagation_end.Goals as goal
 
 pub decide-requires-clause-literals : goal.decide-requires-clause-literals
 decide-requires-clause-literals c =
-    rw c.deref.ensures.value
+    rw c.deref_mut.ensures.value
     (short_clauses c.args.symbols.now c.args.terms.now 4294967296 c.args.premises.now _ c.requires.short.short c.in_ok-load_clauses.ensures.loaded)
 
 pub returns-clause-end : goal.returns-clause-end
@@ -20,4 +20,4 @@ returns-clause-end c =
     IfOk-weaker c.decide.result _ _
     (end_of_terms s v c.args.premises.now c.args.clause.now _ one _ _ c.in_ok-load_clauses.ensures.loaded
     (rw c.in_ok-load_clauses.ensures.same at c.in_ok-load_clause.ensures.loaded))
-    (rw (c.deref.ensures.value, c.deref-2.ensures.value) at c.decide.ensures)
+    (rw (c.deref_mut.ensures.value, c.deref_mut-2.ensures.value) at c.decide.ensures)
