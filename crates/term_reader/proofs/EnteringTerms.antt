@@ -16,6 +16,7 @@ use Rattle.problem_text.specs.Forms.{Form, number, symbol, application, let_form
 use Rattle.term_reader.specs.Frames.{WholeReading, AreFrames}
 use Rattle.term_model.specs.Heights.{height}
 use Rattle.problem_text.specs.Limits.{most_height}
+use Rattle.text_items.specs.ItemShapes.{Name}
 use Rattle.text_items.specs.Stepping.{name_in, IsSymbolAt}
 use Rattle.term_reader.specs.Layers.{form_at, forms_at, AreBinds, names_at, AreTermAttributes}
 use Rattle.problem_text.specs.Names.{Place, meaning_of}
@@ -61,6 +62,17 @@ stands_alike s v r sc terms names p h =
 stands_opened : (s : Table) (v : TermsView) (r : ReadingView) (f : Frame) (sc : Script) (p : Place) → ReaderStands (both s v) r sc p
     → ReaderStands (both s v) (with_open r f) sc p
 stands_opened s v r f sc p h = record { script = h.script; scope = h.scope; settings = h.settings; low = h.low }
+
+-- what a call says that reads a symbol alone
+abbrev pub IsSymbolRead : Table → TermsView → ReadingView → Name → TermsView → Result Value ReadFault → Type 0
+IsSymbolRead s v r n w result =
+    (sc : Script) (p : Place) → ReaderStands (both s v) r sc p → ComesTo terms_read v (both s w) (IsReadAlone (both s w) sc) (term_from (symbol n) p sc) result
+
+-- a symbol's name, where it stands
+pub name_here : (items : ItemsView) (k place : ℕ) (name : List ℕ) → place ≡ place_of (item_at items k) → name ≡ (name_in items k).name
+    → record { place = place; name = name } ≡ name_in items k
+name_here items k place name starts named =
+    ap (λ (n : ℕ). record { place = n; name = name }) starts ∙ ap (λ (n : List ℕ). record { place = place_of (item_at items k); name = n }) named
 
 -- the node that is read next is further on, and within the text
 pub record IsFurther (items : ItemsView) (k next : ℕ) : Type 0 where
@@ -128,27 +140,22 @@ module _ (items : ItemsView) (g : WholeReading) (s : Table) (v : TermsView) (r :
       ∙ number_comes (place_of (item_at items k)) m h.at.place h.at.script (limit_so h.at.place.settings r.replaces_lets h.at.stands.settings))
       (record { same = refl; is = is.is v m same; low = is.low }))
 
-  -- what a call says that reads a symbol alone
-  abbrev IsSymbolRead : TermsView → Result Value ReadFault → Type 0
-  IsSymbolRead w result =
-      (sc : Script) (p : Place) → ReaderStands (both s v) r sc p → ComesTo terms_read v (both s w) (IsReadAlone (both s w) sc)
-      (term_from (symbol (name_in items k)) p sc) result
-
-  symbol_read : (w : TermsView) (result : Result Value ReadFault) (h : Top Layer.Symbol) → IsSymbolRead w result
+  symbol_read : (w : TermsView) (n : Name) (result : Result Value ReadFault) (h : Top Layer.Symbol) → n ≡ name_in items k → IsSymbolRead s v r n w result
       → ComesTo terms_read v (both s w) (IsReadAlone (both s w) h.at.script) (comes_of h.at) result
-  symbol_read w result h reads =
+  symbol_read w n result h is reads =
       let (e, named, alone) = h.top in
-      subst (λ (f : Form). ComesTo terms_read v (both s w) (IsReadAlone (both s w) h.at.script) (term_from f h.at.place h.at.script) result) (sym e)
-      (reads h.at.script h.at.place h.at.stands)
+      subst (λ (f : Form). ComesTo terms_read v (both s w) (IsReadAlone (both s w) h.at.script) (term_from f h.at.place h.at.script) result)
+      (ap symbol is ∙ sym e) (reads h.at.script h.at.place h.at.stands)
 
-  pub symbol_goes : (w : TermsView) (c : Value) → Top Layer.Symbol → KeepsTerms v w → IsSymbolRead w (Ok c)
+  pub symbol_goes : (w : TermsView) (n : Name) (c : Value) → Top Layer.Symbol → n ≡ name_in items k → KeepsTerms v w → IsSymbolRead s v r n w (Ok c)
       → Goes items g v (both s w) r (Ok (Turn.Use c (k + 1)))
-  symbol_goes w c h keeps reads =
+  symbol_goes w n c h is keeps reads =
       let (e, named, alone) = h.top in
-      value_goes s w c h.at (record { symbols = adds_none s; terms = keeps }) alone (symbol_read w (Ok c) h reads)
+      value_goes s w c h.at (record { symbols = adds_none s; terms = keeps }) alone (symbol_read w n (Ok c) h is reads)
 
-  pub symbol_fails_goes : (w : TermsView) (f : ReadFault) → Top Layer.Symbol → IsSymbolRead w (Err f) → Goes items g v (both s w) r (Err f)
-  symbol_fails_goes w f h reads = fails g.whole (part h.at) (symbol_read w (Err f) h reads)
+  pub symbol_fails_goes : (w : TermsView) (n : Name) (f : ReadFault) (q : ReadingView) → Top Layer.Symbol → n ≡ name_in items k
+      → IsSymbolRead s v r n w (Err f) → Goes items g v (both s w) q (Err f)
+  symbol_fails_goes w n f q h is reads = fails g.whole (part h.at) (symbol_read w n (Err f) h is reads)
 
   -- the frames with one more
   all_values : (fs : List Frame) (ls : List ℕ) (p : Place) (m n : ℕ) (ws : List Waiting) → m ≡ n
@@ -334,7 +341,7 @@ module _ (items : ItemsView) (g : WholeReading) (s : Table) (v : TermsView) (r :
 -- what comes of opening a form
 module _ (e : ReadSettings) (r new : Reader) (frame : Frame) (next : ℕ) (result : Result Turn ReadFault)
     (is : IfOk result (λ (t : Turn). (t ≡ Turn.Read next) × (new ≡ record r { frames = frame ∷ r.frames }))) where
-  at_opened : (P : ReadingView → Turn → Type 0) → P (with_open (reader_in e r) frame) (Turn.Read next) → IfOk result (λ (t : Turn). P (reader_in e new) t)
+  pub at_opened : (P : ReadingView → Turn → Type 0) → P (with_open (reader_in e r) frame) (Turn.Read next) → IfOk result (λ (t : Turn). P (reader_in e new) t)
   at_opened P h = go result is
     where
       go : (a : Result Turn ReadFault) → IfOk a (λ (t : Turn). (t ≡ Turn.Read next) × (new ≡ record r { frames = frame ∷ r.frames }))

@@ -1,5 +1,5 @@
 -- Entries that are kept, and one name more.
-use Rattle.std.proofs.Common.{◌≡◌, ℕ, ◌+◌, List, [], ◌∷◌, ◌++◌, length, length-append, arith, ap, ◌∙◌, sym}
+use Rattle.std.proofs.Common.{◌≡◌, ◌+◌, [], ◌∷◌, ◌++◌, length, length-append, arith, ap, ◌∙◌}
 use Rattle.term_names.specs.Scope.{OwnNames}
 use Rattle.term_names.specs.declared.entries.Named as named
 use Rattle.term_reader.specs.KeptEntries.{KeepsEntries}

@@ -1,11 +1,10 @@
 -- Rows that were kept, with one more.
-use Rattle.std.proofs.Common.{◌≡◌, ◌⊎◌, inl, inr, ℕ, ◌≤◌, List, length, sym, ap, subst, slice_get, Some}
+use Rattle.std.proofs.Common.{◌≡◌, ◌⊎◌, inl, inr, ℕ, List, sym, subst, slice_get, Some}
 use Rattle.std.specs.Prelude.{slice_range}
 use Rattle.problem_text.specs.Names.{Place}
 use Rattle.problem_text.specs.Scripts.{Script}
 use Rattle.term_expansion.specs.SymbolsAndTerms.{SymbolsAndTerms}
-use Rattle.term_expansion.specs.declared.values.Value.{Value}
-use Rattle.term_reader.specs.Lately.{LatelyView, IsRight, AreRight, IsRow, AreRows, IsPut}
+use Rattle.term_reader.specs.Lately.{IsRight, AreRight, IsRow, AreRows, IsPut}
 use Rattle.term_reader.specs.declared.lately.Row.{Row}
 
 pub rows_put : (text : List ℕ) (stamp : ℕ) (old new : List Row) (row : Row) → IsPut old row new → AreRows text stamp old → IsRow text stamp row → AreRows text stamp new

@@ -12,6 +12,7 @@ pub mod Staying
 pub mod Coming
 pub mod AtomLemmas
 pub mod EnteringTerms
+pub mod EnteringArguments
 pub mod ReadingTurns
 pub mod Limited
 pub mod MoreRead

@@ -1,26 +1,24 @@
 -- What a list that was read lately is read to again, and what a list that was read now will be.
 use Rattle.std.proofs.Common.{◌≡◌, ℕ, List, Ok, sym, ap, ◌∙◌, subst, refl}
-use Rattle.std.specs.Prelude.{slice_range, length}
-use Rattle.sexpr.specs.Items.{Item, Items, list, place_of}
+use Rattle.std.specs.Prelude.{slice_range}
+use Rattle.sexpr.specs.Items.{Item, Items, list}
 use Rattle.sexpr.specs.Spans.{IsListAt}
 use Rattle.sym_table.specs.Table.{Table}
 use Rattle.term_pool.specs.Views.{TermsView}
 use Rattle.term_pool.proofs.PlacedCells.{places_none}
-use Rattle.text_items.specs.ItemShapes.{items_of}
 use Rattle.problem_text.specs.Alike.{SayTheSame}
 use Rattle.problem_text.specs.Forms.{form_of}
 use Rattle.problem_text.specs.Names.{Place}
-use Rattle.problem_text.specs.Outcomes.{Outcome, done}
-use Rattle.problem_text.specs.Remembered.{IsReadTo, StandFor}
+use Rattle.problem_text.specs.Outcomes.{Outcome}
 use Rattle.problem_text.specs.Scripts.{Script}
 use Rattle.problem_text.specs.Terms.{read_term}
 use Rattle.problem_text.specs.TypedTerms.{Typed}
 use Rattle.problem_text.proofs.ReadAgain.{remembered, stand_for_stays}
-use Rattle.term_expansion.specs.SymbolsAndTerms.{SymbolsAndTerms, both}
+use Rattle.term_expansion.specs.SymbolsAndTerms.{both}
 use Rattle.term_expansion.specs.declared.values.Value.{Value}
 use Rattle.term_names.specs.Known.{KnownView}
 use Rattle.term_names.specs.Standing.{IsScript, GrowByTerms}
-use Rattle.std.proofs.Common.{Option, Some, None, IfSome, ◌<◌}
+use Rattle.std.proofs.Common.{Option, Some, None, IfSome}
 use Rattle.std.specs.Borrow.{Bor}
 use Rattle.text_items.specs.ItemsAt.{ItemsView, item_at}
 use Rattle.text_items.specs.Stepping.{IsListThere}

@@ -66,6 +66,18 @@ begins items k s v r there (sc, p, idle) = record {
   few = let e : credit r.frames ≡ 0 = ap credit idle.no_frames in omega arith;
 }
 
+-- one turn and another one
+module _ (items : ItemsView) (g : WholeReading) (v : TermsView) (z : Table) (w : TermsView) (q : ReadingView) (turn : Turn) (y : Table) (x : TermsView)
+    (o : ReadingView) where
+  pub turns : (result : Result Turn ReadFault) → Goes items g v (both z w) q (Ok turn) → (IsTurn items g (both z w) q turn → Goes items g w (both y x) o result)
+      → GrowByTerms (both z w) (both y x) → Goes items g v (both y x) o result
+  turns result h goes grow =
+      let step = goes h.answer in
+      record {
+        answer = step.answer;
+        placed = places_then _ _ v.pass w.pass x.pass (IsReadBy terms_read g.whole) grow.symbols.keeps grow.terms.pass h.placed step.placed;
+      }
+
 module _ (items : ItemsView) (k : ℕ) (s : Table) (v : TermsView) (r : ReadingView) (z : Table) (w : TermsView) (q : ReadingView) (turn : Turn) where
   -- the turn is one of some reading
   pub some_turn : (sc : Script) × (p : Place) × IsReaderIdle (both s v) r sc p → IsUnderWay items k s v r z w q turn
@@ -73,17 +85,6 @@ module _ (items : ItemsView) (k : ℕ) (s : Table) (v : TermsView) (r : ReadingV
   some_turn (sc, p, idle) h = (reading items k r.names.scope sc p, (h.goes sc p idle).answer)
 
   module _ (y : Table) (x : TermsView) (o : ReadingView) where
-    -- one turn and another one
-    turns : (g : WholeReading) (result : Result Turn ReadFault) → Goes items g v (both z w) q (Ok turn)
-        → (IsTurn items g (both z w) q turn → Goes items g w (both y x) o result)
-        → GrowByTerms (both z w) (both y x) → Goes items g v (both y x) o result
-    turns g result h goes grow =
-        let step = goes h.answer in
-        record {
-          answer = step.answer;
-          placed = places_then _ _ v.pass w.pass x.pass (IsReadBy terms_read g.whole) grow.symbols.keeps grow.terms.pass h.placed step.placed;
-        }
-
     -- one turn more
     pub goes_on : (next : Turn) → IsUnderWay items k s v r z w q turn
         → ((g : WholeReading) → IsTurn items g (both z w) q turn → Goes items g w (both y x) o (Ok next))
@@ -91,7 +92,7 @@ module _ (items : ItemsView) (k : ℕ) (s : Table) (v : TermsView) (r : ReadingV
         → node_of next ≤ length items.nodes → bound_of y items.nodes o.frames (node_of next) ≤ bound_of z items.nodes q.frames (node_of turn)
         → IsUnderWay items k s v r y x o next
     goes_on next h goes grow inside few = record {
-      goes = λ sc p idle. let g = reading items k r.names.scope sc p in turns g (Ok next) (h.goes sc p idle) (goes g) grow;
+      goes = λ sc p idle. let g = reading items k r.names.scope sc p in turns items g v z w q turn y x o (Ok next) (h.goes sc p idle) (goes g) grow;
       grow = grow_by_terms_then (both s v) (both z w) (both y x) h.grow grow;
       inside = inside;
       few = let e = h.few in omega arith;
@@ -105,7 +106,7 @@ module _ (items : ItemsView) (k : ℕ) (s : Table) (v : TermsView) (r : ReadingV
         → ComesTo terms_read v (both y x) (IsTermRead (both y x) o p) (read_term (item_at items k) p sc) (Err fault)
     fails fault h goes grow sc p idle =
         let g = reading items k r.names.scope sc p in
-        let ended = turns g (Err fault) (h.goes sc p idle) (goes g) grow in
+        let ended = turns items g v z w q turn y x o (Err fault) (h.goes sc p idle) (goes g) grow in
         record { answer = ended.answer; placed = ended.placed }
 
 -- a term was read and no form is open

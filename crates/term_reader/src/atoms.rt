@@ -31,7 +31,7 @@ use term_names::using::use_alone;
 use term_pool::Terms;
 use text_items::nodes::ItemText;
 use text_items::refusals::refused;
-use text_items::shapes::{name_of, place_at};
+use text_items::shapes::name_of;
 
 /// The value of a numeral, whose leaf is added where it is not there. Refused only when out of memory.
 pub(crate) fn number_value(symbols: &mut Symbols, n: i128) -> Result<Value, ReadFault>
@@ -52,29 +52,27 @@ pub(crate) fn number_value(symbols: &mut Symbols, n: i128) -> Result<Value, Read
     })
 }
 
-/// The term that the symbol at node `k` is, which stands alone.
+/// The term that a symbol of this name is, which stands alone at `place`.
 pub(crate) fn symbol_value(
     settings: &ReadSettings<'_>,
-    items: &ItemText<'_, '_>,
     symbols: &Symbols,
     terms: &mut Terms<'_>,
     reader: &Reader,
-    k: usize,
+    name: &[u8],
+    place: u64,
 ) -> Result<Value, ReadFault>
-    requires name { IsSymbolAt items.now k }
     requires reader { (sc : Script) × (p : Place) × ReaderStands (both symbols.now terms.old) (reader_in settings.now reader.now) sc p }
     ensures reads { (sc : Script) (p : Place) → ReaderStands (both symbols.now terms.old) (reader_in settings.now reader.now) sc p →
         ComesTo terms_read terms.old (both symbols.now terms.new) (IsReadAlone (both symbols.now terms.new) sc)
-        (term_from (symbol (name_in items.now k)) p sc) result }
+        (term_from (symbol (record { place = place; name = name.now })) p sc) result }
     ensures keeps { KeepsTerms terms.old terms.new }
 {
-    let place = place_at(items, k);
     let tables = NameTables {
         settings,
         symbols,
         names: &reader.names,
     };
-    let found = find(&tables, name_of(items, k));
+    let found = find(&tables, name);
     if is_unknown(&found) {
         return Err(ReadFault::Text(refused(Cause::UnknownName, place)));
     }

@@ -1,12 +1,12 @@
 //! What a node in a term's place spells, as far as its top goes.
-ghost use Rattle.std.specs.Prelude.{◌≡◌, ◌+◌, ◌<◌, length, true, false, Some, None};
+ghost use Rattle.std.specs.Prelude.{◌≡◌, ◌+◌, ◌<◌, length, true, false, Some, None, IfSome};
 ghost use Rattle.sexpr.specs.Items.{place_of, symbol_name};
 ghost use Rattle.sexpr.specs.Words.{is_symbol, is_numeral};
 ghost use Rattle.problem_text.specs.Forms as spec;
 ghost use Rattle.problem_text.specs.Forms.{form_of, forms_of, binds_of};
 ghost use Rattle.problem_text.specs.Words.{is_among, left_out_words};
 ghost use Rattle.term_reader.specs.ShapeFaults.{IsLayer};
-ghost use Rattle.text_items.specs.Stepping.{AreInside};
+ghost use Rattle.text_items.specs.Stepping.{AreInside, name_in};
 ghost use Rattle.text_items.specs.ItemsAt.{item_at};
 ghost use Rattle.term_reader.specs.Shapes.{IsApplied, arguments_of, others_of, applied_form};
 ghost use Rattle.term_reader.specs.ShapeFaults.{IsSymbolLayer, IsTokenLayer, is_numeral_kind, cause_of_kind, IsHeadFault};
@@ -63,6 +63,22 @@ pub(crate) fn layer_at(items: &ItemText<'_, '_>, k: usize) -> Layer
         Some(name) => symbol_layer(name, place_at(items, k)),
         None => token_layer(items, k),
     }
+}
+
+/// The name of the symbol at a node, where its top is one: where the item is a symbol, and its name is not left out.
+#[inline(always)]
+pub(crate) fn symbol_at<'t>(items: &ItemText<'_, 't>, k: usize) -> Option<&'t [u8]>
+    requires there { k < length items.now.nodes }
+    requires inside { AreInside items.now }
+    ensures { IfSome result (λ name. IsLayer items.now k Layer.Symbol (form_of (item_at items.now k)) × (name.now ≡ (name_in items.now k).name)) }
+{
+    let Some(name) = name_at(items, k) else {
+        return None;
+    };
+    if is_left_out(name) {
+        return None;
+    }
+    Some(name)
 }
 
 /// The top of a symbol that stands at `place`.

@@ -87,7 +87,7 @@ pub(crate) fn leave(
 }
 
 /// The last argument of an application was read: what is applied to them.
-fn leave_arguments(
+pub(crate) fn leave_arguments(
     settings: &ReadSettings<'_>,
     symbols: &Symbols,
     terms: &mut Terms<'_>,

@@ -6,22 +6,27 @@ use Rattle.term_reader.specs.Entering.{IsNumber}
 use Rattle.term_reader.specs.Leaving.{Spends}
 use Rattle.term_reader.specs.ReadingViews.{reader_in}
 use Rattle.term_reader.specs.declared.reader.Turn.{Turn}
-use Rattle.term_reader.proofs.EnteringTerms.{faulty_goes, number_goes, symbol_goes, symbol_fails_goes, annotation_goes, annotation_further, opened_goes, opened_spends}
+use Rattle.term_reader.proofs.EnteringTerms.{faulty_goes, number_goes, name_here, symbol_goes, symbol_fails_goes, annotation_goes, annotation_further, opened_goes, opened_spends}
 use Rattle.term_reader.proofs.InnermostForm.{spends_inside, spends_few, spends_progress}
 use Rattle.term_reader.proofs.entering.enter.Goals as goal
+
+pub name_of-name-requires : goal.name_of-name-requires
+name_of-name-requires c = c.in-Symbol.ensures.1
 
 pub returns-in_err-value-in-Symbol-clause-goes : goal.returns-in_err-value-in-Symbol-clause-goes
 returns-in_err-value-in-Symbol-clause-goes c g a =
     let e = err_from_is_err_and c.from_residual-in_err-value-in-Symbol.result c.from_residual-in_err-value-in-Symbol.ensures.1 in
     rw (e.1, e.2)
     (symbol_fails_goes c.args.items.now g c.args.symbols.now c.args.terms.now (reader_in c.args.settings.now c.args.reader.now) c.args.k
-    c.symbol_value.new.terms c.in_err-value-in-Symbol.field-0.0 (record { at = a; top = c.in-Symbol.ensures }) c.in_err-value-in-Symbol.ensures.reads)
+    c.symbol_value.new.terms _ c.in_err-value-in-Symbol.field-0.0 _ (record { at = a; top = c.in-Symbol.ensures })
+    (name_here c.args.items.now c.args.k c.place_at.result c.name_of-name.result.now c.place_at.ensures c.name_of-name.ensures)
+    c.in_err-value-in-Symbol.ensures.reads)
 
 pub overflow_add-result-in-Symbol : goal.overflow_add-result-in-Symbol
 overflow_add-result-in-Symbol c = let (g, a) = c.requires.at in let within = a.inside in omega arith
 
 pub enter_application-requires : goal.enter_application-requires
-enter_application-requires c = let (g, a) = c.requires.at in (c.args.terms.now, g, record { at = a; top = c.in-Application.ensures })
+enter_application-requires c = let (g, a) = c.requires.at in record { top = (g, record { at = a; top = c.in-Application.ensures }); inside = c.requires.inside }
 
 pub enter_let-requires : goal.enter_let-requires
 enter_let-requires c = let (g, a) = c.requires.at in (c.args.symbols.now, c.args.terms.now, g, record { at = a; top = c.in-Let.ensures })
@@ -51,7 +56,9 @@ returns-in_ok-number_value-in-Number-clause-progress c = let (g, a) = c.requires
 pub returns-in_ok-value-in-Symbol-clause-goes : goal.returns-in_ok-value-in-Symbol-clause-goes
 returns-in_ok-value-in-Symbol-clause-goes c g a =
     symbol_goes c.args.items.now g c.args.symbols.now c.args.terms.now (reader_in c.args.settings.now c.args.reader.now) c.args.k c.symbol_value.new.terms
-    c.in_ok-value-in-Symbol.value (record { at = a; top = c.in-Symbol.ensures }) c.symbol_value.ensures.keeps c.in_ok-value-in-Symbol.ensures.reads
+    _ c.in_ok-value-in-Symbol.value (record { at = a; top = c.in-Symbol.ensures })
+    (name_here c.args.items.now c.args.k c.place_at.result c.name_of-name.result.now c.place_at.ensures c.name_of-name.ensures)
+    c.symbol_value.ensures.keeps c.in_ok-value-in-Symbol.ensures.reads
 
 pub returns-in_ok-value-in-Symbol-clause-inside : goal.returns-in_ok-value-in-Symbol-clause-inside
 returns-in_ok-value-in-Symbol-clause-inside c = let (g, a) = c.requires.at in let within = a.inside in omega arith
@@ -60,7 +67,7 @@ pub returns-in_ok-value-in-Symbol-clause-progress : goal.returns-in_ok-value-in-
 returns-in_ok-value-in-Symbol-clause-progress c = let (g, a) = c.requires.at in let within = a.inside in omega arith
 
 pub returns-in-Application-clause-goes : goal.returns-in-Application-clause-goes
-returns-in-Application-clause-goes c g a = c.enter_application.ensures.goes c.args.terms.now g (record { at = a; top = c.in-Application.ensures })
+returns-in-Application-clause-goes c g a = c.enter_application.ensures.goes g (record { at = a; top = c.in-Application.ensures })
 
 pub returns-in-Let-clause-goes : goal.returns-in-Let-clause-goes
 returns-in-Let-clause-goes c g a = c.enter_let.ensures.goes c.args.symbols.now c.args.terms.now g (record { at = a; top = c.in-Let.ensures })

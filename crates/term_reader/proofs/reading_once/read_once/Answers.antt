@@ -1,9 +1,9 @@
 -- A list that is found was read before; what is read now is kept where no name was given.
-use Rattle.std.proofs.Common.{◌≡◌, ap, sym, ◌∙◌, subst, rules, length, arith, refl}
+use Rattle.std.proofs.Common.{◌≡◌, ap, length, arith}
 use Rattle.std.proofs.lemmas.Bool.Decides.{nat_tests}
 use Rattle.std.proofs.lemmas.Result.{err_from_is_err_and}
 use Rattle.term_names.specs.Entries.{EntriesView}
-use Rattle.term_names.specs.Known.{KnownView, base_of}
+use Rattle.term_names.specs.Known.{base_of}
 use Rattle.term_reader.specs.ReadingViews.{reader_in}
 use Rattle.term_reader.proofs.Coming.{faulted}
 use Rattle.term_reader.proofs.ReadLately.{list_found, read_kept}

@@ -1,4 +1,4 @@
-use Rattle.std.proofs.Common.{◌≡◌, ◌+◌, sym, subst, rules, arith, length, slice_range}
+use Rattle.std.proofs.Common.{◌≡◌, ◌+◌, sym, subst, rules, length, slice_range}
 use Rattle.term_reader.specs.Lately.{LatelyView, IsRight, AreRight}
 use Rattle.term_reader.proofs.LatelyLemmas.{rows_put, right_put}
 use Rattle.term_reader.proofs.lately.Lately.keep.Goals as goal

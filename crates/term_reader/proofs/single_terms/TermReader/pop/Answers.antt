@@ -1,5 +1,5 @@
 -- The variable had not been put in scope yet.
-use Rattle.std.proofs.Common.{reverse, sym, subst, ◌∙◌}
+use Rattle.std.proofs.Common.{sym, subst, ◌∙◌}
 use Rattle.term_reader.specs.ProblemViews.{IsReaderOf}
 use Rattle.term_reader.specs.ReadingViews.{reader_in}
 use Rattle.term_reader.proofs.PushedVariables.{reader_unpushed}
