@@ -7,7 +7,7 @@ ghost use Rattle.rule_model.specs.Writing.{unwritten, add_assume, open_anchor, t
 ghost use Rattle.proof_store.specs.Steps.{step_with, anchor_with};
 
 use crate::answers::Ratio;
-use crate::commands::NewCommand;
+use crate::commands::{NewCommand, Room};
 use crate::drafts::{self, Draft};
 use crate::proof::Proof;
 use pair_pool::{Memory, Ref};
@@ -49,6 +49,14 @@ impl ProofBuilder {
         ProofBuilder {
             draft: drafts::empty(alloc),
         }
+    }
+
+    /// Nothing is written, with room for so much: as long as no more is written of any of it, its vectors don't grow.
+    pub fn with_room(alloc: Global, room: Room) -> Result<ProofBuilder, Memory>
+        ensures { IfOk result (λ builder. builder ≡ unwritten) }
+    {
+        let draft = drafts::empty_with(alloc, room)?;
+        Ok(ProofBuilder { draft })
     }
 
     /// Adds an assume, and returns its index. Its id is a symbol, which neither a visible command nor an open anchor

@@ -83,6 +83,15 @@ pub(crate) struct NewCommand<'a> {
     pub(crate) fresh: u32,
 }
 
+/// How much commands take: how many they are, the bytes of their ids, and the items of their clauses and of their lists of premises.
+#[derive(Clone, Copy, Debug, PartialEq, Eq)]
+pub struct Room {
+    pub commands: usize,
+    pub id_bytes: usize,
+    pub literals: usize,
+    pub premises: usize,
+}
+
 /// The number of a rule's name, where the rule is unknown, and 0 where it is not.
 fn name_number(names: &mut Names, rule: Rule, name: &[u8]) -> Result<u32, Memory>
     requires few { length names.old < 2 ^ 32 - 1 }
@@ -141,6 +150,28 @@ impl Commands {
             },
             names: Names::new(alloc),
         }
+    }
+
+    /// No commands, with room for so much.
+    pub(crate) fn with_room(alloc: Global, room: Room) -> Result<Commands, Memory>
+        ensures { IfOk result (λ a. a ≡ []) }
+    {
+        let ids = Lists::with_room(alloc, room.commands, room.id_bytes)?;
+        let clauses = Lists::with_room(alloc, room.commands, room.literals)?;
+        let premises = Lists::with_room(alloc, room.commands, room.premises)?;
+        let rows = Vec::with_capacity(alloc, room.commands)?;
+        Ok(Commands {
+            rows,
+            columns: Columns {
+                ids,
+                clauses,
+                premises,
+                discharged: Lists::new(alloc),
+                pivots: Lists::new(alloc),
+                ratios: Lists::new(alloc),
+            },
+            names: Names::new(alloc),
+        })
     }
 
     /// How many commands there are.

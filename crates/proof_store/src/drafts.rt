@@ -8,7 +8,7 @@ ghost use Rattle.proof_store.specs.Steps.{anchor_with};
 ghost use Rattle.proof_store.specs.Stored.{stored};
 ghost use Rattle.proof_store.specs.Drafts.{proof_of, IsDraft, with_command, step_of_new, stored_assume, Writes};
 
-use crate::commands::{Commands, NewCommand};
+use crate::commands::{Commands, NewCommand, Room};
 use crate::scopes::Scopes;
 use pair_pool::{Memory, Ref};
 use rule_model::Rule;
@@ -36,6 +36,20 @@ pub(crate) fn empty(alloc: Global) -> Draft
         here: 0,
         pending: 0,
     }
+}
+
+/// Nothing is written, with room for so much.
+pub(crate) fn empty_with(alloc: Global, room: Room) -> Result<Draft, Memory>
+    ensures proof { IfOk result (λ draft. proof_of draft ≡ unwritten) }
+    ensures draft { IfOk result (λ draft. IsDraft draft (proof_of draft)) }
+{
+    let commands = Commands::with_room(alloc, room)?;
+    Ok(Draft {
+        commands,
+        scopes: Scopes::new(alloc),
+        here: 0,
+        pending: 0,
+    })
 }
 
 /// Adds a command, which belongs to a scope.

@@ -17,6 +17,7 @@ mod words;
 pub use added::{Added, Link};
 pub use answers::Ratio;
 pub use builder::ProofBuilder;
+pub use commands::Room;
 pub use laws::{commands_correspond, proofs_stand_for_one, proofs_stay, terms_correspond};
 pub use premises::premise_clauses;
 pub use proof::Proof;

@@ -1,6 +1,6 @@
 //! Lists of lists, kept end to end.
 
-ghost use Rattle.std.specs.Prelude.{◌≡◌, ◌+◌, ◌^◌, ◌<◌, ◌≤◌, ◌++◌, [], ◌∷◌, length, take, slice_get, slice_index_or, ℕ, Some, false, OnOk, OnErr};
+ghost use Rattle.std.specs.Prelude.{◌≡◌, ◌+◌, ◌^◌, ◌<◌, ◌≤◌, ◌++◌, [], ◌∷◌, length, take, slice_get, slice_index_or, ℕ, Some, false, IfOk, OnOk, OnErr};
 ghost use Rattle.proof_store.specs.Lists.{parts, start_of, AreListEnds, filled, SameBelow};
 
 use pair_pool::Memory;
@@ -154,6 +154,15 @@ impl<T: Copy + Drop> Lists<T> {
             items: Vec::new(alloc),
             ends: Vec::new(alloc),
         }
+    }
+
+    /// No lists, with room for so many lists and so many items of all of them.
+    pub(crate) fn with_room(alloc: Global, lists: usize, items: usize) -> Result<Lists<T>, Memory>
+        ensures { IfOk result (λ a. a ≡ []) }
+    {
+        let items = Vec::with_capacity(alloc, items)?;
+        let ends = Vec::with_capacity(alloc, lists)?;
+        Ok(Lists { items, ends })
     }
 
     /// The list at place `i`, counted from 0.
