@@ -9,9 +9,9 @@ use Rattle.elaborator.specs.Blocks.{blocks_of, commands_for, commands_needed}
 use Rattle.elaborator.specs.Steps.{blocks_in, block_at}
 
 -- a block by its index
-pub block_is : (bs : List (Bor (List AddedStep))) (i : ℕ) (b : Bor (List AddedStep)) → i < length bs → b ≡ slice_index_or bs i b → b.now ≡ block_at (blocks_in bs) i
+pub block_is : (bs : List (Bor (Vec AddedStep Global))) (i : ℕ) (b : Bor (Vec AddedStep Global)) → i < length bs → b ≡ slice_index_or bs i b → b.now.items ≡ block_at (blocks_in bs) i
 block_is [] i b less e = absurd (omega arith)
-block_is (c ∷ bs) zero b less e = ap (λ (y : Bor (List AddedStep)). y.now) e
+block_is (c ∷ bs) zero b less e = ap (λ (y : Bor (Vec AddedStep Global)). y.now.items) e
 block_is (c ∷ bs) (suc i) b less e = block_is bs i b (omega arith) e
 
 -- how many commands the blocks up to one need
@@ -19,24 +19,24 @@ needed_append : (xs ys : List (List AddedStep)) → commands_needed (xs ++ ys) �
 needed_append [] ys = omega arith
 needed_append (x ∷ xs) ys = let rest = needed_append xs ys in omega arith
 
-pub needed_taken : (bs : List (Bor (List AddedStep))) (k : ℕ) (b : Bor (List AddedStep)) → k < length bs → b ≡ slice_index_or bs k b
-    → commands_needed (blocks_in (take (k + 1) bs)) ≡ commands_needed (blocks_in (take k bs)) + commands_for b.now
+pub needed_taken : (bs : List (Bor (Vec AddedStep Global))) (k : ℕ) (b : Bor (Vec AddedStep Global)) → k < length bs → b ≡ slice_index_or bs k b
+    → commands_needed (blocks_in (take (k + 1) bs)) ≡ commands_needed (blocks_in (take k bs)) + commands_for b.now.items
 needed_taken bs k b less e =
     let next = take_more bs k b less in
-    let taken : blocks_in (take (k + 1) bs) ≡ blocks_in (take k bs) ++ b.now ∷ [] =
+    let taken : blocks_in (take (k + 1) bs) ≡ blocks_in (take k bs) ++ b.now.items ∷ [] =
     ap blocks_in next
-    ∙ (map-append (λ (y : Bor (List AddedStep)). y.now) (take k bs) (slice_index_or bs k b ∷ [])
-    ∙ ap (λ (y : Bor (List AddedStep)). blocks_in (take k bs) ++ y.now ∷ []) (sym e)) in
-    let one = needed_append (blocks_in (take k bs)) (b.now ∷ []) in
+    ∙ (map-append (λ (y : Bor (Vec AddedStep Global)). y.now.items) (take k bs) (slice_index_or bs k b ∷ [])
+    ∙ ap (λ (y : Bor (Vec AddedStep Global)). blocks_in (take k bs) ++ y.now.items ∷ []) (sym e)) in
+    let one = needed_append (blocks_in (take k bs)) (b.now.items ∷ []) in
     ap commands_needed taken ∙ (one ∙ (omega arith))
 
-needed_less : (bs : List (Bor (List AddedStep))) (k : ℕ) → commands_needed (blocks_in (take k bs)) ≤ commands_needed (blocks_in bs)
+needed_less : (bs : List (Bor (Vec AddedStep Global))) (k : ℕ) → commands_needed (blocks_in (take k bs)) ≤ commands_needed (blocks_in bs)
 needed_less bs zero = omega arith
 needed_less [] (suc k) = omega arith
 needed_less (b ∷ bs) (suc k) = let rest = needed_less bs k in omega arith
 
-pub needed_enough : (bs : List (Bor (List AddedStep))) (k most : ℕ) (b : Bor (List AddedStep)) → k < length bs → b ≡ slice_index_or bs k b
-    → most ≤ commands_needed (blocks_in (take k bs)) + commands_for b.now → most ≤ commands_needed (blocks_in bs)
+pub needed_enough : (bs : List (Bor (Vec AddedStep Global))) (k most : ℕ) (b : Bor (Vec AddedStep Global)) → k < length bs → b ≡ slice_index_or bs k b
+    → most ≤ commands_needed (blocks_in (take k bs)) + commands_for b.now.items → most ≤ commands_needed (blocks_in bs)
 needed_enough bs k most b less e enough =
     let next = needed_taken bs k b less e in
     let rest = needed_less bs (k + 1) in omega arith

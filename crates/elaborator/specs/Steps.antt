@@ -1,6 +1,7 @@
 -- Private. The steps that are written, as the code has them.
-use Rattle.std.specs.Prelude.{◌<◌, ◌-◌, ℕ, List, [], map, length, take, slice_get, slice_index, slice_index_or, Option, Some, None, All}
+use Rattle.std.specs.Prelude.{◌<◌, ◌-◌, ℕ, List, [], map, length, take, slice_get, slice_index, slice_index_or, Option, Some, None, All, Vec}
 use Rattle.std.specs.Borrow.{Bor}
+use Rattle.std.specs.declared.alloc.Global.{Global}
 use Rattle.proof_store.specs.AddedSteps.{AddedStep}
 use Rattle.proof_store.specs.Steps.{step_with}
 use Rattle.rule_model.specs.Proofs.{Step, ProofItems}
@@ -9,8 +10,8 @@ use Rattle.rule_model.specs.RuleNames.{word_of}
 use Rattle.elaborator.specs.declared.steps.NewStep.{NewStep}
 use Rattle.elaborator.specs.Links.{IsWithin, target}
 
-abbrev pub blocks_in : List (Bor (List AddedStep)) → List (List AddedStep)
-blocks_in blocks = map (λ b. b.now) blocks
+abbrev pub blocks_in : List (Bor (Vec AddedStep Global)) → List (List AddedStep)
+blocks_in blocks = map (λ b. b.now.items) blocks
 
 -- an added step, whose links have their new indices
 abbrev pub added_step : List ℕ → ℕ → AddedStep → List ℕ → List ℕ → Step ℕ

@@ -13,22 +13,25 @@ use crate::blocks::{are_too_many, blocks_of};
 use crate::closers::closers_of;
 use crate::opening::Parts;
 use crate::putting::{Opened, Written};
+use crate::sizes::room_for;
 use crate::stops::AssembleStop;
 use crate::writing::write;
 use pair_pool::Memory;
-use proof_store::{Added, Proof, ProofBuilder};
+use proof_store::{Added, Proof, ProofBuilder, Room};
 use std::alloc::Global;
 
-/// Nothing is written.
-fn nothing(alloc: Global) -> Result<Written, Memory>
+/// Nothing is written, of so many commands of a proof. There is room for what is to be written.
+fn nothing(alloc: Global, count: u32, room: Room) -> Result<Written, Memory>
     ensures { IfOk result (λ written. (job : Job) → IsReached job unwritten (state_of written)) }
 {
     let mut opened = Vec::new(alloc);
     opened.push(Opened { start: 0, name: 0 })?;
+    let places = Vec::with_capacity(alloc, count as usize)?;
+    let builder = ProofBuilder::with_room(alloc, room)?;
     Ok(Written {
         alloc,
-        builder: ProofBuilder::new(alloc),
-        places: Vec::new(alloc),
+        builder,
+        places,
         opened,
         count: 0,
     })
@@ -50,7 +53,7 @@ fn assembled(alloc: Global, parts: &Parts<'_>) -> Result<Proof, Memory>
     requires { IsJob (job_of parts.now) }
     ensures { IfOk result (IsAssembled parts.now.proof.now (job_of parts.now).blocks) }
 {
-    let mut written = nothing(alloc)?;
+    let mut written = nothing(alloc, parts.proof.count(), room_for(parts))?;
     match write(parts, &mut written) {
         Ok(()) => finish(written),
         Err(stop) => {
@@ -68,7 +71,7 @@ fn assembled(alloc: Global, parts: &Parts<'_>) -> Result<Proof, Memory>
 /// have the new indices.
 ///
 /// Refuses exactly where there would be 2^32 - 1 commands or more, and when out of memory. It goes once over the commands to
-/// find which step closes which scope, and once to write them.
+/// find which step closes which scope, once to find how much room the new proof takes, and once to write them.
 pub fn assemble(
     alloc: Global,
     proof: &Proof,
@@ -79,7 +82,7 @@ pub fn assemble(
     ensures few { IfOk result (λ new. commands_needed (blocks_of pieces.now) < 2 ^ 32 - 1) }
     ensures too_many { IfErr result (λ stop. stop ≡ AssembleStop.TooMany → 2 ^ 32 - 1 ≤ commands_needed (blocks_of pieces.now)) }
 {
-    let blocks = blocks_of(alloc, pieces)?;
+    let blocks = blocks_of(alloc, pieces, proof.count())?;
     if are_too_many(&blocks) {
         return Err(AssembleStop::TooMany);
     }

@@ -12,7 +12,7 @@ use std::alloc::Global;
 const LIMIT: u64 = (1 << 32) - 1;
 
 /// Puts the blocks of a piece at the end.
-fn add_piece<'a>(blocks: &mut Vec<&'a [Added]>, piece: &'a [Vec<Added>]) -> Result<(), Memory>
+fn add_piece<'a>(blocks: &mut Vec<&'a Vec<Added>>, piece: &'a [Vec<Added>]) -> Result<(), Memory>
     ensures { OnOk result (blocks_in blocks.new.items ≡ blocks_in blocks.old.items ++ map (λ b. b.items) piece.now) }
 {
     'each: for block in piece {
@@ -21,14 +21,15 @@ fn add_piece<'a>(blocks: &mut Vec<&'a [Added]>, piece: &'a [Vec<Added>]) -> Resu
     Ok(())
 }
 
-/// The steps that are added for each command, in file order.
+/// The steps that are added for each of so many commands, in file order. A block takes 8 bytes.
 pub(crate) fn blocks_of<'a>(
     alloc: Global,
     pieces: &'a [Vec<Vec<Added>>],
-) -> Result<Vec<&'a [Added]>, Memory>
+    count: u32,
+) -> Result<Vec<&'a Vec<Added>>, Memory>
     ensures { IfOk result (λ list. blocks_in list.items ≡ blocks_of pieces.now) }
 {
-    let mut blocks = Vec::new(alloc);
+    let mut blocks = Vec::with_capacity(alloc, count as usize)?;
     'pieces: for piece in pieces {
         add_piece(&mut blocks, piece)?;
     }
@@ -48,7 +49,7 @@ fn size_of(block: &[Added]) -> u64
 }
 
 /// Whether there would be 2^32 - 1 commands or more.
-pub(crate) fn are_too_many(blocks: &[&[Added]]) -> bool
+pub(crate) fn are_too_many(blocks: &[&Vec<Added>]) -> bool
     ensures { IsTrue result ↔ 2 ^ 32 - 1 ≤ commands_needed (blocks_in blocks.now) }
 {
     let mut needed: u64 = 0;

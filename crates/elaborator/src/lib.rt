@@ -10,6 +10,7 @@ mod naming;
 mod opening;
 mod placing;
 mod putting;
+mod sizes;
 mod steps;
 mod stops;
 mod writing;

@@ -15,7 +15,7 @@ use proof_store::{Added, Proof};
 #[derive(Clone, Copy)]
 pub(crate) struct Parts<'a> {
     pub(crate) proof: &'a Proof,
-    pub(crate) blocks: &'a [&'a [Added]],
+    pub(crate) blocks: &'a [&'a Vec<Added>],
     pub(crate) closers: &'a [u32],
 }
 
@@ -24,7 +24,7 @@ pub(crate) fn block<'a>(parts: &Parts<'a>, i: u32) -> &'a [Added]
     requires { i < length (job_of parts.now).blocks }
     ensures { result.now ≡ block_at (job_of parts.now).blocks i }
 {
-    parts.blocks[i as usize]
+    parts.blocks[i as usize].as_slice()
 }
 
 /// The scope in which a command is reached.
