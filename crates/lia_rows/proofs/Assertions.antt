@@ -1,8 +1,8 @@
 -- The rows of assertions.
-use Rattle.std.proofs.Common.{◌≡◌, ◌≢◌, ◌⊎◌, inl, inr, ◌≤◌, ◌<◌, ℕ, zero, suc, ℤ, pos, negsuc}
-use Rattle.std.proofs.Common.{List, [], ◌∷◌, length, Some, All, Contains, Option, refl, sym, ap, subst, ◌∙◌, arith}
+use Rattle.std.proofs.Common.{◌≡◌, ◌≢◌, ◌⊎◌, inl, inr, ◌≤◌, ◌<◌, ℕ, zero, suc, ◌+◌, ℤ, pos, negsuc, ◌+ℤ◌, ◌*ℤ◌, ◌<ℤ◌, List, [], ◌∷◌, ◌++◌, length, get_or, Some, All, Contains, Option, refl, sym, ap, subst, ◌∙◌, arith}
 use Rattle.std.proofs.Math.IntN.{zero-*ℤ}
 use Rattle.std.proofs.lemmas.Int.{ints}
+use Rattle.std.proofs.lemmas.List.{append_assoc}
 use Rattle.std.proofs.lemmas.List.Elements.{All-cons, All-nil, All-weaker}
 use Rattle.term_model.proofs.Lists.{contains_later}
 use Rattle.term_model.specs.Terms.{Term, not_of}
@@ -18,6 +18,11 @@ one_row a b is_a is_b e =
     let same : a.comparison ≡ b.comparison = cc in
     ap (λ (t : Term). record { assertion = t; comparison = a.comparison }) e ∙ ap (λ (c : Comparison). record { assertion = b.assertion; comparison = c }) same
 
+pub rows_append : (ts us : List Term) (rows more : List Row) → AreRowsOf ts rows → AreRowsOf us more → AreRowsOf (ts ++ us) (rows ++ more)
+rows_append ts us rows more none h = h
+rows_append ts us rows more (given t row before front e is rest) h = given t row (before ++ us) (front ++ more) e is (rows_append before us front more rest h)
+rows_append ts us rows more (other t before front unsaid rest) h = other t (before ++ us) (front ++ more) unsaid (rows_append before us front more rest h)
+
 pub all_rows : (ts : List Term) (rows : List Row) → AreRowsOf ts rows → All IsRow rows
 all_rows ts rows none = All-nil IsRow
 all_rows ts rows (given t row before front e is rest) = All-cons IsRow row front is (all_rows before front rest)
@@ -32,8 +37,7 @@ record BeginsWith (t : Term) (ts : List Term) (all : List Row) : Type 0 where
   is : IsRow row
   given_rest : AreRowsOf ts rest
 
-begins : (xs : List Term) (all : List Row) → AreRowsOf xs all → (t : Term) (ts : List Term) → xs ≡ t ∷ ts
-    → BeginsWith t ts all ⊎ (GivesNoRow t × AreRowsOf ts all)
+begins : (xs : List Term) (all : List Row) → AreRowsOf xs all → (t : Term) (ts : List Term) → xs ≡ t ∷ ts → BeginsWith t ts all ⊎ (GivesNoRow t × AreRowsOf ts all)
 begins xs all none t ts e = absurd cc
 begins xs all (given u row us rows f is h) t ts e =
     let same : u ≡ t = cc in
@@ -43,6 +47,30 @@ begins xs all (other u us rows unsaid h) t ts e =
     let same : u ≡ t = cc in
     let same_rest : us ≡ ts = cc in
     inr (subst GivesNoRow same unsaid, subst (λ zs. AreRowsOf zs rows) same_rest h)
+
+-- the rows of assertions begin with those of the first of them
+pub rows_prefix : (ts us : List Term) (rows all : List Row) → AreRowsOf ts rows → AreRowsOf (ts ++ us) all → (rest : List Row) × (all ≡ rows ++ rest) × AreRowsOf us rest
+rows_prefix ts us rows all none h = (all, refl, h)
+rows_prefix ts us rows all (given t row before front e is rest) h =
+    elim (begins (t ∷ (before ++ us)) all h t (before ++ us) refl) [
+      | inl b ↦ (let more = rows_prefix before us front b.rest rest b.given_rest in
+          let same = one_row row b.row is b.is (e ∙ sym b.assertion) in
+          (more.0, b.whole ∙ ap (λ x. x ∷ b.rest) (sym same) ∙ ap (λ xs. row ∷ xs) more.1, more.2))
+      | inr none_given ↦ absurd (none_given.0 row is e)
+    ]
+rows_prefix ts us rows all (other t before front unsaid rest) h =
+    elim (begins (t ∷ (before ++ us)) all h t (before ++ us) refl) [
+      | inl b ↦ absurd (unsaid b.row b.is b.assertion)
+      | inr none_given ↦ rows_prefix before us front all rest none_given.1
+    ]
+
+-- rows that begin so are not searched
+pub stopped : (ts front rest : List Term) (here : Term) (rows more all : List Row) → ts ≡ front ++ here ∷ rest → AreRowsOf front rows → AreRowsOf (here ∷ []) more
+    → ((others : List Row) → ¬ AreSearched ((rows ++ more) ++ others)) → AreRowsOf ts all → ¬ AreSearched all
+stopped ts front rest here rows more all whole before one refused h searched =
+    let joined : ts ≡ (front ++ here ∷ []) ++ rest = whole ∙ sym (append_assoc front (here ∷ []) rest) in
+    let prefix = rows_prefix (front ++ here ∷ []) rest (rows ++ more) all (rows_append front (here ∷ []) rows more before one) (subst (λ zs. AreRowsOf zs all) joined h) in
+    refused prefix.0 (subst AreSearched prefix.1 searched)
 
 -- there are no other rows
 no_rows : (xs : List Term) (all : List Row) → AreRowsOf xs all → xs ≡ [] → all ≡ []

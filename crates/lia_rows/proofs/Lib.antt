@@ -1,2 +1,12 @@
 mod Steps
 mod Assertions
+mod Lists
+mod ColumnLemmas
+mod FormLemmas
+mod CoefLemmas
+mod RowLemmas
+mod Combining
+mod UsedLemmas
+mod Reading
+mod RowsSoFar
+mod FoundCombinations
