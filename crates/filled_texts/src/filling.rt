@@ -8,14 +8,15 @@ ghost use Rattle.filled_texts.specs.Filled.{AreAskedInOrder, EndsSo};
 ghost use Rattle.filled_texts.specs.ToFill.{is_full, FillsFrom, MayBeFilled, WereRead};
 ghost use Rattle.judged_texts.specs.Reading.{most_bytes};
 
-use crate::asking::Stop;
+use crate::asking::{ReplyCheck, Stop};
 use crate::holes::{AskedHoles, Checked, ask_about_holes};
 use alethe_text::laws::proof_texts_have_one_reading;
 use file_ports::Gate;
 use fillers::Filler;
 use hole_fillers::Bench;
 use judged_texts::{
-    Both, Judgement, LEAST_BITS, MOST_BITS, Read, Texts, Workers, judge_read, pool_bits, read_for,
+    Both, Judgement, LEAST_BITS, MOST_BITS, Read, Scratch, Texts, Workers, judge_read, pool_bits,
+    read_for,
 };
 use pair_pool::{Pass, Pool};
 use problem_text::laws::texts_have_one_reading;
@@ -75,7 +76,6 @@ fn fill_read<R: Threads + Sync, G: Gate>(
         proof: &both.proof,
         symbols,
         unknown_are_holes: to_fill.texts.options.ignores_unknown_rules,
-        most_bits: to_fill.most_bits,
     };
     // A reply is checked by one worker.
     let one = Workers {
@@ -83,7 +83,14 @@ fn fill_read<R: Threads + Sync, G: Gate>(
         gate: workers.gate,
         count: 1,
     };
-    match ask_about_holes(&one, alloc, &checked, &mut terms, bench) {
+    let check = ReplyCheck {
+        workers: &one,
+        alloc,
+        most_bits: to_fill.most_bits,
+    };
+    // The replies are judged with it one after the other.
+    let mut scratch = Scratch::new();
+    match ask_about_holes(&check, &mut scratch, &checked, &mut terms, bench) {
         Ok(filled) => End::Asked(AskedHoles { holes, filled }),
         Err(stop) => End::Stopped(stop),
     }
