@@ -7,12 +7,13 @@ ghost use Rattle.judged_texts.specs.Reading.{most_bytes};
 use crate::judgement::Judgement;
 use crate::judging::{Workers, bytes_of, judge_from, judge_on};
 use crate::pools::{LEAST_BITS, MOST_BITS, pool_bits};
-use crate::tables::{Tables, cleared_or_new};
+use crate::tables::{Tables, cleared_or_new, kept};
 use crate::texts::Texts;
 use file_ports::Gate;
 use pair_pool::Memory;
 use std::alloc::Global;
 use std::marker::Model;
+use std::mem::replace;
 use std::thread::Threads;
 
 /// Texts of more bytes than a pool of the least size is begun with don't use the scratch: so its tables never grow large, and clearing
@@ -58,9 +59,8 @@ impl Scratch {
     {
         let tables = cleared_or_new(alloc, self.tables.take())?;
         let (judgement, tables) = judge_on(workers, alloc, texts, tables)?;
-        if workers.count == 1 {
-            self.tables = Some(tables);
-        }
+        // What owns much is let go by a call: let go in parts it is dear to prove.
+        drop(replace(&mut self.tables, kept(workers.count, tables)));
         Ok(judgement)
     }
 

@@ -64,3 +64,15 @@ pub(crate) fn cleared_or_new(alloc: Global, there: Option<Tables>) -> Result<Tab
         None => new_tables(alloc, LEAST_BITS),
     }
 }
+
+/// The tables where they can be cleared: where one worker had them, the pass has the pool for itself.
+pub(crate) fn kept(workers: u32, tables: Tables) -> Option<Tables>
+    requires { workers ≤ 1 → HasForItself tables 12 }
+    ensures { IfSome result (λ t. HasForItself t 12) }
+{
+    if workers == 1 {
+        return Some(tables);
+    }
+    drop(tables);
+    None
+}
