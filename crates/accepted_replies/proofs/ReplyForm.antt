@@ -52,6 +52,12 @@ numbers_end k (suc n) =
     let e : suc k + n ≡ k + suc n = omega arith in
     ap (λ ks. k ∷ ks) (numbers_end (suc k) n ∙ ap (λ m. numbers_from (suc k) n ++ m ∷ []) e)
 
+pub numbers_next : (k : ℕ) → numbers_from 0 (k + 1) ≡ numbers_from 0 k ++ k ∷ []
+numbers_next k =
+    let more : k + 1 ≡ suc k = omega arith in
+    let same : 0 + k ≡ k = omega arith in
+    ap (numbers_from 0) more ∙ (numbers_end 0 k ∙ ap (λ m. numbers_from 0 k ++ m ∷ []) same)
+
 among_numbers : (k n j : ℕ) → k ≤ j → j < k + n → Contains (numbers_from k n) j
 among_numbers k zero j low high = absurd (omega (arith, low, high))
 among_numbers k (suc n) j low high =
