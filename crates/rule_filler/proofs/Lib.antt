@@ -1,0 +1,3 @@
+mod DenialLemmas
+mod OneRule
+mod Replies

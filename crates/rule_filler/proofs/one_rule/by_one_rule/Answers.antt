@@ -1,0 +1,34 @@
+use Rattle.std.proofs.Common.{◌≡◌, sym, ◌∙◌}
+use Rattle.rule_filler.proofs.DenialLemmas.{are_terms, none_refer, not_empty, is_empty}
+use Rattle.rule_filler.proofs.OneRule.{may_infer, no_literal, no_rule, given}
+use Rattle.rule_filler.proofs.one_rule.by_one_rule.Goals as goal
+
+pub returns-then-is_empty-clause-given : goal.returns-then-is_empty-clause-given
+returns-then-is_empty-clause-given c = λ script sorts denials.
+    no_literal script
+    (none_refer c.args.symbols.now c.args.terms.now c.args.clause.now _ (is_empty c.args.clause.now c.is_empty.result c.is_empty.ensures c.if-is_empty.true)
+    denials.clause_refer)
+
+pub returns-in_default-clause-given : goal.returns-in_default-clause-given
+returns-in_default-clause-given c = λ script sorts denials.
+    no_rule c.lone_rules_are_unique.ensures.one script ((rw c.in_default.is at c.in_ok-found.ensures.rule) _ denials.clause_refer)
+
+pub short_reply-requires-clause-may : goal.short_reply-requires-clause-may
+short_reply-requires-clause-may c =
+    may_infer c.in-Some.rule c.args.clause.now
+    (c.lone_rules_are_unique.ensures.judged c.requires.clause.clause c.in-Some.rule
+    ((rw c.in-Some.is at c.in_ok-found.ensures.rule) c.requires.clause.clause c.requires.clause.refer))
+
+pub short_reply-requires-clause-assumed : goal.short_reply-requires-clause-assumed
+short_reply-requires-clause-assumed c = rw c.lone_rule.ensures.same c.requires.assumed
+
+pub short_reply-requires-clause-clause : goal.short_reply-requires-clause-clause
+short_reply-requires-clause-clause c =
+    rw c.lone_rule.ensures.same
+    (are_terms c.args.symbols.now c.args.terms.now c.args.clause.now c.requires.clause.clause c.requires.clause.refer)
+
+pub returns-clause-given : goal.returns-clause-given
+returns-clause-given c =
+    given c.args.symbols.now c.args.terms.now c.args.assumed.now c.args.clause.now c.in-Some.rule c.lone_rules_are_unique.ensures.one
+    (not_empty c.args.clause.now c.is_empty.result c.is_empty.ensures c.if-is_empty.false) (rw c.in-Some.is at c.in_ok-found.ensures.rule) c.short_reply.result
+    c.short_reply.ensures.short (rw c.lone_rule.ensures.same at c.short_reply.ensures.text) (rw c.lone_rule.ensures.same at c.short_reply.ensures.long)

@@ -1,0 +1,4 @@
+pub mod OneRule
+pub mod Filling
+pub mod Denials
+pub mod RuleStates
