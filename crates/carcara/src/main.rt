@@ -1,12 +1,15 @@
-//! The program `carcara`: the top call on the real files and the standard output, without fillers of holes.
+//! The program `carcara`: the top call on the real files and the standard output, with the fillers of holes that the program has.
 #![tactic(auto)]
 
 ghost use Rattle.std.specs.Prelude.{◌≡◌, IfOk, IfErr};
 ghost use Rattle.std.specs.Process.{exit_status};
 
 use file_ports::{OpenGate, RealFolder, RealSink};
+use fillers::Filler;
 use filling_cli::carcara_with;
 use hole_fillers::Bench;
+use lia_answers::LiaFiller;
+use rule_filler::RuleFiller;
 use std::alloc::AllocError;
 use std::process::ExitCode;
 use std::thread::Threads;
@@ -14,6 +17,8 @@ use std::{env, io};
 
 #[cfg(test)]
 mod fill_calls;
+#[cfg(test)]
+mod fill_pool_tests;
 #[cfg(test)]
 mod filling_tests;
 #[cfg(test)]
@@ -28,6 +33,9 @@ mod worker_tests;
 /// The status of out of memory.
 const NO_MEMORY: u8 = 7;
 
+/// How many questions each filler may be asked.
+const BUDGET: u64 = 1_000_000;
+
 /// What the program is run on: the words of the command line, the real files and the standard output.
 #[derive(Drop)]
 struct Outside {
@@ -37,8 +45,22 @@ struct Outside {
 }
 
 fn main(rt: HostRuntime) -> ExitCode {
-    let mut nobody = Bench::new(Vec::new(rt.alloc()));
-    ended(run(&rt, made_outside(&rt), &mut nobody))
+    let alloc = rt.alloc();
+    let mut fillers: Vec<Box<dyn Filler>> = Vec::new(alloc);
+    let Ok(by_rules) = Box::new(alloc, RuleFiller::new(alloc, BUDGET)) else {
+        return ended(Err(AllocError));
+    };
+    let Ok(()) = fillers.push(by_rules) else {
+        return ended(Err(AllocError));
+    };
+    let Ok(by_sums) = Box::new(alloc, LiaFiller::new(alloc, BUDGET)) else {
+        return ended(Err(AllocError));
+    };
+    let Ok(()) = fillers.push(by_sums) else {
+        return ended(Err(AllocError));
+    };
+    let mut bench = Bench::new(fillers);
+    ended(run(&rt, made_outside(&rt), &mut bench))
 }
 
 /// How the program ends: with the status that the top call returned, or with that of out of memory where the top call was not

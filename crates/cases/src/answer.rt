@@ -4,8 +4,11 @@ ghost use Rattle.std.specs.Prelude.{◌≤◌};
 
 use crate::case::{Answer, Call};
 use file_ports::{MemoryFolder, MemorySink, OpenGate};
+use fillers::Filler;
 use filling_cli::carcara_with;
 use hole_fillers::Bench;
+use lia_answers::LiaFiller;
+use rule_filler::RuleFiller;
 use std::alloc::{AllocError, Global};
 use std::thread::Threads;
 
@@ -15,6 +18,9 @@ const SHORT_BYTES: usize = 65_536;
 const SMALL_PIECE: usize = 7;
 
 const WRITE_PIECE: usize = 16;
+
+// How many questions each filler may be asked.
+const BUDGET: u64 = 1_000_000;
 
 /// The answer to the words, where the files at the paths `PROBLEM` and `PROOF` have these bytes.
 pub fn answer(
@@ -40,17 +46,21 @@ pub fn answer(
     found
 }
 
-// The answer to the words, over a folder and an output, without fillers of holes.
+// The answer to the words, over a folder and an output, with the fillers of holes that the program has.
 fn answer_over(
     rt: &(impl AllocGlobal + Threads + Sync),
     words: &[String],
     folder: &mut MemoryFolder,
     out: &mut MemorySink,
 ) -> Result<Answer, AllocError> {
-    let mut bench = Bench::new(Vec::new(rt.alloc()));
+    let alloc = rt.alloc();
+    let mut fillers: Vec<Box<dyn Filler>> = Vec::new(alloc);
+    fillers.push(Box::new(alloc, RuleFiller::new(alloc, BUDGET))?)?;
+    fillers.push(Box::new(alloc, LiaFiller::new(alloc, BUDGET))?)?;
+    let mut bench = Bench::new(fillers);
     let status = carcara_with(rt, words, folder, out, &OpenGate, &mut bench);
     drop(bench);
-    let output = Vec::from_slice(rt.alloc(), out.written())?;
+    let output = Vec::from_slice(alloc, out.written())?;
     Ok(Answer { status, output })
 }
 
