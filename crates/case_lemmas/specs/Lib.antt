@@ -1,0 +1,3 @@
+pub mod CaseLemmas
+pub mod Making
+pub mod Adding
