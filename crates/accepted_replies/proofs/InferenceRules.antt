@@ -1,4 +1,4 @@
--- Private. The steps of a reply have rules that their words name.
+-- Cited by crates above. The steps of a reply have rules that their words name.
 use Rattle.std.proofs.Common.{[], ◌∷◌, ℕ, List, inr, refl, None}
 use Rattle.rule_model.specs.declared.kinds.Family.{Family}
 use Rattle.rule_model.specs.declared.rules.Rule.{Rule}

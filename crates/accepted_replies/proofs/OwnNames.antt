@@ -1,4 +1,4 @@
--- Private. Names that may stand in a term behind a script without macros and named terms.
+-- Cited by crates above. Names that may stand in a term behind a script without macros and named terms.
 use Rattle.std.proofs.Common.{◌≡◌, ◌⊎◌, inl, inr, ℕ, Bool, true, false, Option, Some, None}
 use Rattle.std.proofs.Common.{IfSome, List, [], ◌∷◌, bytes_eq, find, cond, option_map, refl, sym, ap}
 use Rattle.std.proofs.Common.{◌∙◌, subst}

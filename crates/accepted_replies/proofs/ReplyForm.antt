@@ -1,4 +1,4 @@
--- Private. A reply is well formed: its ids are c1, c2 and so on.
+-- Cited by crates above. A reply is well formed: its ids are c1, c2 and so on.
 use Rattle.std.proofs.Common.{◌≡◌, ◌⊎◌, inl, inr, ℕ, zero, suc, ◌+◌, ◌<◌, ◌≤◌, ◌^◌, ◌==◌, ◌&&◌, true, false, Bool, List, [], ◌∷◌, ◌++◌, map, drop}
 use Rattle.std.proofs.Common.{length, decimal, All, Contains, refl, sym, ap, ◌∙◌, subst, arith}
 use Rattle.std.specs.List.{AllByRecursion, list_all}
@@ -52,6 +52,12 @@ numbers_end k (suc n) =
     let e : suc k + n ≡ k + suc n = omega arith in
     ap (λ ks. k ∷ ks) (numbers_end (suc k) n ∙ ap (λ m. numbers_from (suc k) n ++ m ∷ []) e)
 
+pub numbers_next : (k : ℕ) → numbers_from 0 (k + 1) ≡ numbers_from 0 k ++ k ∷ []
+numbers_next k =
+    let more : k + 1 ≡ suc k = omega arith in
+    let same : 0 + k ≡ k = omega arith in
+    ap (numbers_from 0) more ∙ (numbers_end 0 k ∙ ap (λ m. numbers_from 0 k ++ m ∷ []) same)
+
 among_numbers : (k n j : ℕ) → k ≤ j → j < k + n → Contains (numbers_from k n) j
 among_numbers k zero j low high = absurd (omega (arith, low, high))
 among_numbers k (suc n) j low high =
@@ -70,7 +76,7 @@ no_later_id k (suc n) j behind few has =
       | inr later ↦ no_later_id (suc k) n j (omega (arith, behind)) few later
     ]
 
-numbers_within : (k n all : ℕ) → k + n ≤ all → AllByRecursion (λ j. j < all) (numbers_from k n)
+pub numbers_within : (k n all : ℕ) → k + n ≤ all → AllByRecursion (λ j. j < all) (numbers_from k n)
 numbers_within k zero all within = tt
 numbers_within k (suc n) all within = (omega (arith, within), numbers_within (suc k) n all (omega (arith, within)))
 
@@ -90,7 +96,7 @@ ids_of [] = refl
 ids_of (k ∷ ks) = ap (λ ls. printed_id k ∷ ls) (ids_of ks)
 
 module _ {V T : Type 0} where
-  more_numbered : (items : ProofItems V T) (k : ℕ) → commands_in items ≡ k → IsNumbered items
+  pub more_numbered : (items : ProofItems V T) (k : ℕ) → commands_in items ≡ k → IsNumbered items
       → direct outermost items ++ sight (first_index {V = V} {T = T} outermost + commands_in items) (printed_id k) ∷ [] ≡ sights (suc (commands_in items))
   more_numbered items k count h =
       let e : 0 + commands_in items ≡ commands_in items = omega arith in
@@ -126,7 +132,7 @@ module _ {V T : Type 0} where
       assumes_formed (assumed_behind items t) ts (omega (arith, few)) (more_numbered items (commands_in items) refl h)
       (well, new_id items (commands_in items) refl h (omega (arith, few)))
 
-  all_seen : (items : ProofItems V T) (ks : List ℕ) → IsNumbered items → AllByRecursion (λ k. k < commands_in items) ks →
+  pub all_seen : (items : ProofItems V T) (ks : List ℕ) → IsNumbered items → AllByRecursion (λ k. k < commands_in items) ks →
       AllByRecursion (Contains (visible outermost items)) ks
   all_seen items [] h within = tt
   all_seen items (k ∷ ks) h within = (sees items k h within.0, all_seen items ks h within.1)

@@ -1,4 +1,4 @@
--- Private. A reply can be read behind the script whose assertions it assumes.
+-- Cited by crates above. A reply can be read behind the script whose assertions it assumes.
 use Rattle.std.proofs.Common.{◌≡◌, ◌⊎◌, inl, inr, ℕ, zero, suc, ◌+◌, ◌<◌, ◌≤◌, ◌^◌, true, false, Some, None, List, [], ◌∷◌, ◌++◌, length, All, Contains}
 use Rattle.std.proofs.Common.{slice_index_or, refl, sym, ap, ◌∙◌, subst, arith}
 use Rattle.std.specs.Prelude.{Any, ⊤}
@@ -60,7 +60,7 @@ negation_leads = record {
 }
 
 module _ (s : Script) (well : IsWellNamed s) where
-  abbrev IsFormula : Term → Type 0
+  abbrev pub IsFormula : Term → Type 0
   IsFormula t = IsTermReadable printed_settings [] s outermost t Sort.Bool
 
   nothing_apart : (t : Term) → IsApart [] t
@@ -86,18 +86,18 @@ module _ (s : Script) (well : IsWellNamed s) where
   opposite t l (inl e) h = subst IsFormula (sym e) (negated t h)
   opposite t l (inr e) h = denied l (subst IsFormula e h)
 
-  readable_assumes : (items : ProofItems Var Term) (ts : List Term) → AreReadable printed_settings [] s outermost items → AllByRecursion IsFormula ts
+  pub readable_assumes : (items : ProofItems Var Term) (ts : List Term) → AreReadable printed_settings [] s outermost items → AllByRecursion IsFormula ts
       → AreReadable printed_settings [] s outermost (assumes_behind items ts)
   readable_assumes items [] h all = h
   readable_assumes items (t ∷ ts) h all = readable_assumes (assumed_behind items t) ts (h, all.0) all.1
 
   -- no pivots
-  plain_assumes : (items : ProofItems Var Term) (ts : List Term) → HasNoPivots items → HasNoPivots (assumes_behind items ts)
+  pub plain_assumes : (items : ProofItems Var Term) (ts : List Term) → HasNoPivots items → HasNoPivots (assumes_behind items ts)
   plain_assumes items [] h = h
   plain_assumes items (t ∷ ts) h = plain_assumes (assumed_behind items t) ts (h, tt)
 
   -- heights
-  low_assumes : (items : ProofItems Var Term) (ts : List Term) → AllByRecursion (λ t. height t ≤ most_height) ts
+  pub low_assumes : (items : ProofItems Var Term) (ts : List Term) → AllByRecursion (λ t. height t ≤ most_height) ts
       → AllByRecursion (IsLowLine most_height) (assume_lines items ts)
   low_assumes items [] low = tt
   low_assumes items (t ∷ ts) low = (

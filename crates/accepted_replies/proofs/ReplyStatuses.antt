@@ -1,4 +1,4 @@
--- Private. Each command of a reply is Ok, where what it assumes is asserted and the step is met.
+-- Cited by crates above. Each command of a reply is Ok, where what it assumes is asserted and the step is met.
 use Rattle.std.proofs.Common.{◌≡◌, ◌⊎◌, inl, inr, ℕ, zero, suc, ◌+◌, ◌<◌, ◌≤◌, ◌-◌, Bool, Option, Some, None, List, [], ◌∷◌, ◌++◌, map, length, All, Contains}
 use Rattle.std.proofs.Common.{slice_get, replicate, refl, sym, ap, ◌∙◌, subst, arith}
 use Rattle.std.specs.Prelude.{Any, ⊤}
@@ -33,7 +33,7 @@ use Rattle.accepted_replies.proofs.ReplyLines.{assume_at, step_at, last_at, coun
 use Rattle.accepted_replies.proofs.UnitResolution.{units_of, empty_follows}
 
 -- what the rule of a step of the outermost scope looks at
-abbrev judged_step : ProofItems Var Term → Step Term → Judged
+abbrev pub judged_step : ProofItems Var Term → Step Term → Judged
 judged_step proof s = record {
   mode = Mode.Check;
   rule = s.rule;
@@ -44,7 +44,7 @@ judged_step proof s = record {
   anchors = [];
 }
 
-abbrev looked_at : Rule → List Term → List (List Term) → List (Term × Bool) → Option (List Fraction) → List (List (Var × Term)) → Judged
+abbrev pub looked_at : Rule → List Term → List (List Term) → List (Term × Bool) → Option (List Fraction) → List (List (Var × Term)) → Judged
 looked_at rule clause premises pivots ratios anchors = record {
   mode = Mode.Check;
   rule = rule;
@@ -56,12 +56,12 @@ looked_at rule clause premises pivots ratios anchors = record {
 }
 
 module _ (unknown : Bool) (assertions : List Term) where
-  abbrev in_check : Checking
+  abbrev pub in_check : Checking
   in_check = record { mode = Mode.Check; unknown_are_holes = unknown; assertions = assertions }
 
   module _ (proof : ProofItems Var Term) (i : ℕ) (l : Line Var Term) (here : slice_get (lines_in outermost proof) i ≡ Some l)
       (outer : l.scope.nesting ≡ outermost) where
-    assume_ok : (id : List ℕ) (t : Term) → l.command ≡ assume id t → Contains assertions t → IsStatusAt in_check proof i Status.Ok
+    pub assume_ok : (id : List ℕ) (t : Term) → l.command ≡ assume id t → Contains assertions t → IsStatusAt in_check proof i Status.Ok
     assume_ok id t is there =
         let rule : rule_at proof i ≡ Rule.Assume = rule_is proof i l here ∙ ap rule_of is in
         let clause : clause_at proof i ≡ t ∷ [] = clause_is proof i l here ∙ ap clause_of is in
@@ -73,7 +73,7 @@ module _ (unknown : Bool) (assertions : List Term) where
     entry_here : slice_get (entries proof) i ≡ Some (entry_of l)
     entry_here = slice_get-map entry_of (lines_in outermost proof) i ∙ ap (option_map entry_of) here
 
-    looks_at : (s : Step Term) → l.command ≡ step s → judged_at Mode.Check proof i ≡ judged_step proof s
+    pub looks_at : (s : Step Term) → l.command ≡ step s → judged_at Mode.Check proof i ≡ judged_step proof s
     looks_at s is =
         let rule : rule_at proof i ≡ s.rule = rule_is proof i l here ∙ ap rule_of is in
         let clause : clause_at proof i ≡ s.clause = clause_is proof i l here ∙ ap clause_of is in
@@ -91,7 +91,7 @@ module _ (unknown : Bool) (assertions : List Term) where
         ∙ ap (λ xs. looked_at s.rule s.clause (map (clause_at proof) s.premises) s.pivots s.ratios xs)
         (anchors_are proof i l here ∙ ap open_anchors outer)))))
 
-    step_ok : (s : Step Term) → l.command ≡ step s → IsJudged (kind_of s.rule) → Met (judged_step proof s) → ¬ IsTooWide (judged_step proof s)
+    pub step_ok : (s : Step Term) → l.command ≡ step s → IsJudged (kind_of s.rule) → Met (judged_step proof s) → ¬ IsTooWide (judged_step proof s)
         → IsStatusAt in_check proof i Status.Ok
     step_ok s is judged met narrow =
         let rule : rule_at proof i ≡ s.rule = rule_is proof i l here ∙ ap rule_of is in

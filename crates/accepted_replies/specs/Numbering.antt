@@ -1,4 +1,4 @@
--- Private. Commands of the outermost scope whose ids are their numbers.
+-- Public. Commands of the outermost scope whose ids are their numbers.
 use Rattle.std.specs.Prelude.{◌≡◌, ℕ, List, map}
 use Rattle.rule_model.specs.Proofs.{ProofItems}
 use Rattle.rule_model.specs.Scopes.{outermost, commands_in}

@@ -1,0 +1,11 @@
+mod CaseLines
+mod CaseForm
+mod CaseJudging
+mod CaseStatuses
+mod CaseReading
+mod CaseReferences
+mod CaseLengths
+mod CaseBuilding
+mod MadeReadable
+mod Stepping
+mod CaseAnswers

@@ -1,0 +1,4 @@
+pub mod CaseReplies
+pub mod CaseTexts
+pub mod ReadableTerms
+pub mod Judging

@@ -1,0 +1,3 @@
+pub mod Inferred
+pub mod MadeTerms
+pub mod Rows

@@ -1,0 +1,12 @@
+//! A filler of holes whose questions assert linear inequalities and equalities that contradict each other.
+//!
+//! - `negating`: the clause that says that not all of some assertions are true. `replying`: the reply to a question. `lia_filler`: the
+//!   filler.
+#![tactic(auto)]
+
+mod filling;
+mod negating;
+mod replying;
+
+pub use filling::LiaFiller;
+pub use replying::reply;
