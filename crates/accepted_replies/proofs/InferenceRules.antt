@@ -19,9 +19,9 @@ named_so rule judged = added_rule [] 0 (alone rule) [] [] judged (inr refl)
 pub inferring_has_rule : {T : Type 0} (index : ℕ) (x : Inference T) → MayInfer x → HasRule (inferring index x)
 inferring_has_rule index x may =
     let named = named_so x.rule may.judged in
-    record { named = named.named; symbol = named.symbol; kept = named.kept; pivots = inr refl; ratios = may.ratios; lowest = may.lowest }
+    record { named = named.named; symbol = named.symbol; kept = named.kept; pivots = inr refl; ratios = may.ratios; lowest = may.lowest; index = inr refl }
 
 pub resolving_has_rule : {T : Type 0} (count : ℕ) → HasRule (resolving {T = T} count)
 resolving_has_rule count =
     let named = named_so Rule.Resolution (record { family = Family.Resolution; is = refl }) in
-    record { named = named.named; symbol = named.symbol; kept = named.kept; pivots = inr refl; ratios = inr refl; lowest = tt }
+    record { named = named.named; symbol = named.symbol; kept = named.kept; pivots = inr refl; ratios = inr refl; lowest = tt; index = inr refl }

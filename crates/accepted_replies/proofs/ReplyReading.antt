@@ -26,7 +26,7 @@ use Rattle.problem_text.specs.Scripts.{Script}
 use Rattle.printed_proofs.specs.Naming.{IsApart}
 use Rattle.printed_proofs.specs.Readable.{IsTermReadable, AreReadable}
 use Rattle.readable_proofs.specs.Names.{IsWellNamed}
-use Rattle.readable_proofs.specs.ProofsOver.{HaveRatios, printed_settings}
+use Rattle.readable_proofs.specs.ProofsOver.{HaveArguments, printed_settings}
 use Rattle.reread_laws.specs.EachCommand.{HasNoPivots}
 use Rattle.accepted_replies.specs.Refutations.{CanBeRead}
 use Rattle.accepted_replies.specs.Replies.{Inference, assumed_behind, assumes_behind, inferring}
@@ -61,7 +61,7 @@ negation_leads = record {
 
 module _ (s : Script) (well : IsWellNamed s) where
   abbrev IsFormula : Term → Type 0
-  IsFormula t = IsTermReadable printed_settings [] s outermost t Sort.Bool
+  IsFormula t = IsTermReadable (printed_settings false) [] s outermost t Sort.Bool
 
   nothing_apart : (t : Term) → IsApart [] t
   nothing_apart t = λ n has. absurd (contains_none n has)
@@ -86,8 +86,8 @@ module _ (s : Script) (well : IsWellNamed s) where
   opposite t l (inl e) h = subst IsFormula (sym e) (negated t h)
   opposite t l (inr e) h = denied l (subst IsFormula e h)
 
-  readable_assumes : (items : ProofItems Var Term) (ts : List Term) → AreReadable printed_settings [] s outermost items → AllByRecursion IsFormula ts
-      → AreReadable printed_settings [] s outermost (assumes_behind items ts)
+  readable_assumes : (items : ProofItems Var Term) (ts : List Term) → AreReadable (printed_settings false) [] s outermost items → AllByRecursion IsFormula ts
+      → AreReadable (printed_settings false) [] s outermost (assumes_behind items ts)
   readable_assumes items [] h all = h
   readable_assumes items (t ∷ ts) h all = readable_assumes (assumed_behind items t) ts (h, all.0) all.1
 
@@ -110,7 +110,7 @@ module _ (s : Script) (well : IsWellNamed s) where
   )
 
   module _ (assumed : List Term) (x : Inference Term) (answer : IsAnswer s assumed x) (formulas : AreAssertionsReadable s)
-      (low : AllByRecursion (λ t. height t ≤ most_height) s.assertions) (ratios : HaveRatios (reply_of assumed x))
+      (low : AllByRecursion (λ t. height t ≤ most_height) s.assertions) (given : HaveArguments false (reply_of assumed x))
       (few : length assumed + 2 ≤ 2 ^ 32) (rule : HasRule (inferring (length assumed) x)) (last : HasRule (resolving {T = Term} (length assumed))) where
     abbrev whole : ProofItems Var Term
     whole = reply_of assumed x
@@ -150,10 +150,11 @@ module _ (s : Script) (well : IsWellNamed s) where
           record {
             clause = each_has IsNegation assumed x.clause answer.denied IsFormula assumed_formulas opposite;
             pivots = tt;
-            coefficients = ratios.0.1;
+            coefficients = given.0.1.coefficients;
+            index = tt;
           },
         ),
-        record { clause = tt; pivots = tt; coefficients = ratios.1 },
+        record { clause = tt; pivots = tt; coefficients = given.1.coefficients; index = tt },
       );
       low = all_low;
       no_pivots = ((plain_assumes no_items assumed tt, refl), refl);

@@ -9,6 +9,7 @@ use Rattle.std.proofs.lemmas.Option.{slice_get-map, slice_get_within}
 use Rattle.term_model.specs.Flips.{EqualUpToFlips, same}
 use Rattle.term_model.specs.Terms.{Var, Term}
 use Rattle.term_model.proofs.Lists.{nth_there}
+use Rattle.rule_model.specs.declared.index_arg.IndexArg.{IndexArg}
 use Rattle.rule_model.specs.declared.kinds.Family.{Family}
 use Rattle.rule_model.specs.declared.kinds.Kind.{Kind}
 use Rattle.rule_model.specs.declared.rules.Mode.{Mode}
@@ -18,14 +19,15 @@ use Rattle.rule_model.specs.Commands.{Line, Entry, assume, step, lines_in, entri
 use Rattle.rule_model.specs.Conditions.{Met, IsTooWide, IsTooWideWhere, MeetsWhere, IsTooWideAt, IsMetAt}
 use Rattle.rule_model.specs.Judged.{Judged, judged_at, open_anchors}
 use Rattle.rule_model.specs.Proofs.{Fraction, Step, ProofItems, no_items}
-use Rattle.rule_model.specs.Reading.{rule_of, clause_of, premises_of, pivots_of, ratios_of, rule_at, clause_at, premises_at, pivots_at, ratios_at, closes_at}
-use Rattle.rule_model.specs.Reading.{scope_at}
+use Rattle.rule_model.specs.Reading.{rule_of, clause_of, premises_of, pivots_of, ratios_of, index_arg_of, rule_at, clause_at, premises_at}
+use Rattle.rule_model.specs.Reading.{pivots_at, ratios_at, index_arg_at, closes_at, scope_at}
 use Rattle.rule_model.specs.RuleNames.{kind_of, IsJudged}
 use Rattle.rule_model.specs.Scopes.{outermost, scope_number, commands_in}
 use Rattle.rule_model.specs.Statuses.{Checking, IsAsserted, kind_under, kind_of_rule, IsStatusBy, IsStatusAt, AreStatuses, ReachesEmpty}
 use Rattle.rule_model.proofs.LineReading.{rule_is, clause_is, premises_are, closes_is, anchors_are, scope_is}
 use Rattle.rule_model.proofs.Lines.{get_append, get_one}
 use Rattle.rule_model.proofs.Numbers.{lines_in_count}
+use Rattle.rule_model.proofs.ProfileReading.{index_is}
 use Rattle.rule_model.proofs.Standing.{all_at}
 use Rattle.accepted_replies.specs.Replies.{Inference, numbers_from, assumes_behind, inferring, resolving, reply_of, judged_inference, MayInfer, IsNegation}
 use Rattle.accepted_replies.proofs.ReplyLines.{assume_lines, lines_assumed, IsAssumeOf, lines_are, clauses_assumed, step_line, last_line, count_before}
@@ -41,17 +43,20 @@ judged_step proof s = record {
   premises = map (clause_at proof) s.premises;
   pivots = s.pivots;
   ratios = s.ratios;
+  index = s.index;
   anchors = [];
 }
 
-abbrev looked_at : Rule → List Term → List (List Term) → List (Term × Bool) → Option (List Fraction) → List (List (Var × Term)) → Judged
-looked_at rule clause premises pivots ratios anchors = record {
+abbrev looked_at : Rule → List Term → List (List Term) → List (Term × Bool) → Option (List Fraction) → IndexArg
+    → List (List (Var × Term)) → Judged
+looked_at rule clause premises pivots ratios index anchors = record {
   mode = Mode.Check;
   rule = rule;
   clause = clause;
   premises = premises;
   pivots = pivots;
   ratios = ratios;
+  index = index;
   anchors = anchors;
 }
 
@@ -82,14 +87,16 @@ module _ (unknown : Bool) (assertions : List Term) where
         ap (λ e. option_map_or (λ (e : Entry Term). pivots_of e.command) e []) entry_here ∙ ap pivots_of is in
         let ratios : ratios_at proof i ≡ s.ratios =
         ap (λ e. option_map_or (λ (e : Entry Term). ratios_of e.command) e None) entry_here ∙ ap ratios_of is in
+        let index : index_arg_at proof i ≡ s.index = index_is proof i l here ∙ ap index_arg_of is in
         let judged = judged_at Mode.Check proof i in
-        ap (λ r. looked_at r judged.clause judged.premises judged.pivots judged.ratios judged.anchors) rule
-        ∙ (ap (λ c. looked_at s.rule c judged.premises judged.pivots judged.ratios judged.anchors) clause
-        ∙ (ap (λ ps. looked_at s.rule s.clause (map (clause_at proof) ps) judged.pivots judged.ratios judged.anchors) premises
-        ∙ (ap (λ ps. looked_at s.rule s.clause (map (clause_at proof) s.premises) ps judged.ratios judged.anchors) pivots
-        ∙ (ap (λ qs. looked_at s.rule s.clause (map (clause_at proof) s.premises) s.pivots qs judged.anchors) ratios
-        ∙ ap (λ xs. looked_at s.rule s.clause (map (clause_at proof) s.premises) s.pivots s.ratios xs)
-        (anchors_are proof i l here ∙ ap open_anchors outer)))))
+        ap (λ r. looked_at r judged.clause judged.premises judged.pivots judged.ratios judged.index judged.anchors) rule
+        ∙ (ap (λ c. looked_at s.rule c judged.premises judged.pivots judged.ratios judged.index judged.anchors) clause
+        ∙ (ap (λ ps. looked_at s.rule s.clause (map (clause_at proof) ps) judged.pivots judged.ratios judged.index judged.anchors) premises
+        ∙ (ap (λ ps. looked_at s.rule s.clause (map (clause_at proof) s.premises) ps judged.ratios judged.index judged.anchors) pivots
+        ∙ (ap (λ qs. looked_at s.rule s.clause (map (clause_at proof) s.premises) s.pivots qs judged.index judged.anchors) ratios
+        ∙ (ap (λ k. looked_at s.rule s.clause (map (clause_at proof) s.premises) s.pivots s.ratios k judged.anchors) index
+        ∙ ap (λ xs. looked_at s.rule s.clause (map (clause_at proof) s.premises) s.pivots s.ratios s.index xs)
+        (anchors_are proof i l here ∙ ap open_anchors outer))))))
 
     step_ok : (s : Step Term) → l.command ≡ step s → IsJudged (kind_of s.rule) → Met (judged_step proof s) → ¬ IsTooWide (judged_step proof s)
         → IsStatusAt in_check proof i Status.Ok
@@ -184,7 +191,7 @@ module _ (assumed : List Term) (x : Inference Term) where
             let there = subst (λ m. slice_get (lines_in outermost whole) i ≡ Some m) (sym is) here in
             step_ok unknown assertions whole i (last_line Var assumed x) there refl (resolving (length assumed)) refl
             (record { family = Family.Resolution; is = refl })
-            (subst (λ ps. Met (looked_at Rule.Resolution [] ps [] None [])) (sym premises_given) (empty_follows x.clause assumed denied)) (λ wide. wide)
+            (subst (λ ps. Met (looked_at Rule.Resolution [] ps [] None IndexArg.Free [])) (sym premises_given) (empty_follows x.clause assumed denied)) (λ wide. wide)
 
     pub all_ok : AreStatuses (in_check unknown assertions) whole (replicate (commands_in whole) Status.Ok)
     all_ok = record {

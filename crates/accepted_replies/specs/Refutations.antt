@@ -25,7 +25,7 @@ use Rattle.reread_laws.specs.EachCommand.{HasNoPivots}
 pub record CanBeRead (s : Script) (proof : ProofItems Var Term) : Type 0 where
   pub formed : IsWellFormed proof
   pub few : commands_in proof ≤ 2 ^ 32
-  pub readable : AreReadable printed_settings [] s outermost proof
+  pub readable : AreReadable (printed_settings false) [] s outermost proof
   pub low : IsLowProof most_height proof
   pub no_pivots : HasNoPivots proof
 
@@ -50,6 +50,6 @@ pub record IsAccepted (question : List ℕ) (unknown_are_holes : Bool) (text : L
   pub after : Script
   pub statuses : List Status
   pub question_text : StandsForProblem question false script
-  pub proof_text : StandsForProof text (limited_proof false false) script commands after
+  pub proof_text : StandsForProof text (limited_proof false false false) script commands after
   pub are : AreStatuses (in_check_mode unknown_are_holes script) commands statuses
   pub verdict : IsVerdict statuses commands Verdict.Valid

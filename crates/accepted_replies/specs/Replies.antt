@@ -1,9 +1,10 @@
 -- Public. Replies of one inference: what they assume, a step by a rule without premises, and the resolution of both to the empty clause.
-use Rattle.std.specs.Prelude.{◌≡◌, ◌⊎◌, ◌≤◌, ◌+◌, ℕ, zero, suc, List, [], ◌∷◌, length, Option, None, IfSome, All, Any, Contains, codes}
+use Rattle.std.specs.Prelude.{◌≡◌, ◌⊎◌, ◌≤◌, ◌+◌, ℕ, zero, suc, false, List, [], ◌∷◌, length, Option, None, IfSome, All, Any, Contains, codes}
 use Rattle.std.specs.List.{AllByRecursion}
 use Rattle.term_model.specs.declared.symbols.Sort.{Sort}
 use Rattle.term_model.specs.Heights.{height}
 use Rattle.term_model.specs.Terms.{Term, not_of}
+use Rattle.rule_model.specs.declared.index_arg.IndexArg.{IndexArg}
 use Rattle.rule_model.specs.declared.rules.Mode.{Mode}
 use Rattle.rule_model.specs.declared.rules.Rule.{Rule}
 use Rattle.rule_model.specs.Conditions.{Met, IsTooWide}
@@ -48,6 +49,7 @@ concluding index x premises = record {
   discharged = [];
   pivots = [];
   ratios = x.ratios;
+  index = IndexArg.Free;
 }
 
 abbrev pub inferring : {T : Type 0} → ℕ → Inference T → Step T
@@ -70,6 +72,7 @@ judged_inference x = record {
   premises = [];
   pivots = [];
   ratios = x.ratios;
+  index = IndexArg.Free;
   anchors = [];
 }
 
@@ -95,4 +98,4 @@ pub record IsAnswer (s : Script) (assumed : List Term) (x : Inference Term) : Ty
 
 -- the assertions can be printed and read again behind the whole script
 abbrev pub AreAssertionsReadable : Script → Type 0
-AreAssertionsReadable s = AllByRecursion (λ a. IsTermReadable printed_settings [] s outermost a Sort.Bool) s.assertions
+AreAssertionsReadable s = AllByRecursion (λ a. IsTermReadable (printed_settings false) [] s outermost a Sort.Bool) s.assertions

@@ -16,7 +16,7 @@ use alethe_text::laws::proofs_are_read_alike_within_limits;
 use printed_proofs::laws::printed_proofs_are_read_back;
 use problem_text::laws::scripts_are_well_sorted;
 use readable_proofs::laws::{
-    printed_terms_are_low, proofs_that_pass_have_coefficients, scripts_are_well_named,
+    printed_terms_are_low, proofs_that_pass_have_arguments, scripts_are_well_named,
     terms_are_printable,
 };
 use reread_laws::laws::{
@@ -29,7 +29,7 @@ use rule_model::laws::ids::ids_play_no_part;
 /// `--strict` and without, within the limit of heights.
 pub fn replies_are_read_back()
     ensures { (problem : List ℕ) (s : Script) (proof : ProofItems Var Term) (is_strict : Bool) → StandsForProblem problem false s →
-        CanBeRead s proof → StandsForProof (reply_text s proof) (limited_proof false is_strict) s (numbered_proof proof)
+        CanBeRead s proof → StandsForProof (reply_text s proof) (limited_proof false is_strict false) s (numbered_proof proof)
         (behind_items [] s outermost proof) }
 {
     scripts_are_well_named();
@@ -61,7 +61,7 @@ pub fn answers_refute()
 {
     scripts_are_well_named();
     scripts_are_well_sorted();
-    proofs_that_pass_have_coefficients();
+    proofs_that_pass_have_arguments();
 }
 
 /// The assertions of a problem without defined functions and named terms are readable behind its whole script, whatever its lets bind: each

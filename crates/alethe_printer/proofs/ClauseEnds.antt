@@ -7,12 +7,12 @@ use Rattle.sym_table.specs.Table.{Table}
 use Rattle.term_model.specs.Terms.{Term}
 use Rattle.term_pool.specs.Views.{TermsView}
 use Rattle.rule_model.specs.Proofs.{Fraction, Step, ProofItems}
-use Rattle.rule_model.specs.Reading.{rule_name_at, premises_at, pivots_at, ratios_at}
+use Rattle.rule_model.specs.Reading.{rule_name_at, premises_at, pivots_at, ratios_at, index_arg_at}
 use Rattle.rule_model.specs.Scopes.{commands_in}
 use Rattle.proof_store.specs.Meaning.{IsPivotOf}
 use Rattle.problem_text.specs.Scripts.{Script}
 use Rattle.alethe_text.specs.PrintedCommands.{symbol_items}
-use Rattle.printed_proofs.specs.Coefficients.{coefficient_items}
+use Rattle.printed_proofs.specs.Coefficients.{coefficient_items, numbers_of}
 use Rattle.printed_proofs.specs.Numbered.{printed_id}
 use Rattle.printed_proofs.specs.Parts.{Part, literals, pivots, discharged, listed_text, rule_text, GoesOn}
 use Rattle.printed_proofs.proofs.PartByPart.{coefficients_next, no_arguments_next, pivots_begin}
@@ -45,7 +45,7 @@ module _ (plan : Plan) (s : Table) (v : TermsView) (refs : ProofItems ℕ ℕ) (
       does_bytes plan s v refs old new before after (Stage.Discharged i ∷ []) (discharged step ∷ []) (last ∙ staged) ((within, at.discharged), tt)
       (literals step []) (rule_text step ++ args) u u same given (text_now args e) refl goes
 
-  with_pivots : (xs : List (ℕ × Bool)) (ys : List (Term × Bool)) → step.ratios ≡ None → step.pivots ≡ ys → AllZip (IsPivotOf s v) xs ys
+  with_pivots : (xs : List (ℕ × Bool)) (ys : List (Term × Bool)) → numbers_of step.ratios step.index ≡ None → step.pivots ≡ ys → AllZip (IsPivotOf s v) xs ys
       → PivotsBegin i xs text new.text.items mid after → DoesIn plan s v refs old new before after (literals step []) u
   with_pivots [] [] no_ratios is zip h =
       with_arguments [] (h.0 ∙ sym (append-nil text)) h.1 (λ ps. no_arguments_next plan u ps step no_ratios is)
@@ -58,12 +58,18 @@ module _ (plan : Plan) (s : Table) (v : TermsView) (refs : ProofItems ℕ ℕ) (
       (literals step []) (rule_text step ++ codes " :args (") u u same given (text_now (codes " :args (") h.0) refl
       (λ ps. pivots_begin plan u ps step y ys no_ratios is)
 
-  pub clause_ends : ArgumentsBegin i (ratios_at refs i) (pivots_at refs i) text new.text.items mid after
+  abbrev numbers : Option (List Fraction)
+  numbers = numbers_of (ratios_at refs i) (index_arg_at refs i)
+
+  same_numbers : numbers ≡ numbers_of step.ratios step.index
+  same_numbers = ap (λ o. numbers_of o (index_arg_at refs i)) at.ratios ∙ ap (numbers_of step.ratios) at.index
+
+  pub clause_ends : ArgumentsBegin i numbers (pivots_at refs i) text new.text.items mid after
       → DoesIn plan s v refs old new before after (literals step []) u
-  clause_ends h = go (ratios_at refs i) refl h
+  clause_ends h = go numbers refl h
     where
-      go : (o : Option (List Fraction)) → ratios_at refs i ≡ o → ArgumentsBegin i o (pivots_at refs i) text new.text.items mid after
+      go : (o : Option (List Fraction)) → numbers ≡ o → ArgumentsBegin i o (pivots_at refs i) text new.text.items mid after
           → DoesIn plan s v refs old new before after (literals step []) u
       go (Some qs) e h =
-          with_arguments (listed_text (codes ":args") (coefficient_items qs)) h.0 h.1 (λ ps. coefficients_next plan u ps step qs (sym at.ratios ∙ e))
-      go None e h = with_pivots (pivots_at refs i) step.pivots (sym at.ratios ∙ e) refl at.pivots h
+          with_arguments (listed_text (codes ":args") (coefficient_items qs)) h.0 h.1 (λ ps. coefficients_next plan u ps step qs (sym same_numbers ∙ e))
+      go None e h = with_pivots (pivots_at refs i) step.pivots (sym same_numbers ∙ e) refl at.pivots h

@@ -1,6 +1,6 @@
 -- A proof over terms is well formed where the one is that stands for it.
 use Rattle.std.proofs.Common.{◌≡◌, ◌≢◌, ◌⊎◌, inl, inr, ℕ, List, [], ◌∷◌, ◌++◌, get_or, map, All, Contains, None, IfSome, refl, sym, ap}
-use Rattle.std.proofs.Common.{◌∙◌, subst, arith}
+use Rattle.std.proofs.Common.{◌∙◌, subst, arith, true}
 use Rattle.std.specs.List.{AllZip}
 use Rattle.std.specs.Prelude.{AllPairs, ⊤}
 use Rattle.sym_table.specs.Table.{Table, IsLeaf, IsTable}
@@ -9,9 +9,10 @@ use Rattle.term_model.proofs.Zips.{zip_append, zip_length, zip_at}
 use Rattle.term_pool.specs.Bindings.{IsBindingOf}
 use Rattle.term_pool.specs.StandsFor.{variable_leaf}
 use Rattle.term_pool.specs.Views.{TermsView}
+use Rattle.rule_model.specs.declared.index_arg.IndexArg.{IndexArg}
 use Rattle.rule_model.specs.declared.rules.Rule.{Rule}
 use Rattle.rule_model.specs.Proofs.{Step, ProofItems}
-use Rattle.rule_model.specs.RuleNames.{rule_named, left_out_rules, IsSymbolName}
+use Rattle.rule_model.specs.RuleNames.{rule_named, left_out_rules, IsSymbolName, takes_index}
 use Rattle.rule_model.specs.Scopes.{Anchor, Nesting, outermost, inside, inner, first_index}
 use Rattle.rule_model.specs.Visibility.{Sight, sight, direct, direct_assumes, assumes_in, seen_around, seen, visible, open_ids, open_bindings}
 use Rattle.rule_model.specs.WellFormed.{IsNewId, IsLowest, HasRule, MayOpen, MayStand, MayClose, AreWellFormed, IsWellFormed}
@@ -142,6 +143,7 @@ module _ (s : Table) (v : TermsView) (table : IsTable s) where
       pivots = pivots h.pivots;
       ratios = ratios h.ratios;
       lowest = subst (λ o. IfSome o (λ qs. All IsLowest qs)) k.ratios h.lowest;
+      index = index h.index;
     }
       where
         pivots : ((a.rule ≡ Rule.Resolution) ⊎ (a.rule ≡ Rule.ThResolution)) ⊎ (a.pivots ≡ [])
@@ -153,6 +155,10 @@ module _ (s : Table) (v : TermsView) (table : IsTable s) where
         ratios : (a.rule ≡ Rule.LaGeneric) ⊎ (a.ratios ≡ None) → (of.rule ≡ Rule.LaGeneric) ⊎ (of.ratios ≡ None)
         ratios (inl e) = inl (sym k.rule ∙ e)
         ratios (inr e) = inr (sym k.ratios ∙ e)
+
+        index : (takes_index a.rule ≡ true) ⊎ (a.index ≡ IndexArg.Free) → (takes_index of.rule ≡ true) ⊎ (of.index ≡ IndexArg.Free)
+        index (inl e) = inl (ap takes_index (sym k.rule) ∙ e)
+        index (inr e) = inr (sym k.index ∙ e)
 
     may_open : (a : Anchor ℕ ℕ) (b : Anchor Var Term) → a.id ≡ b.id → AllZip (IsBindingOf s v) a.bindings b.bindings → MayOpen n is a → MayOpen m ps b
     may_open a b e zip h = record {

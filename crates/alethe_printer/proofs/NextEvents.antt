@@ -8,6 +8,7 @@ use Rattle.std.specs.Option.{option_map, option_map_or}
 use Rattle.sym_table.specs.Table.{Table}
 use Rattle.term_model.specs.Terms.{Var, Term}
 use Rattle.term_pool.specs.Views.{TermsView, RefersTo}
+use Rattle.rule_model.specs.declared.index_arg.IndexArg.{IndexArg}
 use Rattle.rule_model.specs.Commands.{IndexedCommand, assume, step, closing, Line, Entry, ScopeEntry, entry_of, entries, lines_in, scopes}
 use Rattle.rule_model.specs.Commands.{own_scope, closed_scope}
 use Rattle.rule_model.specs.Proofs.{Step, ProofItems}
@@ -70,6 +71,7 @@ module _ (s : Table) (v : TermsView) (refs : ProofItems ℕ ℕ) (of : ProofItem
         subst (λ ps. AllZip (Rattle.proof_store.specs.Meaning.IsPivotOf s v) (Rattle.rule_model.specs.Reading.pivots_at refs i) ps)
         (at_line (λ c. (step_of c).pivots) [] ∙ ap (λ (x : Step Term). x.pivots) is) same.pivots;
     ratios = same.ratios ∙ (at_line (λ c. (step_of c).ratios) None ∙ ap (λ (x : Step Term). x.ratios) is);
+    index = same.index ∙ (at_line (λ c. (step_of c).index) IndexArg.Free ∙ ap (λ (x : Step Term). x.index) is);
   }
 
   term_there : (t : Term) → (step_of l.command).clause ≡ t ∷ [] → AllZip (RefersTo s v) (Rattle.rule_model.specs.Reading.clause_at refs i) (t ∷ [])

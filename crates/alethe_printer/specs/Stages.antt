@@ -6,7 +6,7 @@ use Rattle.term_model.specs.Terms.{Term}
 use Rattle.term_pool.specs.Bindings.{IsBindingOf}
 use Rattle.term_pool.specs.Views.{TermsView, RefersTo}
 use Rattle.rule_model.specs.Proofs.{Step, ProofItems}
-use Rattle.rule_model.specs.Reading.{rule_name_at, clause_at, premises_at, discharged_at, pivots_at, ratios_at, bindings_at}
+use Rattle.rule_model.specs.Reading.{rule_name_at, clause_at, premises_at, discharged_at, pivots_at, ratios_at, bindings_at, index_arg_at}
 use Rattle.rule_model.specs.Scopes.{commands_in, subproofs_in}
 use Rattle.proof_store.specs.Meaning.{IsPivotOf}
 use Rattle.printed_proofs.specs.Parts.{Part, close, literals, pivots, truth, discharged, variables, end_line}
@@ -20,6 +20,7 @@ pub record IsStepAt (s : Table) (v : TermsView) (refs : ProofItems ℕ ℕ) (i :
   pub discharged : discharged_at refs i ≡ step.discharged
   pub pivots : AllZip (IsPivotOf s v) (pivots_at refs i) step.pivots
   pub ratios : ratios_at refs i ≡ step.ratios
+  pub index : index_arg_at refs i ≡ step.index
 
 -- the space before each item of a list but the first one
 abbrev pub space_before : ℕ → List ℕ

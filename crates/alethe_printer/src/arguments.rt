@@ -5,11 +5,12 @@ ghost use Rattle.sym_table.specs.Table.{Table};
 ghost use Rattle.term_model.specs.Terms.{Var, Term};
 ghost use Rattle.term_pool.specs.Bindings.{IsBindingOf};
 ghost use Rattle.term_pool.specs.Views.{TermsView};
-ghost use Rattle.rule_model.specs.Reading.{discharged_at, pivots_at, ratios_at, bindings_at};
+ghost use Rattle.rule_model.specs.Reading.{discharged_at, index_arg_at, pivots_at, ratios_at, bindings_at};
 ghost use Rattle.rule_model.specs.Scopes.{Nesting, commands_in, subproofs_in};
 ghost use Rattle.problem_text.specs.Scripts.{Script};
 ghost use Rattle.alethe_text.specs.PrintedCommands.{anchor_item, printed_arguments, symbol_items};
 ghost use Rattle.printed_proofs.specs.Arguments.{truth_word};
+ghost use Rattle.printed_proofs.specs.Coefficients.{numbers_of};
 ghost use Rattle.printed_proofs.specs.Numbered.{printed_id};
 ghost use Rattle.printed_proofs.specs.Parts.{Part, listed_text};
 ghost use Rattle.printed_proofs.specs.PrintedProof.{shared_bindings, behind_bindings};
@@ -22,12 +23,12 @@ ghost use Rattle.alethe_printer.specs.Steps.{ArgumentsBegin, Does, Begins, IsSom
 use crate::lists::{push_ids, push_ratios};
 use crate::stages::Stage;
 use crate::symbols::{push_id, push_space, push_variable};
-use proof_store::Proof;
+use proof_store::{IndexArg, Proof, Ratio};
 use std::alloc::{AllocError, Global};
 use sym_table::Symbols;
 use term_printer::{Page, begin_term};
 
-/// The coefficients of a step, or the beginning of its pivots.
+/// The coefficients of a step, or the place of its index, or the beginning of its pivots.
 pub(crate) fn begin_arguments(
     alloc: Global,
     proof: &Proof,
@@ -36,13 +37,20 @@ pub(crate) fn begin_arguments(
     command: u32,
 ) -> Result<(), AllocError>
     requires { command < commands_in proof.now }
-    ensures begun { OnOk result (ArgumentsBegin command (ratios_at proof.now command) (pivots_at proof.now command)
+    ensures begun { OnOk result (ArgumentsBegin command (numbers_of (ratios_at proof.now command) (index_arg_at proof.now command)) (pivots_at proof.now command)
         page.old.text.items page.new.text.items stages.old.items stages.new.items) }
     ensures tasks { page.new.tasks.items ≡ page.old.tasks.items }
     ensures names { page.new.names ≡ page.old.names }
 {
     if let Some(ratios) = proof.ratios(command) {
         return push_ratios(alloc, ratios, &mut page.text);
+    }
+    if let IndexArg::At(place) = proof.index(command) {
+        let places = [Ratio::Plain {
+            num: i128::from(place),
+            den: 1,
+        }];
+        return push_ratios(alloc, &places, &mut page.text);
     }
     if proof.pivots(command).is_empty() {
         return Ok(());

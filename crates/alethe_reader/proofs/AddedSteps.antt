@@ -9,7 +9,7 @@ use Rattle.term_model.specs.Terms.{Var, Term}
 use Rattle.term_pool.specs.Views.{TermsView, RefersTo, ReferToAll}
 use Rattle.rule_model.specs.declared.rules.Rule.{Rule}
 use Rattle.rule_model.specs.Proofs.{Step, ProofItems, with_assume, with_step, with_subproof}
-use Rattle.rule_model.specs.RuleNames.{rule_named, left_out_rules, IsSymbolName}
+use Rattle.rule_model.specs.RuleNames.{rule_named, takes_index, left_out_rules, IsSymbolName}
 use Rattle.rule_model.specs.Scopes.{Anchor, Nesting, outermost, inside, Scope, at, own_bindings, first_index, commands_in, next_index, next_scope}
 use Rattle.rule_model.specs.Visibility.{Sight, direct_assumes, seen, visible, assumes_in}
 use Rattle.rule_model.specs.WellFormed.{IsLowest, HasRule, MayStand}
@@ -80,6 +80,7 @@ module _ (s : Table) (v : TermsView) where
       pivots = elim h.pivots [ inl e ↦ inl (resolution_same e) | inr none ↦ inr (no_pair (IsPivotOf s v) step.pivots of.pivots none is.pivots) ];
       ratios = elim h.ratios [ inl e ↦ inl (is.rule ∙ e) | inr e ↦ inr (is.ratios ∙ e) ];
       lowest = subst (λ o. IfSome o (λ qs. All IsLowest qs)) (sym is.ratios) h.lowest;
+      index = elim h.index [ inl e ↦ inl (ap takes_index is.rule ∙ e) | inr e ↦ inr (is.index ∙ e) ];
     }
       where
         resolution_same : (of.rule ≡ Rule.Resolution) ⊎ (of.rule ≡ Rule.ThResolution) → (step.rule ≡ Rule.Resolution) ⊎ (step.rule ≡ Rule.ThResolution)
@@ -100,6 +101,7 @@ module _ (s : Table) (v : TermsView) (settings : ProofSettings) (d : Session) (n
     discharged = h.parts.discharged;
     pivots = h.parts.pivots;
     ratios = h.parts.ratios;
+    index = h.parts.index;
   }
 
   opens : (b : Bool) → is_open_id p.scope.nesting of.id ≡ b → is_open_id d.builder.nesting step.id ≡ b

@@ -12,6 +12,7 @@ use Rattle.term_pool.proofs.Keeping.{terms-refl}
 use Rattle.term_pool.proofs.PlacedCells.{places_none}
 use Rattle.rule_model.specs.Proofs.{Step, Fraction}
 use Rattle.rule_model.specs.RuleNames.{left_out_rules}
+use Rattle.rule_model.specs.declared.index_arg.IndexArg.{IndexArg}
 use Rattle.rule_model.specs.declared.rules.Rule.{Rule}
 use Rattle.rule_model.specs.Visibility.{Sight}
 use Rattle.proof_store.specs.Meaning.{IsPivotOf}
@@ -27,7 +28,7 @@ use Rattle.term_reader.proofs.Coming.{IsPartOf, answers, refuses, no_memory, sam
 use Rattle.term_reader.proofs.Staying.{adds_none, adds_then}
 use Rattle.alethe_commands.specs.CommandNodes.{LiesWithin}
 use Rattle.alethe_commands.specs.declared.attributes.StepAttribute.{StepAttribute}
-use Rattle.alethe_text.specs.Arguments.{takes_coefficients, takes_pivots, named_among, pivots_from, arguments_from}
+use Rattle.alethe_text.specs.Arguments.{takes_coefficients, takes_pivots, reads_index, index_given, named_among, pivots_from, arguments_from}
 use Rattle.alethe_text.specs.Coefficients.{coefficients_from}
 use Rattle.alethe_text.specs.Commands.{Attribute, rule, premises, arguments, discharge}
 use Rattle.alethe_text.specs.Ids as text
@@ -37,6 +38,7 @@ use Rattle.alethe_text.specs.States.{ProofSettings, ProofState, Reading, ◌>>=�
 use Rattle.alethe_text.specs.Steps.{attribute_read, attributes_read}
 use Rattle.alethe_reader.specs.Answers.{terms_in, WasRead, AnswersAs}
 use Rattle.alethe_reader.specs.Arguments.{AreNamed}
+use Rattle.alethe_reader.specs.IndexArgs.{bare_index, index_read}
 use Rattle.alethe_reader.specs.Pivots.{AreReadPivots}
 use Rattle.alethe_reader.specs.Reach.{IsReach, AreIndices}
 use Rattle.alethe_reader.specs.StepParts.{AreStepParts, IsBare, StandsAt, AreReadAttributes, IsRuleJudged, AreRatios, KeepsOthers, own_nodes, nodes_from}
@@ -63,6 +65,7 @@ parts_stay s z v w table terms d step h = record {
   discharged = h.discharged;
   pivots = pivots_stay s z v w table terms d.pivots.items step.pivots h.pivots;
   ratios = h.ratios;
+  index = h.index;
 }
 
 -- An attribute's reading, by that of what stands in it.
@@ -96,14 +99,14 @@ module _ {s : Table} {v : TermsView} {settings : ProofSettings} {at : text.Stand
   unfolding attribute_read ◌>>=◌
   premises_answer ns indices result are =
       indices_answer _ (λ is. record before { premises = is }) at.sees ns indices.items result are
-      (read_with _ indices.items before.discharged before.pivots before.ratios (record { premises = refl; discharged = parts.discharged; pivots = parts.pivots; ratios = parts.ratios }))
+      (read_with _ indices.items before.discharged before.pivots before.ratios (record { premises = refl; discharged = parts.discharged; pivots = parts.pivots; ratios = parts.ratios; index = parts.index }))
 
   pub discharge_answers : (ns : List Name) (indices : Vec ℕ Global) (result : Result ⊤ ReadFault) → AreIndices at.discharges ns p indices.items result
       → AnswersAs v (both s v) (AreReadAttributes (both s v) settings at.nesting (record d { parts = record d.parts { discharged = indices } }) p before) (attribute_read settings at (discharge ns) before p) result
   unfolding attribute_read ◌>>=◌
   discharge_answers ns indices result are =
       indices_answer _ (λ is. record before { discharged = is }) at.discharges ns indices.items result are
-      (read_with _ before.premises indices.items before.pivots before.ratios (record { premises = parts.premises; discharged = refl; pivots = parts.pivots; ratios = parts.ratios }))
+      (read_with _ before.premises indices.items before.pivots before.ratios (record { premises = parts.premises; discharged = refl; pivots = parts.pivots; ratios = parts.ratios; index = parts.index }))
 
   module _ (items : Items) {kind : Rule} (same : before.rule ≡ kind) where
     -- the arguments of a rule that takes coefficients
@@ -123,12 +126,14 @@ module _ {s : Table} {v : TermsView} {settings : ProofSettings} {at : text.Stand
       ratios_read e read (Err ReadFault.PoolFull) are after = absurd are
       ratios_read e read (Err ReadFault.Memory) are after = no_memory refl
 
-      pub ratios_answer : (ps : StepParts) (result : Result ⊤ ReadFault) → AreRatios ps result (coefficients_from items) → ps.premises ≡ d.parts.premises → ps.discharged ≡ d.parts.discharged → ps.pivots ≡ d.parts.pivots
+      pub ratios_answer : (ps : StepParts) (result : Result ⊤ ReadFault) → AreRatios ps result (coefficients_from items) → ps.premises ≡ d.parts.premises → ps.discharged ≡ d.parts.discharged → ps.pivots ≡ d.parts.pivots → ps.index ≡ d.parts.index
           → AnswersAs v (both s v) (AreReadAttributes (both s v) settings at.nesting (record d { parts = ps }) p before) (attribute_read settings at (arguments items) before p) result
-      ratios_answer ps result are listed others pivots =
+      ratios_answer ps result are listed others pivots index =
           same_outcome are_ratios
           (ratios_read _ (coefficients_from items) result are
-          (read_with ps before.premises before.discharged before.pivots _ (rw (listed, others, pivots) (record { premises = parts.premises; discharged = parts.discharged; pivots = parts.pivots; ratios = refl }))))
+          (read_with ps before.premises before.discharged before.pivots _
+          (rw (listed, others, pivots, index)
+          (record { premises = parts.premises; discharged = parts.discharged; pivots = parts.pivots; ratios = refl; index = parts.index }))))
 
     -- the arguments of a rule that takes none
     module _ (no_coefficients : takes_coefficients kind ≡ false) where
@@ -136,13 +141,22 @@ module _ {s : Table} {v : TermsView} {settings : ProofSettings} {at : text.Stand
       abbrev put : Option (List (Term × Bool)) → Reading (Step Term)
       put of = give (record before { pivots = unwrap_or of [] })
 
+      -- a step with the index argument that the arguments give, where the rule takes one
+      abbrev indexed : Step Term
+      indexed = record before { index = if reads_index settings before.rule then index_given items else before.index }
+
+      index_same : index_read settings.is_profile_two kind items d.parts.index ≡ indexed.index
+      index_same =
+          ap (λ r. index_read settings.is_profile_two r items d.parts.index) (sym same)
+          ∙ ap (index_read settings.is_profile_two before.rule items) parts.index
+
       by_pivots : (b : Bool) → (settings.is_strict && takes_pivots kind) ≡ b
           → attribute_read settings at (arguments items) before p
-          ≡ (if b then pivots_from settings at.nesting items >>= put else named_among settings at.nesting items >>= λ _. give before) p
+          ≡ (if b then pivots_from settings at.nesting items >>= put else named_among settings at.nesting items >>= λ _. give indexed) p
       unfolding attribute_read arguments_from ◌>>=◌
       by_pivots b takes =
           other_of (takes_coefficients before.rule) _ _ p (ap takes_coefficients same ∙ no_coefficients)
-          ∙ ap (λ c. (if c then pivots_from settings at.nesting items >>= put else named_among settings at.nesting items >>= λ _. give before) p)
+          ∙ ap (λ c. (if c then pivots_from settings at.nesting items >>= put else named_among settings at.nesting items >>= λ _. give indexed) p)
           (rw same takes)
 
       module _ (e : Session) where
@@ -150,41 +164,61 @@ module _ {s : Table} {v : TermsView} {settings : ProofSettings} {at : text.Stand
             → AnswersAs v (both z w) (AreReadPivots (both z w) settings at.nesting e.reader p e.parts.pivots.items)
             (pivots_from settings at.nesting items p) result
             → e.parts.premises ≡ d.parts.premises → e.parts.discharged ≡ d.parts.discharged → e.parts.has_ratios ≡ d.parts.has_ratios → e.parts.ratios ≡ d.parts.ratios
+            → e.parts.index ≡ d.parts.index
             → AnswersAs v (both z w) (AreReadAttributes (both z w) settings at.nesting e p before) (attribute_read settings at (arguments items) before p) result
         unfolding ◌>>=◌
-        pivots_answer {z} {w} takes (Ok _) h listed others has ratios =
+        pivots_answer {z} {w} takes (Ok _) h listed others has ratios index =
             same_outcome (by_pivots true takes)
             (goes put (λ of. keeps_give (record before { pivots = unwrap_or of [] })) h (adds_none z).keeps (terms-refl w)
             (λ of q k. answers (record before { pivots = unwrap_or of [] }) q refl refl (record {
-              parts = record { premises = rw listed parts.premises; discharged = rw others parts.discharged; pivots = k.stand; ratios = rw (has, ratios) parts.ratios };
+              parts = record { premises = rw listed parts.premises; discharged = rw others parts.discharged; pivots = k.stand; ratios = rw (has, ratios) parts.ratios; index = index ∙ parts.index };
               id = refl;
               rule = refl;
               rule_name = refl;
               clause = refl;
               behind = k.behind;
             })))
-        pivots_answer {z} {w} takes (Err fault) h listed others has ratios = same_outcome (by_pivots true takes) (stops put (λ of. keeps_give (record before { pivots = unwrap_or of [] })) h)
+        pivots_answer {z} {w} takes (Err fault) h listed others has ratios index = same_outcome (by_pivots true takes) (stops put (λ of. keeps_give (record before { pivots = unwrap_or of [] })) h)
 
         pub names_answer : {z : Table} {w : TermsView} → (settings.is_strict && takes_pivots kind) ≡ false → (result : Result ⊤ ReadFault)
             → AnswersAs v (both z w) (AreNamed (both z w) settings at.nesting e.reader p) (named_among settings at.nesting items p) result
-            → Keeps s z → KeepsTerms v w → e.parts ≡ d.parts → AnswersAs v (both z w) (AreReadAttributes (both z w) settings at.nesting e p before) (attribute_read settings at (arguments items) before p) result
+            → Keeps s z → KeepsTerms v w → (k : IndexArg) → e.parts ≡ record d.parts { index = k }
+            → k ≡ index_read settings.is_profile_two kind items d.parts.index
+            → AnswersAs v (both z w) (AreReadAttributes (both z w) settings at.nesting e p before) (attribute_read settings at (arguments items) before p) result
         unfolding ◌>>=◌
-        names_answer {z} {w} takes (Ok _) h table terms still =
+        names_answer {z} {w} takes (Ok _) h table terms n still given =
+            let stay = parts_stay s z v w table terms d.parts before parts in
             same_outcome (by_pivots false takes)
-            (goes (λ _. give before) (λ _. keeps_give before) h (adds_none z).keeps (terms-refl w)
-            (λ t q k. answers before q refl refl (record { parts = rw still (parts_stay s z v w table terms d.parts before parts); id = refl; rule = refl; rule_name = refl; clause = refl; behind = k.behind })))
-        names_answer {z} {w} takes (Err fault) h table terms still = same_outcome (by_pivots false takes) (stops (λ _. give before) (λ _. keeps_give before) h)
+            (goes (λ _. give indexed) (λ _. keeps_give indexed) h (adds_none z).keeps (terms-refl w)
+            (λ t q k. answers indexed q refl refl (record {
+              parts =
+                  rw still (record {
+                    premises = stay.premises;
+                    discharged = stay.discharged;
+                    pivots = stay.pivots;
+                    ratios = stay.ratios;
+                    index = given ∙ index_same;
+                  });
+              id = refl;
+              rule = refl;
+              rule_name = refl;
+              clause = refl;
+              behind = k.behind;
+            })))
+        names_answer {z} {w} takes (Err fault) h table terms n still given =
+            same_outcome (by_pivots false takes) (stops (λ _. give indexed) (λ _. keeps_give indexed) h)
 
 -- nothing of a step is among its parts
-pub none_among : (s : Table) (v : TermsView) (d : StepParts) (before : Step Term) → IsBare before → takes_coefficients before.rule ≡ d.has_ratios
-    → d.premises.items ≡ [] → d.discharged.items ≡ [] → d.pivots.items ≡ [] → d.ratios.items ≡ [] → AreStepParts (both s v) d before
-none_among s v d before bare takes no_premises no_discharged no_pivots no_ratios = record {
+pub none_among : (s : Table) (v : TermsView) (settings : ProofSettings) (d : StepParts) (before : Step Term) → IsBare settings before
+    → takes_coefficients before.rule ≡ d.has_ratios → bare_index settings.is_profile_two before.rule ≡ d.index → d.premises.items ≡ [] → d.discharged.items ≡ [] → d.pivots.items ≡ [] → d.ratios.items ≡ [] → AreStepParts (both s v) d before
+none_among s v settings d before bare takes index no_premises no_discharged no_pivots no_ratios = record {
   premises = no_premises ∙ sym bare.premises;
   discharged = no_discharged ∙ sym bare.discharged;
   pivots = subst (λ ps. AllZip (IsPivotOf s v) ps before.pivots) (sym no_pivots) (subst (AllZip (IsPivotOf s v) []) (sym bare.pivots) tt);
   ratios =
       ap (λ qs. if d.has_ratios then Some (map fraction_of_ratio qs) else None) no_ratios
       ∙ (ap (λ b. if b then Some [] else None) (sym takes) ∙ sym bare.ratios);
+  index = sym index ∙ sym bare.index;
 }
 
 -- Some attributes were read, these are left, and the step before all became this one.

@@ -34,3 +34,4 @@ mod PivotPairs
 mod AddedSteps
 mod StepReading
 mod AttributeReading
+mod IndexReading

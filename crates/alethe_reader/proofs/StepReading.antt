@@ -57,7 +57,7 @@ module _ (settings : ProofSettings) (n : Name) (literals : Items) (attributes : 
   added step = changed (step_taken step)
 
   abbrev before : List Term → Step Term
-  before clause = bare_step n.name (rule_word attributes) clause
+  before clause = bare_step settings n.name (rule_word attributes) clause
 
   -- once the literals, and the id, are read
   abbrev after_clause : Standing → List Term → Reading ⊤
@@ -94,8 +94,8 @@ closing_same used more p q id name here None a b c h = rw (a, b, c) h
 closing_same used more p q id name here (Some x) a b c h = rw (a, b, c) h
 
 -- nothing of the step's attributes is read
-is_bare : (id word : List ℕ) (clause : List Term) → IsBare (bare_step id word clause)
-is_bare id word clause = record { premises = refl; discharged = refl; pivots = refl; ratios = refl }
+is_bare : (settings : ProofSettings) (id word : List ℕ) (clause : List Term) → IsBare settings (bare_step settings id word clause)
+is_bare settings id word clause = record { premises = refl; discharged = refl; pivots = refl; ratios = refl; index = refl }
 
 -- Where the reader stands as a step does: where it closes nothing it stays, and else goes to the scope around.
 module _ (s : Table) (v : TermsView) (settings : ProofSettings) (used : List Used) (p : ProofState) (id : List ℕ) (here : Standing) where
@@ -135,7 +135,7 @@ ReadsLiterals s v old literals z w new refs result = (settings : ProofSettings) 
 abbrev pub ReadsAttributes : ProofSettings → Table → TermsView → Session → ReaderStanding → Rule → List Attribute → Table → TermsView → Session
     → Result ⊤ ReadFault → Type 0
 ReadsAttributes settings z w d standing kind attributes y x e result = (at : Standing) (p : ProofState) (bare : Step Term)
-    → StandsAt (both z w) settings at d standing p → bare.rule ≡ kind → IsBare bare → AnswersAs w (both y x) (AreReadAttributes (both y x) settings at.nesting e p bare) (attributes_read settings at attributes bare p) result
+    → StandsAt (both z w) settings at d standing p → bare.rule ≡ kind → IsBare settings bare → AnswersAs w (both y x) (AreReadAttributes (both y x) settings at.nesting e p bare) (attributes_read settings at attributes bare p) result
 
 -- A step is read part by part, in the order of the text.
 module _ {s : Table} {v : TermsView} {settings : ProofSettings} {d : Session} {p : ProofState} (session : IsProofSession (both s v) settings d p) {n : Name} (named : Named) (same : is_named named ≡ n) (symbol : IsSymbolName n.name) where
@@ -185,7 +185,7 @@ module _ {s : Table} {v : TermsView} {settings : ProofSettings} {d : Session} {p
               → AnswersAs w (both y x) (AreReadAttributes (both y x) settings stands.here.nesting e q (before settings n literals attributes p clause)) (attributes_read settings stands.here attributes (before settings n literals attributes p clause) q) result
           at_attributes result read clause q k =
               read stands.here q (before settings n literals attributes p clause) (stands_there parts k) (sym (ruled ∙ ap rule_named worded))
-              (is_bare n.name (rule_word attributes) clause)
+              (is_bare settings n.name (rule_word attributes) clause)
 
           then_attributes : {N : ⊤ → ⊤ → ProofState → Type 0} {result : Result ⊤ ReadFault}
               → ((clause : List Term) (q : ProofState) → AreReadFormulas (both z w) settings stands.here.nesting t p refs tt clause q → AnswersAs w (both y x) N (after_clause settings n literals attributes p stands.here clause q) result)

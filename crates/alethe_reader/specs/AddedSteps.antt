@@ -32,6 +32,7 @@ step_added d n = record {
   discharged = d.discharged.items;
   pivots = d.pivots.items;
   ratios = ratios_told d;
+  index = d.index;
 }
 
 -- the indices are those of commands that are seen

@@ -16,6 +16,7 @@ pub mod Judging
 pub mod Reach
 pub mod Standing
 pub mod Pivots
+pub mod IndexArgs
 pub mod StepParts
 pub mod Arguments
 pub mod AddedSteps

@@ -5,7 +5,7 @@ use Rattle.alethe_reader.specs.declared.settings.SessionSettings.{SessionSetting
 
 -- with these flags, and with these settings
 abbrev pub settings_with : Flags → ProofSettings
-settings_with flags = limited_proof flags.expand_lets flags.strict
+settings_with flags = limited_proof flags.expand_lets flags.strict flags.profile_two
 
 abbrev pub proof_settings : SessionSettings → ProofSettings
 proof_settings how = settings_with how.flags

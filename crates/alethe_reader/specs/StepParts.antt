@@ -19,6 +19,7 @@ use Rattle.alethe_text.specs.States.{ProofSettings, ProofState}
 use Rattle.alethe_reader.specs.declared.session.Session.{Session}
 use Rattle.alethe_reader.specs.declared.session.StepParts.{StepParts}
 use Rattle.alethe_reader.specs.declared.standing.Standing.{Standing}
+use Rattle.alethe_reader.specs.IndexArgs.{bare_index}
 use Rattle.alethe_reader.specs.Reach.{IsReach}
 use Rattle.alethe_reader.specs.Behind.{IsBehind}
 use Rattle.term_expansion.specs.SymbolsAndTerms.{SymbolsAndTerms}
@@ -29,13 +30,15 @@ pub record AreStepParts (w : SymbolsAndTerms) (d : StepParts) (step : Step Term)
   pub discharged : d.discharged.items ≡ step.discharged
   pub pivots : AllZip (IsPivotOf w.symbols w.terms) d.pivots.items step.pivots
   pub ratios : (if d.has_ratios then Some (map fraction_of_ratio d.ratios.items) else None) ≡ step.ratios
+  pub index : d.index ≡ step.index
 
 -- nothing of the step's attributes is read
-pub record IsBare (step : Step Term) : Type 0 where
+pub record IsBare (settings : ProofSettings) (step : Step Term) : Type 0 where
   pub premises : step.premises ≡ []
   pub discharged : step.discharged ≡ []
   pub pivots : step.pivots ≡ []
   pub ratios : step.ratios ≡ (if takes_coefficients step.rule then Some [] else None)
+  pub index : step.index ≡ bare_index settings.is_profile_two step.rule
 
 -- What is read of a proof stands where a step stands, and the ids within reach are those of the commands that the step sees and
 -- of those that it may discharge.

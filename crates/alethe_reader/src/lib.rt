@@ -23,6 +23,7 @@ mod assuming;
 pub mod bound;
 mod formulas;
 pub mod ids;
+mod index_args;
 mod judging;
 pub mod laws;
 mod needed_images;

@@ -25,7 +25,7 @@ use crate::settings::SessionSettings;
 use crate::text_reading::read_commands;
 use alethe_commands::{enter_list, excess, skip_answer};
 use alethe_text::laws::proof_texts_have_one_reading;
-use proof_store::{Proof, ProofBuilder};
+use proof_store::{IndexArg, Proof, ProofBuilder};
 use sexpr::{Cause, Lexer, Refusal, form, tokens_are_spelled};
 use std::alloc::Global;
 use std::mem::replace;
@@ -43,7 +43,7 @@ fn new_session<'a>(
     flags: Flags,
 ) -> Session<'a>
     ensures session { (s : Table) (v : TermsView) (before : Script) → IsProblemOf s v problem.now before →
-        IsProofSession (both s v) (limited_proof flags.expand_lets flags.strict) result (unread before) }
+        IsProofSession (both s v) (limited_proof flags.expand_lets flags.strict flags.profile_two) result (unread before) }
     ensures short { IsBehindCommands result.builder 0 }
 {
     let mut reader = TermReader::new(alloc, problem, flags);
@@ -61,6 +61,7 @@ fn new_session<'a>(
             pivots: Vec::new(alloc),
             has_ratios: false,
             ratios: Vec::new(alloc),
+            index: IndexArg::Free,
         },
     }
 }
@@ -100,7 +101,8 @@ fn judge_end(lexer: Lexer<'_>, session: &Session<'_>) -> Result<(), Refusal>
 ///
 /// Problem and symbols have to be what the reading of the problem left. Numerals and variables are put into the table, no
 /// more than the text has bytes, and the terms into the pool. Where the flags ask for a strict proof, the arguments of
-/// resolution are its pivots. The first fault is one of form, or else the first one of the commands in their order. Refused
+/// resolution are its pivots; where they ask for the second profile, those of and, not_or, and_pos and or_neg give the index argument,
+/// and what is no index is no fault. The first fault is one of form, or else the first one of the commands in their order. Refused
 /// besides when out of memory, and where the pool had no room for a cell of a term that was read.
 pub fn read_proof(
     alloc: Global,
@@ -114,16 +116,16 @@ pub fn read_proof(
     requires problem { (before : Script) × IsProblemOf symbols.old terms.old problem.now before }
     requires room { length symbols.old.leaves + length bytes.now ≤ 2 ^ 30 }
     ensures proof { (before : Script) → IsProblemOf symbols.old terms.old problem.now before →
-        IfOk result (λ proof. IsProofOf bytes.now (limited_proof flags.expand_lets flags.strict) before symbols.new terms.new proof) }
+        IfOk result (λ proof. IsProofOf bytes.now (limited_proof flags.expand_lets flags.strict flags.profile_two) before symbols.new terms.new proof) }
     ensures fault { (before : Script) (r : Refusal) → IsProblemOf symbols.old terms.old problem.now before →
-        result ≡ Err (fault.Text r) → IsFirstProofFault bytes.now (limited_proof flags.expand_lets flags.strict) before r }
+        result ≡ Err (fault.Text r) → IsFirstProofFault bytes.now (limited_proof flags.expand_lets flags.strict flags.profile_two) before r }
     ensures refused { (before : Script) (r : Refusal) → IsProblemOf symbols.old terms.old problem.now before →
-        IsFirstProofFault bytes.now (limited_proof flags.expand_lets flags.strict) before r → IfOk result (λ _. ⊥) }
+        IsFirstProofFault bytes.now (limited_proof flags.expand_lets flags.strict flags.profile_two) before r → IfOk result (λ _. ⊥) }
     ensures placed { (before : Script) → IsProblemOf symbols.old terms.old problem.now before →
         PlacesCellsOf symbols.new terms.old.pass terms.new.pass
-        (IsCountedOfProof bytes.now (limited_proof flags.expand_lets flags.strict) before) }
+        (IsCountedOfProof bytes.now (limited_proof flags.expand_lets flags.strict flags.profile_two) before) }
     ensures full { (before : Script) → IsProblemOf symbols.old terms.old problem.now before → result ≡ Err fault.PoolFull →
-        LacksCellOf symbols.new terms.new.pass (IsCountedOfProof bytes.now (limited_proof flags.expand_lets flags.strict) before) }
+        LacksCellOf symbols.new terms.new.pass (IsCountedOfProof bytes.now (limited_proof flags.expand_lets flags.strict flags.profile_two) before) }
     ensures few { length symbols.new.leaves ≤ length symbols.old.leaves + length bytes.now }
     ensures symbols { AddsNoSymbols symbols.old symbols.new }
     ensures keeps { KeepsTerms terms.old terms.new }

@@ -3,7 +3,7 @@
 use crate::bound::BoundVariables;
 use crate::ids::Ids;
 use pair_pool::Ref;
-use proof_store::{ProofBuilder, Ratio};
+use proof_store::{IndexArg, ProofBuilder, Ratio};
 use term_reader::TermReader;
 
 /// An anchor that is open.
@@ -28,6 +28,8 @@ pub struct StepParts {
     /// Whether its arguments are coefficients, and then these.
     pub has_ratios: bool,
     pub ratios: Vec<Ratio>,
+    /// Its index argument.
+    pub index: IndexArg,
 }
 
 /// What was read of a proof: the names, the proof as far as it is written, the ids in use, the anchors that are open, the

@@ -15,15 +15,17 @@ ghost use Rattle.alethe_text.specs.Arguments as spec;
 ghost use Rattle.alethe_text.specs.Coefficients.{coefficients_from};
 ghost use Rattle.alethe_text.specs.Commands.{attributes_of};
 ghost use Rattle.alethe_text.specs.Ids as ids;
-ghost use Rattle.alethe_text.specs.States.{ProofState, demand};
+ghost use Rattle.alethe_text.specs.States.{ProofSettings, ProofState, demand};
 ghost use Rattle.alethe_text.specs.Steps.{attribute_read, attributes_read};
 ghost use Rattle.alethe_reader.specs.Answers.{AnswersAs};
+ghost use Rattle.alethe_reader.specs.IndexArgs.{bare_index};
 ghost use Rattle.alethe_reader.specs.Settings.{proof_settings};
 ghost use Rattle.alethe_reader.specs.StepParts.{AreStepParts, IsBare, StandsAt, AreReadAttributes, AreRatios, IsRuleJudged, KeepsOthers};
 ghost use Rattle.alethe_reader.specs.StepParts.{fault_of_coefficients, own_nodes, nodes_from};
 ghost use Rattle.term_expansion.specs.SymbolsAndTerms.{both};
 
 use crate::arguments::names_at;
+use crate::index_args::{index_of_arguments, missing_index};
 use crate::judging::named_at;
 use crate::pivots::pivots_at;
 use crate::premises::indices_at;
@@ -34,7 +36,7 @@ use crate::settings::SessionSettings;
 use crate::standing::Standing;
 use alethe_commands::attributes::{StepAttribute, next_attribute};
 use coefficients::{Stop, coefficients_at};
-use rule_model::Rule;
+use rule_model::{IndexArg, Rule};
 use sexpr::Cause;
 use sym_table::Symbols;
 use term_names::faults::ReadFault;
@@ -79,7 +81,8 @@ pub(crate) fn attributes_at(
         StandsAt (both symbols.old terms.old) (proof_settings settings.now) at session.old step.standing p }
     requires room { length symbols.old.leaves + (length items.now.nodes - step.first) ≤ 2 ^ 30 }
     ensures read { (at : ids.Standing) (p : ProofState) (before : Step Term) →
-        StandsAt (both symbols.old terms.old) (proof_settings settings.now) at session.old step.standing p → before.rule ≡ step.rule → IsBare before →
+        StandsAt (both symbols.old terms.old) (proof_settings settings.now) at session.old step.standing p → before.rule ≡ step.rule →
+        IsBare (proof_settings settings.now) before →
         AnswersAs terms.old (both symbols.new terms.new)
         (AreReadAttributes (both symbols.new terms.new) (proof_settings settings.now) at.nesting session.new p before)
         (attributes_read (proof_settings settings.now) at (attributes_of (items_at items.now step.first (length items.now.nodes))) before p) result }
@@ -88,7 +91,8 @@ pub(crate) fn attributes_at(
     ensures grow { GrowByTerms (both symbols.old terms.old) (both symbols.new terms.new) }
     ensures others { KeepsOthers session.old session.new }
 {
-    clear(&mut session.parts, takes_coefficients(step.rule));
+    let index = missing_index(settings.flags.profile_two, step.rule);
+    clear(&mut session.parts, takes_coefficients(step.rule), index);
     let mut at = step.first;
     'attributes: while let Some(attribute) = next_attribute(items, &mut at, items.count()) {
         let one = OneAttribute {
@@ -101,10 +105,12 @@ pub(crate) fn attributes_at(
     Ok(())
 }
 
-/// Empties what attributes have of a step's parts. There are coefficients, though none so far, where its rule takes them.
+/// Empties what attributes have of a step's parts. There are coefficients, though none so far, where its rule takes them, and its index
+/// argument is that of a step without arguments.
 #[tactic(auto, using(crate::proofs::AttributeReading::none_among))]
-fn clear(parts: &mut StepParts, has_ratios: bool)
-    ensures parts { (s : Table) (v : TermsView) (before : Step Term) → IsBare before → spec.takes_coefficients before.rule ≡ has_ratios →
+fn clear(parts: &mut StepParts, has_ratios: bool, index: IndexArg)
+    ensures parts { (s : Table) (v : TermsView) (settings : ProofSettings) (before : Step Term) → IsBare settings before →
+        spec.takes_coefficients before.rule ≡ has_ratios → bare_index settings.is_profile_two before.rule ≡ index →
         AreStepParts (both s v) parts.new before }
     ensures clause { parts.new.clause ≡ parts.old.clause }
 {
@@ -113,6 +119,7 @@ fn clear(parts: &mut StepParts, has_ratios: bool)
     parts.pivots.clear();
     parts.ratios.clear();
     parts.has_ratios = has_ratios;
+    parts.index = index;
 }
 
 fn takes_coefficients(rule: Rule) -> bool
@@ -185,6 +192,9 @@ fn attribute_at(
                 let (reader, pivots) = (&mut session.reader, &mut parts.pivots);
                 pivots_at(items, arguments, symbols, terms, reader, pivots)
             } else {
+                let profile_two = settings.flags.profile_two;
+                let before = parts.index;
+                parts.index = index_of_arguments(profile_two, one.rule, items, arguments, before);
                 names_at(items, arguments, symbols, terms, &mut session.reader)
             }
         }
@@ -217,6 +227,7 @@ fn ratios_at(
     ensures premises { parts.new.premises ≡ parts.old.premises }
     ensures discharged { parts.new.discharged ≡ parts.old.discharged }
     ensures pivots { parts.new.pivots ≡ parts.old.pivots }
+    ensures index { parts.new.index ≡ parts.old.index }
 {
     let all = coefficients_at(items, arguments.first, arguments.end, &mut parts.ratios);
     match all {

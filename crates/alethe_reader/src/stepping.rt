@@ -185,6 +185,7 @@ fn take_step(builder: &mut ProofBuilder, parts: &StepParts, new: NewStep<'_>) ->
         discharged,
         pivots,
         ratios,
+        parts.index,
     )
 }
 

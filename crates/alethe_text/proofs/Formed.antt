@@ -2,9 +2,10 @@
 use Rattle.std.proofs.Common.{◌≡◌, ◌⊎◌, inl, inr, ℕ, List, [], ◌∷◌, map, true, false, None, IfSome, All, Contains, refl, sym, ◌∙◌, subst, arith}
 use Rattle.std.proofs.lemmas.Slice.Eq.{bytes_eq-Decides}
 use Rattle.term_model.specs.Terms.{Var, Term}
+use Rattle.rule_model.specs.declared.index_arg.IndexArg.{IndexArg}
 use Rattle.rule_model.specs.declared.rules.Rule.{Rule}
 use Rattle.rule_model.specs.Proofs.{Step, ProofItems}
-use Rattle.rule_model.specs.RuleNames.{rule_named, left_out_rules, IsSymbolName}
+use Rattle.rule_model.specs.RuleNames.{rule_named, takes_index, left_out_rules, IsSymbolName}
 use Rattle.rule_model.specs.Scopes.{Anchor, Nesting, outermost, inside, Scope, at}
 use Rattle.rule_model.specs.WellFormed.{IsNewId, IsLowest, HasRule, MayOpen, MayClose, AreWellFormed, IsWellPlaced}
 use Rattle.rule_model.specs.Writing.{is_open_id, add_assume, add_step, open_anchor, close_scope, take_step}
@@ -34,6 +35,7 @@ pub record IsReadStep (p : Standing) (id word : List ℕ) (step : Step Term) : T
   pub pivots : ((step.rule ≡ Rule.Resolution) ⊎ (step.rule ≡ Rule.ThResolution)) ⊎ (step.pivots ≡ [])
   pub ratios : (step.rule ≡ Rule.LaGeneric) ⊎ (step.ratios ≡ None)
   pub lowest : IfSome step.ratios (λ qs. All IsLowest qs)
+  pub index : (takes_index step.rule ≡ true) ⊎ (step.index ≡ IndexArg.Free)
 
 -- its word is that of a symbol and of no rule for quantifiers
 pub record IsKeptWord (word : List ℕ) : Type 0 where
@@ -48,6 +50,7 @@ has_rule p id word step h k = record {
   pivots = h.pivots;
   ratios = h.ratios;
   lowest = h.lowest;
+  index = h.index;
 }
 
 pub assume_placed : (scope : Scope Var Term) (id : List ℕ) (t : Term) → IsPlaced scope → IsNew scope id → IsPlaced (add_assume scope id t)

@@ -9,9 +9,10 @@ use Rattle.sexpr.specs.declared.causes.Cause.TheVariants.{Repeated, BadAnchor, L
 use Rattle.sexpr.specs.declared.causes.Refusal.{Refusal}
 use Rattle.sexpr.specs.Items.{Item, Items}
 use Rattle.term_model.specs.Terms.{Var, Term}
+use Rattle.rule_model.specs.declared.index_arg.IndexArg.{IndexArg}
 use Rattle.rule_model.specs.declared.rules.Rule.{Rule}
 use Rattle.rule_model.specs.Proofs.{Fraction, Step}
-use Rattle.rule_model.specs.RuleNames.{rule_named, left_out_rules, IsSymbolName}
+use Rattle.rule_model.specs.RuleNames.{rule_named, takes_index, left_out_rules, IsSymbolName}
 use Rattle.rule_model.specs.Scopes.{Scope}
 use Rattle.rule_model.specs.Visibility.{visible_ids, open_ids}
 use Rattle.rule_model.specs.WellFormed.{IsLowest, HasRule}
@@ -24,7 +25,7 @@ use Rattle.alethe_text.specs.Coefficients.{coefficients_from}
 use Rattle.alethe_text.specs.States.{ProofSettings, ProofState, Reading, ◌>>=◌, give, given}
 use Rattle.alethe_text.specs.Ids.{Standing, stands_in, closes_scope, id_judged, standing_of, indices_of}
 use Rattle.alethe_text.specs.ProofTerms.{formula_in}
-use Rattle.alethe_text.specs.Arguments.{takes_coefficients, takes_pivots, named_among, pivots_from, arguments_from}
+use Rattle.alethe_text.specs.Arguments.{takes_coefficients, takes_pivots, reads_index, index_given, named_among, pivots_from, arguments_from}
 use Rattle.alethe_text.specs.Steps.{assume_read, rule_word, bare_step, attribute_read, attributes_read}
 use Rattle.alethe_text.proofs.Endings.{After, Ends, and_next, looked, asked, asked_last, given_next}
 use Rattle.alethe_text.proofs.Lists.{not_among}
@@ -83,8 +84,13 @@ resolution_takes Rule.Resolution e = inl refl
 resolution_takes Rule.ThResolution e = inr refl
 resolution_takes _ e = absurd (cc)
 
-pub bare_is : (p : Standing) (id name : List ℕ) (clause : List Term) → IsReadStep p id name (bare_step id name clause)
-bare_is p id name clause = record {
+-- both of two
+both_hold : (a b : Bool) → (a && b) ≡ true → b ≡ true
+both_hold true b e = e
+both_hold false b e = absurd (cc)
+
+pub bare_is : (settings : ProofSettings) (p : Standing) (id name : List ℕ) (clause : List Term) → IsReadStep p id name (bare_step settings id name clause)
+bare_is settings p id name clause = record {
   same_id = refl;
   same_word = refl;
   named = refl;
@@ -93,11 +99,17 @@ bare_is p id name clause = record {
   pivots = inr refl;
   ratios = ratios (takes_coefficients (rule_named name)) refl;
   lowest = lowest (takes_coefficients (rule_named name));
+  index = index (reads_index settings (rule_named name)) refl;
 }
   where
     ratios : (b : Bool) → takes_coefficients (rule_named name) ≡ b → (rule_named name ≡ Rule.LaGeneric) ⊎ (◌≡◌ {A = Option (List Fraction)} (if b then Some [] else None) None)
     ratios true e = inl (la_generic_takes (rule_named name) e)
     ratios false e = inr refl
+
+    index : (b : Bool) → reads_index settings (rule_named name) ≡ b
+        → (takes_index (rule_named name) ≡ true) ⊎ ((if b then IndexArg.Missing else IndexArg.Free) ≡ IndexArg.Free)
+    index true e = inl (both_hold settings.is_profile_two (takes_index (rule_named name)) e)
+    index false e = inr refl
 
     lowest : (b : Bool) → IfSome {T = List Fraction} (if b then Some [] else None) (λ qs. All IsLowest qs)
     lowest true = All-nil IsLowest
@@ -122,6 +134,7 @@ module _ (P : Scope Var Term → Type 0) (settings : ProofSettings) (p : Standin
           pivots = read.pivots;
           ratios = inl (la_generic_takes step.rule e);
           lowest = lowest;
+          index = read.index;
         },
       ))
 
@@ -139,6 +152,7 @@ module _ (P : Scope Var Term → Type 0) (settings : ProofSettings) (p : Standin
           pivots = inl (resolution_takes step.rule e);
           ratios = read.ratios;
           lowest = read.lowest;
+          index = read.index;
         },
       ))
 
@@ -146,18 +160,35 @@ module _ (P : Scope Var Term → Type 0) (settings : ProofSettings) (p : Standin
   unfolding arguments_from
   arguments_formed items s step h read = go (takes_coefficients step.rule) refl (settings.is_strict && takes_pivots step.rule) refl
     where
-      both : (a b : Bool) → (a && b) ≡ true → b ≡ true
-      both true b e = e
-      both false b e = absurd (cc)
+      -- the arguments of a rule that takes one give the index
+      index_is : (b : Bool) → reads_index settings step.rule ≡ b
+          → (takes_index step.rule ≡ true) ⊎ ((if b then index_given items else step.index) ≡ IndexArg.Free)
+      index_is true e = inl (both_hold settings.is_profile_two (takes_index step.rule) e)
+      index_is false e = read.index
 
       go : (a : Bool) → takes_coefficients step.rule ≡ a → (b : Bool) → (settings.is_strict && takes_pivots step.rule) ≡ b → Ends (StepRead P p id name)
           ((if a then (given (coefficients_from items) >>= λ qs. give (record step { ratios = qs }))
           else if b then (pivots_from settings p.nesting items >>= λ pivots. give (record step { pivots = unwrap_or pivots [] }))
-          else (named_among settings p.nesting items >>= λ _. give step)) s)
+          else (named_among settings p.nesting items >>= λ _.
+          give (record step { index = if reads_index settings step.rule then index_given items else step.index }))) s)
       go true e b f = coefficients_formed items s step h read e
-      go false e true f = pivots_formed items s step h read (both settings.is_strict (takes_pivots step.rule) f)
+      go false e true f = pivots_formed items s step h read (both_hold settings.is_strict (takes_pivots step.rule) f)
       go false e false f =
-          and_next (λ _ t. P t.scope) (StepRead P p id name) (named_among settings p.nesting items) _ s (all_stay P settings p.nesting items s h) (λ _ t k. (k, read))
+          and_next (λ _ t. P t.scope) (StepRead P p id name) (named_among settings p.nesting items) _ s (all_stay P settings p.nesting items s h)
+          (λ _ t k. (
+            k,
+            record {
+              same_id = read.same_id;
+              same_word = read.same_word;
+              named = read.named;
+              premises = read.premises;
+              discharged = read.discharged;
+              pivots = read.pivots;
+              ratios = read.ratios;
+              lowest = read.lowest;
+              index = index_is (reads_index settings step.rule) refl;
+            },
+          ))
 
   -- a rule that is not left out
   abbrev pub IsKept : Attribute → Type 0
@@ -185,6 +216,7 @@ module _ (P : Scope Var Term → Type 0) (settings : ProofSettings) (p : Standin
             pivots = read.pivots;
             ratios = read.ratios;
             lowest = read.lowest;
+            index = read.index;
           },
         ),
         tt,
@@ -208,6 +240,7 @@ module _ (P : Scope Var Term → Type 0) (settings : ProofSettings) (p : Standin
             pivots = read.pivots;
             ratios = read.ratios;
             lowest = read.lowest;
+            index = read.index;
           },
         ),
         tt,
@@ -234,10 +267,10 @@ module _ (P : Scope Var Term → Type 0) (settings : ProofSettings) (p : Standin
 
 -- a step that was read has its rule, and names what it sees
 pub read_has_rule : (settings : ProofSettings) (p : Standing) (id : List ℕ) (others : List Attribute) (clause : List Term) (s t : ProofState) (step : Step Term) → IsSymbolName (rule_word others)
-    → attributes_read settings p others (bare_step id (rule_word others) clause) s ≡ done step t → IsReadStep p id (rule_word others) step × HasRule step
+    → attributes_read settings p others (bare_step settings id (rule_word others) clause) s ≡ done step t → IsReadStep p id (rule_word others) step × HasRule step
 read_has_rule settings p id others clause s t step symbol e =
     let P : Scope Var Term → Type 0 = λ scope. ⊤ in
     let h : StepRead P p id (rule_word others) step t × AllByRecursion (IsKept P settings p id (rule_word others)) others =
     subst (Ends (λ step t. StepRead P p id (rule_word others) step t × AllByRecursion (IsKept P settings p id (rule_word others)) others)) e
-    (attributes_formed P settings p id (rule_word others) others s (bare_step id (rule_word others) clause) tt (bare_is p id (rule_word others) clause)) in
+    (attributes_formed P settings p id (rule_word others) others s (bare_step settings id (rule_word others) clause) tt (bare_is settings p id (rule_word others) clause)) in
     (h.0.1, has_rule p id (rule_word others) step h.0.1 (record { symbol = symbol; kept = word_kept P settings p id (rule_word others) others h.1 }))

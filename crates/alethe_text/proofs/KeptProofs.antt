@@ -141,7 +141,7 @@ module _ {settings : ProofSettings} {Good : Script → Type 0} {IsTerm : Nesting
       (λ p t k. let W : Scope Var Term → Type 0 = Belongs n.name p in
       and_next (λ ts u. AllByRecursion (IsFormula p.nesting) ts × Keeps Good W u) Sound (formulas_in settings p.nesting literals) _ t
       (formulas_read are W p.nesting literals t k)
-      (λ clause u l. let bare : Step Term = bare_step n.name (rule_word others) clause in
+      (λ clause u l. let bare : Step Term = bare_step settings n.name (rule_word others) clause in
       and_next (λ read v. (read.id ≡ n.name) × IsIn p.nesting read × Keeps Good W v) Sound (attributes_read settings p others bare) _ u
       (attributes_reads are W p n.name others u bare (refl, record { clause = l.0; pivots = tt }, l.1))
       (λ read v m. record {

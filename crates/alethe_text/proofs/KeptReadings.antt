@@ -18,7 +18,7 @@ use Rattle.problem_text.specs.Scripts.{Script}
 use Rattle.problem_text.specs.TypedTerms.{Typed}
 use Rattle.problem_text.specs.Words.{is_among}
 use Rattle.alethe_text.specs.Anchors.{argument_read, arguments_read}
-use Rattle.alethe_text.specs.Arguments.{takes_coefficients, takes_pivots, is_naming, named_in, named_among, truth_of, with_pivot, pivots_from, arguments_from}
+use Rattle.alethe_text.specs.Arguments.{takes_coefficients, takes_pivots, reads_index, index_given, is_naming, named_in, named_among, truth_of, with_pivot, pivots_from, arguments_from}
 use Rattle.alethe_text.specs.Coefficients.{coefficients_from}
 use Rattle.alethe_text.specs.Commands.{Argument, Attribute, rule, premises, arguments, discharge}
 use Rattle.alethe_text.specs.Ids.{Standing, id_judged, indices_of}
@@ -159,14 +159,17 @@ module _ {settings : ProofSettings} {Good : Script → Type 0} {IsTerm : Nesting
           go : (a b : Bool) → Ends StepReads
               ((if a then (given (coefficients_from items) >>= λ qs. give (record step { ratios = qs }))
               else if b then (pivots_from settings nesting items >>= λ pivots. give (record step { pivots = unwrap_or pivots [] }))
-              else (named_among settings nesting items >>= λ _. give step)) s)
+              else (named_among settings nesting items >>= λ _.
+              give (record step { index = if reads_index settings step.rule then index_given items else step.index }))) s)
           go true b =
               given_next (λ _. ⊤) StepReads (coefficients_from items) _ s (always (coefficients_from items))
               (λ qs _. (h.0, record { clause = h.1.clause; pivots = h.1.pivots }, h.2))
           go false true =
               and_next (λ ps u. IfSome ps ArePivots × Kept u) StepReads (pivots_from settings nesting items) _ s (pivots_read items s h.2)
               (λ ps u k. (h.0, record { clause = h.1.clause; pivots = chosen ps k.0 }, k.1))
-          go false false = and_next (λ _ u. Kept u) StepReads (named_among settings nesting items) _ s (all_read items s h.2) (λ _ u k. (h.0, h.1, k))
+          go false false =
+              and_next (λ _ u. Kept u) StepReads (named_among settings nesting items) _ s (all_read items s h.2)
+              (λ _ u k. (h.0, record { clause = h.1.clause; pivots = h.1.pivots }, k))
 
   module _ (at : Standing) (id : List ℕ) where
     abbrev Reads : Step Term → ProofState → Type 0

@@ -19,3 +19,4 @@ mod ShortLists
 mod OtherLimits
 pub mod PrintedCommands
 pub mod PrintedProofs
+mod ProfileIndices

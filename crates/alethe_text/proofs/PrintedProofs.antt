@@ -232,7 +232,7 @@ none_named sights (id ∷ ids) is h e = absurd (let f : true ≡ false = e in cc
 
 stepped : (settings : ProofSettings) (n : Name) (literals : Items) (attributes : List Attribute) (at : Standing) (clause : List Term)
     (y : Step Term) (s u w : ProofState) → standing_of n s ≡ done at s → formulas_in settings at.nesting literals s ≡ done clause u
-    → attributes_read settings at attributes (bare_step n.name (rule_word attributes) clause) u ≡ done y w
+    → attributes_read settings at attributes (bare_step settings n.name (rule_word attributes) clause) u ≡ done y w
     → step_read settings n literals attributes s ≡ done tt (step_taken y w)
 unfolding step_read ◌>>=◌
 stepped settings n literals attributes at clause y s u w stands read rest = rw (stands, read, rest) refl
@@ -249,7 +249,7 @@ module _ (settings : ProofSettings) (x : StepItems) (a : Written) (made : Step T
   w = record s { script = last }
 
   abbrev bare : Step Term
-  bare = bare_step x.id x.word_of_rule h.clause
+  bare = bare_step settings x.id x.word_of_rule h.clause
 
   abbrev with_premises : Step Term
   with_premises = record bare { premises = h.premises }
@@ -302,9 +302,9 @@ module _ (settings : ProofSettings) (x : StepItems) (a : Written) (made : Step T
       let stands : standing_of g.name s ≡ done h.at s =
       standing_is g.name s h.at (subst (λ name. StepStands name a.scope h.at) (sym g.named) h.stands) in
       let read = all_read g.rule_name g.premise_names g.arguments_place g.discharged_names g.rule_named g.premises_are g.discharged_are in
-      let begun : attributes_read settings h.at attributes (bare_step g.name.name g.rule_name.name h.clause) u ≡ done made w =
-      ap (λ name. attributes_read settings h.at attributes (bare_step name g.rule_name.name h.clause) u) g.named
-      ∙ ap (λ name. attributes_read settings h.at attributes (bare_step x.id name h.clause) u) g.rule_named ∙ read in
+      let begun : attributes_read settings h.at attributes (bare_step settings g.name.name g.rule_name.name h.clause) u ≡ done made w =
+      ap (λ name. attributes_read settings h.at attributes (bare_step settings name g.rule_name.name h.clause) u) g.named
+      ∙ ap (λ name. attributes_read settings h.at attributes (bare_step settings x.id name h.clause) u) g.rule_named ∙ read in
       performed_so settings (placed at (step_item x)) (step g.name literals attributes) s _ g.shape
       (stepped settings g.name literals attributes h.at h.clause made s u w stands
       (formulas_read settings h.at.nesting x.literals h.clause s a.script h.behind_clause h.literals g.place (32 ∷ [])) begun)

@@ -25,7 +25,7 @@ use Rattle.problem_text.specs.Limits.{is_low}
 use Rattle.problem_text.specs.Scripts.{Script}
 use Rattle.problem_text.specs.Words.{is_among, is_built_in}
 use Rattle.alethe_text.specs.Anchors.{bound_names, sort_given, image_of, argument_read, arguments_read, anchor_read}
-use Rattle.alethe_text.specs.Arguments.{takes_coefficients, takes_pivots, named_among, pivots_from, arguments_from}
+use Rattle.alethe_text.specs.Arguments.{takes_coefficients, takes_pivots, reads_index, index_given, named_among, pivots_from, arguments_from}
 use Rattle.alethe_text.specs.Coefficients.{coefficients_from}
 use Rattle.alethe_text.specs.Commands.{Attribute, rule, premises, arguments, discharge, Argument, variable_alone, assigned, Command, assume, step, anchor, names_in, attribute_of, attribute_with, attributes_of, assume_shape, step_shape, anchor_shape, is_symbol_of, command_named, command_of}
 use Rattle.problem_text.specs.Commands.{shaped}
@@ -236,12 +236,15 @@ module _ (P : Scope Var Term → Type 0) (settings : ProofSettings) where
         go : (a b : Bool) → Ends ShortRead
             ((if a then (given (coefficients_from items) >>= λ qs. give (record read { ratios = qs }))
             else if b then (pivots_from settings at.nesting items >>= λ pivots. give (record read { pivots = unwrap_or pivots [] }))
-            else (named_among settings at.nesting items >>= λ _. give read)) s)
+            else (named_among settings at.nesting items >>= λ _.
+            give (record read { index = if reads_index settings read.rule then index_given items else read.index }))) s)
         go true b = given_next (λ _. ⊤) ShortRead (coefficients_from items) _ s (always (coefficients_from items)) (λ qs _. (record { clause = short.clause; premises = short.premises }, h))
         go false true =
             and_next Stay ShortRead (pivots_from settings at.nesting items) _ s (pivots_stay P settings at.nesting items s h)
             (λ ps u k. (record { clause = short.clause; premises = short.premises }, k))
-        go false false = and_next Stay ShortRead (named_among settings at.nesting items) _ s (all_stay P settings at.nesting items s h) (λ _ u k. (short, k))
+        go false false =
+            and_next Stay ShortRead (named_among settings at.nesting items) _ s (all_stay P settings at.nesting items s h)
+            (λ _ u k. (record { clause = short.clause; premises = short.premises }, k))
 
     attribute_short : (a : Attribute) (s : ProofState) (read : Step Term) → IsFewAttribute n a → IsShortStep n read → P s.scope → Ends ShortRead (attribute_read settings at a read s)
     unfolding attribute_read
@@ -281,8 +284,8 @@ module _ (n : ℕ) where
   step_short settings name literals others s few h =
       and_next Short Short (standing_of name) _ s (standing_stays (IsShortScope n) settings name s h)
       (λ p t k. and_next (λ ts u. (length ts ≡ counted literals) × IsShortScope n u.scope) Short (formulas_in settings p.nesting literals) _ t (formulas_counted (IsShortScope n) settings p.nesting literals t k)
-      (λ clause u l. and_next (λ read v. IsShortStep n read × IsShortScope n v.scope) Short (attributes_read settings p others (bare_step name.name (rule_word others) clause)) _ u
-      (attributes_short (IsShortScope n) settings n p others u (bare_step name.name (rule_word others) clause) few.1 (record { clause = omega (arith, l.0, few.0); premises = omega arith }) l.1)
+      (λ clause u l. and_next (λ read v. IsShortStep n read × IsShortScope n v.scope) Short (attributes_read settings p others (bare_step settings name.name (rule_word others) clause)) _ u
+      (attributes_short (IsShortScope n) settings n p others u (bare_step settings name.name (rule_word others) clause) few.1 (record { clause = omega (arith, l.0, few.0); premises = omega arith }) l.1)
       (λ read v m. take_short v.scope read m.1 m.0)))
 
   command_short : (settings : ProofSettings) (c : Command) (s : ProofState) → IsFew n c → IsShortScope n s.scope → Ends Short (performed settings c s)

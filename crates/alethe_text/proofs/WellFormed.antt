@@ -33,8 +33,8 @@ step_formed settings n literals others s symbol named placed =
     and_next (λ p t. IsPlaced t.scope × StandsAs p n.name t.scope) Placed (standing_of n) _ s (standing_formed n s symbol placed)
     (λ p t h. let P : Scope Var Term → Type 0 = λ scope. IsPlaced scope × StandsAs p n.name scope in
     and_next (λ _ u. P u.scope) Placed (formulas_in settings p.nesting literals) _ t (formulas_stay P settings p.nesting literals t h)
-    (λ clause u k. and_next (λ step v. StepRead P p n.name (rule_word others) step v × AllByRecursion (IsKept P settings p n.name (rule_word others)) others) Placed (attributes_read settings p others (bare_step n.name (rule_word others) clause)) _ u
-    (attributes_formed P settings p n.name (rule_word others) others u (bare_step n.name (rule_word others) clause) k (bare_is p n.name (rule_word others) clause))
+    (λ clause u k. and_next (λ step v. StepRead P p n.name (rule_word others) step v × AllByRecursion (IsKept P settings p n.name (rule_word others)) others) Placed (attributes_read settings p others (bare_step settings n.name (rule_word others) clause)) _ u
+    (attributes_formed P settings p n.name (rule_word others) others u (bare_step settings n.name (rule_word others) clause) k (bare_is settings p n.name (rule_word others) clause))
     (λ read v l. step_placed v.scope p n.name (rule_word others) read l.0.0.0 l.0.0.1 l.0.1 (kept_word settings p n.name (rule_word others) P others named l.1))))
 
 command_formed : (settings : ProofSettings) (c : Command) (s : ProofState) → IsNamed c → IsPlaced s.scope → Ends Placed (performed settings c s)

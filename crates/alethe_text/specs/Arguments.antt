@@ -1,11 +1,15 @@
 -- Public. The arguments of a step (Alethe, "The Proof Format"). Those of la_generic are its coefficients; in a strict proof
--- those of resolution are its pivots; no others are judged, but for the terms that get a name in them.
-use Rattle.std.specs.Prelude.{Bool, true, false, ◌&&◌, if◌then◌else◌, List, [], ◌∷◌, codes, Option, Some, None, option_map, option_and_then, is_some}
+-- those of resolution are its pivots; no others are judged, but for the terms that get a name in them. In the second profile, which
+-- is this project's own, those of and, not_or, and_pos and or_neg give the index argument, and what is no index is no fault.
+use Rattle.std.specs.Prelude.{◌^◌, nat_lt, Bool, true, false, ◌&&◌, if◌then◌else◌, List, [], ◌∷◌, codes, Option, Some, None, option_map, option_and_then, is_some}
 use Rattle.std.specs.Prelude.{unwrap_or, ⊤}
-use Rattle.sexpr.specs.Items.{Item, list, Items, no_items, item, symbol_name}
+use Rattle.sexpr.specs.Items.{Item, word, list, Items, no_items, item, symbol_name}
+use Rattle.sexpr.specs.Words.{is_numeral, numeral_value}
 use Rattle.term_model.specs.Terms.{Var, Term}
+use Rattle.rule_model.specs.declared.index_arg.IndexArg.{IndexArg}
 use Rattle.rule_model.specs.declared.rules.Rule.{Rule}
 use Rattle.rule_model.specs.Proofs.{Step}
+use Rattle.rule_model.specs.RuleNames.{takes_index}
 use Rattle.rule_model.specs.Scopes.{Nesting}
 use Rattle.problem_text.specs.NamedItems.{is_named_item}
 use Rattle.alethe_text.specs.Commands.{is_symbol_of}
@@ -21,6 +25,16 @@ abbrev pub takes_pivots : Rule → Bool
 takes_pivots Rule.Resolution = true
 takes_pivots Rule.ThResolution = true
 takes_pivots _ = false
+
+-- the arguments of the rule are its index
+abbrev pub reads_index : ProofSettings → Rule → Bool
+reads_index settings rule = settings.is_profile_two && takes_index rule
+
+-- the index argument that arguments give: the place that one numeral of 32 bits names, counted from 0
+abbrev pub index_given : Items → IndexArg
+index_given (item (word place spelling) no_items) =
+    if is_numeral spelling && nat_lt (numeral_value spelling) (2 ^ 32) then IndexArg.At (numeral_value spelling) else IndexArg.Bad
+index_given _ = IndexArg.Bad
 
 -- the items are those of `(! t :named n)`
 abbrev pub is_naming : Items → Bool
@@ -61,4 +75,5 @@ arguments_from settings nesting items step =
     if takes_coefficients step.rule then (given (coefficients_from items) >>= λ qs. give (record step { ratios = qs }))
     else if settings.is_strict && takes_pivots step.rule
     then (pivots_from settings nesting items >>= λ pivots. give (record step { pivots = unwrap_or pivots [] }))
-    else (named_among settings nesting items >>= λ _. give step)
+    else (named_among settings nesting items >>= λ _.
+    give (record step { index = if reads_index settings step.rule then index_given items else step.index }))

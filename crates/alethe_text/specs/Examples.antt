@@ -3,6 +3,7 @@ use Rattle.std.specs.Prelude.{ℕ, true, false, List, [], Option, Some, None, Re
 use Rattle.sexpr.specs.declared.causes.Refusal.{Refusal}
 use Rattle.term_model.specs.Terms.{Var, Term}
 use Rattle.rule_model.specs.RuleNames.{rule_named}
+use Rattle.rule_model.specs.declared.index_arg.IndexArg.{IndexArg}
 use Rattle.rule_model.specs.declared.rules.Rule.{Rule}
 use Rattle.rule_model.specs.Proofs.{Step, ProofItems as Proof}
 use Rattle.problem_text.specs.Examples.{first_fault, items_in, script_in}
@@ -34,7 +35,7 @@ proof_read settings problem text = proof_from settings (items_in text) (unread (
 
 -- lets are kept, and the proof is not strict
 abbrev pub usual : ProofSettings
-usual = limited_proof false false
+usual = limited_proof false false false
 
 -- the first fault of the commands of a text, and the proof for which it stands
 unfoldable pub first_fault_behind : List ℕ → List ℕ → Option Refusal
@@ -47,7 +48,16 @@ proof_behind problem text = read_value (proof_read usual problem text).result
 
 unfoldable pub strict : List ℕ → List ℕ → Option (Proof Var Term)
 unfolding proof_read
-strict problem text = read_value (proof_read (limited_proof false true) problem text).result
+strict problem text = read_value (proof_read (limited_proof false true false) problem text).result
+
+-- the same in the second profile
+unfoldable pub indexed : List ℕ → List ℕ → Option (Proof Var Term)
+unfolding proof_read
+indexed problem text = read_value (proof_read (limited_proof false false true) problem text).result
+
+unfoldable pub first_fault_indexed : List ℕ → List ℕ → Option Refusal
+unfolding proof_read
+first_fault_indexed problem text = text_fault_of (proof_read (limited_proof false false true) problem text).result
 
 -- a step with an empty clause and nothing else
 abbrev pub plain_step : List ℕ → Rule → List ℕ → Step Term
@@ -60,4 +70,5 @@ plain_step id rule word = record {
   discharged = [];
   pivots = [];
   ratios = None;
+  index = IndexArg.Free;
 }

@@ -152,7 +152,7 @@ pub record IsStepRead (settings : ProofSettings) (x : StepItems) (a : Written) (
   pub premises : List ℕ
   pub seen : AllZip (IsSeenAs at.sees) x.premises premises
   pub argued : Step Term
-  pub arguments : ArgumentsLead settings at.nesting x.arguments (record (bare_step x.id x.word_of_rule clause) { premises = premises })
+  pub arguments : ArgumentsLead settings at.nesting x.arguments (record (bare_step settings x.id x.word_of_rule clause) { premises = premises })
       behind_clause argued u
   pub discharged : List ℕ
   pub nothing_yet : argued.discharged ≡ []

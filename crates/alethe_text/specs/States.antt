@@ -10,16 +10,23 @@ use Rattle.problem_text.specs.Outcomes as outcome
 use Rattle.problem_text.specs.Outcomes.{Outcome, and_then}
 use Rattle.problem_text.specs.Scripts.{Script}
 
--- Whether lets are replaced; the greatest height of a term and of an image, where heights are judged; and whether a proof in
--- which nothing is left to find is read: then the arguments of resolution are its pivots.
+-- Whether lets are replaced; the greatest height of a term and of an image, where heights are judged; whether a proof in which
+-- nothing is left to find is read: then the arguments of resolution are its pivots; and whether it is read in the second profile:
+-- then the arguments of the rules that speak of one argument are its index.
 pub record ProofSettings : Type 0 where
   pub replaces_lets : Bool
   pub limit : Option ℕ
   pub is_strict : Bool
+  pub is_profile_two : Bool
 
 -- how the program reads a proof: nothing is higher than the limit
-abbrev pub limited_proof : Bool → Bool → ProofSettings
-limited_proof replaces_lets is_strict = record { replaces_lets = replaces_lets; limit = Some most_height; is_strict = is_strict }
+abbrev pub limited_proof : Bool → Bool → Bool → ProofSettings
+limited_proof replaces_lets is_strict is_profile_two = record {
+  replaces_lets = replaces_lets;
+  limit = Some most_height;
+  is_strict = is_strict;
+  is_profile_two = is_profile_two;
+}
 
 -- What the problem and the proof up to here declare, name and read; the proof as far as it is written; and the places of the
 -- anchors that are open, the outermost first.

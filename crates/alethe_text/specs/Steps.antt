@@ -3,6 +3,8 @@ use Rattle.std.specs.Prelude.{ℕ, ◌-◌, not, if◌then◌else◌, List, [], 
 use Rattle.sexpr.specs.declared.causes.Cause.TheVariants.{LeftOut, BadAnchor}
 use Rattle.sexpr.specs.Items.{Item, Items}
 use Rattle.term_model.specs.Terms.{Term}
+use Rattle.rule_model.specs.declared.rules.Rule.{Rule}
+use Rattle.rule_model.specs.declared.index_arg.IndexArg.{IndexArg}
 use Rattle.rule_model.specs.Proofs.{Step}
 use Rattle.rule_model.specs.RuleNames.{rule_named, left_out_rules}
 use Rattle.rule_model.specs.Writing.{add_assume, is_open_id, take_step}
@@ -12,7 +14,7 @@ use Rattle.alethe_text.specs.Commands.{Attribute, rule, premises, arguments, dis
 use Rattle.alethe_text.specs.States.{ProofSettings, ProofState, Reading, ◌>>=◌, give, demand, seen_in, changed}
 use Rattle.alethe_text.specs.Ids.{Standing, id_judged, standing_of, indices_of}
 use Rattle.alethe_text.specs.ProofTerms.{formula_in, formulas_in}
-use Rattle.alethe_text.specs.Arguments.{takes_coefficients, arguments_from}
+use Rattle.alethe_text.specs.Arguments.{takes_coefficients, reads_index, arguments_from}
 
 -- the id, then the term
 unfoldable pub assume_read : ProofSettings → Name → Item → Reading ⊤
@@ -28,9 +30,13 @@ rule_word [] = []
 rule_word (rule n ∷ others) = n.name
 rule_word (_ ∷ others) = rule_word others
 
--- a step before its attributes are read
-abbrev pub bare_step : List ℕ → List ℕ → List Term → Step Term
-bare_step id word clause = record {
+-- the index argument before arguments are read
+abbrev pub unread_index : ProofSettings → Rule → IndexArg
+unread_index settings rule = if reads_index settings rule then IndexArg.Missing else IndexArg.Free
+
+-- A step before its attributes are read. Without arguments there are no coefficients, and an index that is to be read is missing.
+abbrev pub bare_step : ProofSettings → List ℕ → List ℕ → List Term → Step Term
+bare_step settings id word clause = record {
   id = id;
   rule = rule_named word;
   rule_name = word;
@@ -39,6 +45,7 @@ bare_step id word clause = record {
   discharged = [];
   pivots = [];
   ratios = if takes_coefficients (rule_named word) then Some [] else None;
+  index = unread_index settings (rule_named word);
 }
 
 -- Premises are visible commands. What is discharged are assumes that stand directly in the scope that the step closes.
@@ -71,5 +78,5 @@ unfoldable pub step_read : ProofSettings → Name → Items → List Attribute �
 step_read settings n literals attributes = do
   at ← standing_of n
   clause ← formulas_in settings at.nesting literals
-  step ← attributes_read settings at attributes (bare_step n.name (rule_word attributes) clause)
+  step ← attributes_read settings at attributes (bare_step settings n.name (rule_word attributes) clause)
   changed (step_taken step)

@@ -6,11 +6,12 @@ ghost use Rattle.sexpr.specs.declared.causes.Cause.TheVariants.{WideNumber, NoSt
 ghost use Rattle.term_model.specs.declared.symbols.Op.TheVariants as Op;
 ghost use Rattle.term_model.specs.declared.symbols.Sort.TheVariants as Sort;
 ghost use Rattle.term_model.specs.Terms.{numeral, call, operation, no_terms, not_of};
+ghost use Rattle.rule_model.specs.declared.index_arg.IndexArg.TheVariants as IndexArg;
 ghost use Rattle.rule_model.specs.declared.rules.Rule.TheVariants as Rule;
 ghost use Rattle.rule_model.specs.Proofs.{no_items, with_assume, with_step, with_subproof};
 ghost use Rattle.problem_text.specs.Examples.{fault, script_in};
 ghost use Rattle.alethe_text.specs.ProofTexts.{IsFirstProofFault};
-ghost use Rattle.alethe_text.specs.Examples.{usual, strict, first_fault_behind, proof_behind, plain_step};
+ghost use Rattle.alethe_text.specs.Examples.{usual, strict, first_fault_behind, proof_behind, indexed, first_fault_indexed, plain_step};
 
 /// A fault of form goes before all others: a list is open at the end.
 pub fn form_is_judged_first()
@@ -94,4 +95,30 @@ pub fn arguments_are_read_by_rules()
     ensures unjudged { proof_behind [] (codes "(step t (cl) :rule resolution :args (zz (! zz)))")
         ≡ Some (with_step no_items (plain_step (codes "t") Rule.Resolution (codes "resolution"))) }
     ensures in_arguments { first_fault_behind [] (codes "(step t (cl) :rule hole :args ((f (! true :named n))))(assume h n)") ≡ None }
+{}
+
+/// The index argument in the second profile: one numeral of 32 bits. What is no index is no fault, but a term that gets a name in it
+/// is read.
+pub fn indices_are_read_in_the_second_profile()
+    ensures place { indexed [] (codes "(step t (cl) :args (2) :rule and)")
+        ≡ Some (with_step no_items (record (plain_step (codes "t") Rule.And (codes "and")) { index = IndexArg.At 2 })) }
+    ensures missing { indexed [] (codes "(step t (cl) :rule not_or)")
+        ≡ Some (with_step no_items (record (plain_step (codes "t") Rule.NotOr (codes "not_or")) { index = IndexArg.Missing })) }
+    ensures last { indexed [] (codes "(step t (cl) :rule and_pos :args (4294967295))")
+        ≡ Some (with_step no_items (record (plain_step (codes "t") Rule.AndPos (codes "and_pos")) { index = IndexArg.At 4294967295 })) }
+    ensures wide { indexed [] (codes "(step t (cl) :rule and_pos :args (4294967296))")
+        ≡ Some (with_step no_items (record (plain_step (codes "t") Rule.AndPos (codes "and_pos")) { index = IndexArg.Bad })) }
+    ensures none { indexed [] (codes "(step t (cl) :rule or_neg :args ())")
+        ≡ Some (with_step no_items (record (plain_step (codes "t") Rule.OrNeg (codes "or_neg")) { index = IndexArg.Bad })) }
+    ensures two { indexed [] (codes "(step t (cl) :rule or_neg :args (0 1))")
+        ≡ Some (with_step no_items (record (plain_step (codes "t") Rule.OrNeg (codes "or_neg")) { index = IndexArg.Bad })) }
+    ensures in_a_list { indexed [] (codes "(step t (cl) :rule and :args ((0)))")
+        ≡ Some (with_step no_items (record (plain_step (codes "t") Rule.And (codes "and")) { index = IndexArg.Bad })) }
+    ensures no_numeral { indexed [] (codes "(step t (cl) :rule and :args (-1))")
+        ≡ Some (with_step no_items (record (plain_step (codes "t") Rule.And (codes "and")) { index = IndexArg.Bad })) }
+    ensures other_rule { indexed [] (codes "(step t (cl) :rule or :args (0))") ≡ Some (with_step no_items (plain_step (codes "t") Rule.Or (codes "or"))) }
+    ensures first_profile { proof_behind [] (codes "(step t (cl) :rule and :args (0))")
+        ≡ Some (with_step no_items (plain_step (codes "t") Rule.And (codes "and"))) }
+    ensures in_arguments { first_fault_indexed [] (codes "(step t (cl) :rule and :args ((! true :named n)))(assume h n)") ≡ None }
+    ensures fault_in_arguments { first_fault_indexed [] (codes "(step t (cl) :rule and :args ((! zz :named n)))") ≡ fault UnknownName 33 }
 {}

@@ -8,6 +8,7 @@ ghost use Rattle.sexpr.specs.Printed.{AreSpelledItems, printed_lines, IsSymbolIt
 ghost use Rattle.term_model.specs.Terms.{Var, Term};
 ghost use Rattle.rule_model.specs.Proofs.{Step, ProofItems};
 ghost use Rattle.rule_model.specs.Reading.{clause_at, premises_at};
+ghost use Rattle.rule_model.specs.Profiles.{HaveIndices};
 ghost use Rattle.rule_model.specs.WellFormed.{IsWellFormed};
 ghost use Rattle.problem_text.specs.Limits.{AreLow};
 ghost use Rattle.problem_text.specs.Scripts.{Script};
@@ -67,6 +68,13 @@ pub fn proofs_are_short()
 {
     tokens_are_spelled();
 }
+
+/// The index arguments of whatever proof a text stands for are those of the profile in which it is read: in the second, those of steps by
+/// and, not_or, and_pos and or_neg are missing, a place of 32 bits, or bad; all others are free.
+pub fn indices_are_those_of_the_profile()
+    ensures { (source : List ℕ) (settings : ProofSettings) (before : Script) (proof : ProofItems Var Term) (after : Script) →
+        StandsForProof source settings before proof after → HaveIndices settings.is_profile_two proof }
+{}
 
 /// A proof that is read with one limit of heights is read the same with another one, or with none, where no term that was read is
 /// higher than that. The images of the variables of anchors count as read.

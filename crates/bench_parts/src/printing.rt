@@ -200,5 +200,6 @@ fn flags() -> Flags {
         expand_lets: false,
         strict: true,
         ignore_unknown: false,
+        profile_two: false,
     }
 }

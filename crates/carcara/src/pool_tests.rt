@@ -23,6 +23,7 @@ const OPTIONS: Options = Options {
     replaces_lets: false,
     ignores_unknown_rules: false,
     is_strict: false,
+    is_profile_two: false,
 };
 
 // What the problem comes to with the empty proof, in pools of at most so many bits. None where it is out of memory.

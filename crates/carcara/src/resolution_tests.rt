@@ -40,6 +40,7 @@ const FLAGS: Flags = Flags {
     expand_lets: false,
     strict: false,
     ignore_unknown: false,
+    profile_two: false,
 };
 
 // What `propagate` returns for the command at an index of a proof's text behind a problem. None where it is out of memory,

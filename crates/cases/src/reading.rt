@@ -16,6 +16,7 @@ const FLAGS: Flags = Flags {
     expand_lets: false,
     strict: false,
     ignore_unknown: false,
+    profile_two: false,
 };
 
 const MOST_BYTES: usize = 268_435_456;

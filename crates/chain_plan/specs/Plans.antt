@@ -2,6 +2,7 @@
 use Rattle.std.specs.Prelude.{◌≡◌, ◌<◌, ◌⊎◌, ℕ, Bool, ⊤, false, List, [], ◌∷◌, ◌++◌, map, take, length, slice_get, slice_index_or, Some, None, All}
 use Rattle.std.specs.Option.{option_map_or}
 use Rattle.term_model.specs.Terms.{Var, Term}
+use Rattle.rule_model.specs.declared.index_arg.IndexArg.{IndexArg}
 use Rattle.rule_model.specs.declared.rules.Mode.{Mode}
 use Rattle.rule_model.specs.declared.rules.Rule.{Rule}
 use Rattle.rule_model.specs.Conditions.{Met}
@@ -36,6 +37,7 @@ judged terms given before s anchors = record {
   premises = map (λ source. terms_of terms (clause_of given before source)) s.premises;
   pivots = map (λ p. (terms p.0, p.1)) s.pivots;
   ratios = None;
+  index = IndexArg.Free;
   anchors = anchors;
 }
 

@@ -4,7 +4,8 @@ use Rattle.clap.specs.Walk.{Rule, Text}
 use Rattle.clap.specs.Simple.{Shape, built, is_simple, new_shape}
 use Rattle.clap.specs.Faults.{is_simple_and_free}
 use Rattle.clap.specs.declared.builder.value_parser.ValueParser.TheVariants as vp
-use Rattle.command_words.specs.Made.{made, made_proof, made_problem, made_expand, made_ignore, made_strict, made_workers}
+use Rattle.command_words.specs.Made.{made, made_proof, made_problem, made_expand, made_ignore, made_strict, made_workers, made_profile}
+use Rattle.command_words.specs.CommandLine.{Word, num_threads, num_threads_by, profile, profile_by}
 
 -- the arguments as they are built
 abbrev pub proof_rule : Rule
@@ -51,8 +52,36 @@ workers_rule = record made_workers {
   parser = Some vp.String;
 }
 
+abbrev pub profile_rule : Rule
+profile_rule = record made_profile {
+  range = Some (record { start_inclusive = 1; end_inclusive = 1 });
+  parser = Some vp.String;
+}
+
 abbrev pub rules : List Rule
-rules = proof_rule ∷ problem_rule ∷ expand_rule ∷ ignore_rule ∷ strict_rule ∷ workers_rule ∷ []
+rules = proof_rule ∷ problem_rule ∷ expand_rule ∷ ignore_rule ∷ strict_rule ∷ workers_rule ∷ profile_rule ∷ []
+
+-- the options with a value: the number of workers, and the profile
+pub data Valued : Type 0 where
+  of_workers : Valued
+  of_profile : Valued
+
+abbrev pub id_of : Valued → Text
+id_of of_workers = codes "workers"
+id_of of_profile = codes "profile"
+
+abbrev pub rule_by : Valued → Rule
+rule_by of_workers = workers_rule
+rule_by of_profile = profile_rule
+
+-- its word, and what stands before its value in the same word
+abbrev pub option_of : Valued → Word
+option_of of_workers = num_threads
+option_of of_profile = profile
+
+abbrev pub option_by : Valued → Word
+option_by of_workers = num_threads_by
+option_by of_profile = profile_by
 
 -- a command of this name as it is built
 abbrev pub shape_named : Text → Shape

@@ -6,8 +6,8 @@ use Rattle.clap.specs.Kinds.{Kinds, or_else}
 use Rattle.clap.specs.Walk.{Held, Row, Text, finished, has_row, settled, with_default}
 use Rattle.clap.specs.Faults.{check_fault, default_fault, defaults_fault, given_default_fault, settle_fault}
 use Rattle.clap.specs.declared.parser.matches.ValueSource.TheVariants.{CommandLine, DefaultValue}
-use Rattle.command_words.proofs.ClapApp.{rules, check_shape, expand_rule, ignore_rule, strict_rule, workers_rule, proof_rule, problem_rule}
-use Rattle.command_words.proofs.ClapRows.{Seen, one, two, nothing, AreRows, at_id, flag_row, found, has_row_is, kept, more_values_new, proof_in, problem_in, row_for}
+use Rattle.command_words.proofs.ClapApp.{rules, check_shape, expand_rule, ignore_rule, strict_rule, workers_rule, profile_rule, proof_rule, problem_rule}
+use Rattle.command_words.proofs.ClapRows.{Seen, Said, one, two, nothing, AreRows, at_id, flag_row, found, has_row_is, kept, more_values_new, proof_in, problem_in, row_for}
 use Rattle.command_words.proofs.ClapWords.{no_cons}
 
 -- ---- defaults
@@ -54,6 +54,13 @@ workers_default rows = by (has_row (codes "workers") rows)
     by true = refl
     by false = refl
 
+profile_default : (rows : List Row) → default_fault rows profile_rule ≡ []
+profile_default rows = by (has_row (codes "profile") rows)
+  where
+    by : (b : Bool) → (if b || true then [] else given_default_fault profile_rule []) ≡ []
+    by true = refl
+    by false = refl
+
 -- the rows with the defaults of the operands, of the first option, of the second one, and of the third
 abbrev with_operands : List Row → List Row
 with_operands rows = with_default (with_default rows proof_rule) problem_rule
@@ -77,6 +84,7 @@ defaults_pass rows =
       ignore_default (with_first rows),
       strict_default (with_second rows),
       workers_default (with_third rows),
+      profile_default (with_default (with_third rows) workers_rule),
     ) refl
 
 -- the row of an option, with what the words say or its default
@@ -85,13 +93,14 @@ flag_at_end id true = row_for CommandLine id (codes "true")
 flag_at_end id false = row_for DefaultValue id (codes "false")
 
 -- the rows at the end
-pub record AreDone (seen : Seen) (e i s : Bool) (n : Option Text) (rows : List Row) : Type 0 where
+pub record AreDone (seen : Seen) (e i s : Bool) (n : Said) (rows : List Row) : Type 0 where
   pub proof : at_id (codes "proof") rows ≡ option_map (row_for CommandLine (codes "proof")) (proof_in seen)
   pub problem : at_id (codes "problem") rows ≡ option_map (row_for CommandLine (codes "problem")) (problem_in seen)
   pub expand : at_id (codes "expand") rows ≡ Some (flag_at_end (codes "expand") e)
   pub ignore : at_id (codes "ignore") rows ≡ Some (flag_at_end (codes "ignore") i)
   pub strict : at_id (codes "strict") rows ≡ Some (flag_at_end (codes "strict") s)
-  pub number : at_id (codes "workers") rows ≡ option_map (row_for CommandLine (codes "workers")) n
+  pub number : at_id (codes "workers") rows ≡ option_map (row_for CommandLine (codes "workers")) n.number
+  pub profile : at_id (codes "profile") rows ≡ option_map (row_for CommandLine (codes "profile")) n.profile
 
 same_proof : (rows : List Row) → with_default rows proof_rule ≡ rows
 same_proof rows = by (has_row (codes "proof") rows)
@@ -109,6 +118,13 @@ same_problem rows = by (has_row (codes "problem") rows)
 
 same_workers : (rows : List Row) → with_default rows workers_rule ≡ rows
 same_workers rows = by (has_row (codes "workers") rows)
+  where
+    by : (b : Bool) → (if b then rows else rows) ≡ rows
+    by true = refl
+    by false = refl
+
+same_profile : (rows : List Row) → with_default rows profile_rule ≡ rows
+same_profile rows = by (has_row (codes "profile") rows)
   where
     by : (b : Bool) → (if b then rows else rows) ≡ rows
     by true = refl
@@ -162,17 +178,18 @@ module _ (e i s : Bool) (rows : List Row) where
       → at_id id (all_done e i s rows) ≡ at_id id rows
   past_all id no_expand no_ignore no_strict = past (codes "strict") id s (second_done e i rows) no_strict ∙ past_two id no_expand no_ignore
 
--- the rows with the defaults of the operands and of all options but the last
-abbrev but_workers : List Row → List Row
-but_workers rows = with_default (with_default (with_default rows expand_rule) ignore_rule) strict_rule
+-- the rows with the defaults of the operands and of all options without a value
+abbrev but_valued : List Row → List Row
+but_valued rows = with_default (with_default (with_default rows expand_rule) ignore_rule) strict_rule
 
-module _ (h : Held) (seen : Seen) (e i s : Bool) (n : Option Text) where
+module _ (h : Held) (seen : Seen) (e i s : Bool) (n : Said) where
   finished_is : AreRows seen e i s n (settled rules h).rows → finished rules h ≡ all_done e i s (settled rules h).rows
   finished_is are =
       let rows = (settled rules h).rows in
-      same_workers (but_workers (with_operands rows))
-      ∙ ap (λ r. but_workers (with_default r problem_rule)) (same_proof rows)
-      ∙ ap but_workers (same_problem rows)
+      same_profile (with_default (but_valued (with_operands rows)) workers_rule)
+      ∙ same_workers (but_valued (with_operands rows))
+      ∙ ap (λ r. but_valued (with_default r problem_rule)) (same_proof rows)
+      ∙ ap but_valued (same_problem rows)
       ∙ ap (λ r. with_default (with_default r ignore_rule) strict_rule) (default_expand rows e are.expand)
       ∙ ap (λ r. with_default r strict_rule) (default_ignore (first_done e rows) i (past (codes "expand") (codes "ignore") e rows refl ∙ are.ignore))
       ∙ default_strict (second_done e i rows) s (past_two e i s rows (codes "strict") refl refl ∙ are.strict)
@@ -190,6 +207,7 @@ module _ (h : Held) (seen : Seen) (e i s : Bool) (n : Option Text) where
             ∙ at_flag_end (codes "ignore") i (first_done e rows) refl (past (codes "expand") (codes "ignore") e rows refl ∙ are.ignore);
         strict = at_flag_end (codes "strict") s (second_done e i rows) refl (past_two e i s rows (codes "strict") refl refl ∙ are.strict);
         number = past_all e i s rows (codes "workers") refl refl refl ∙ are.number;
+        profile = past_all e i s rows (codes "profile") refl refl refl ∙ are.profile;
       })
 
 -- ---- the end
@@ -198,7 +216,7 @@ module _ (h : Held) (seen : Seen) (e i s : Bool) (n : Option Text) where
 abbrev pub closing : Held → Kinds
 closing h = or_else (settle_fault rules false h) (or_else (defaults_fault (settled rules h).rows rules) (check_fault check_shape (finished rules h) false))
 
-module _ (h : Held) (e i s : Bool) (n : Option Text) (settles : settle_fault rules false h ≡ []) where
+module _ (h : Held) (e i s : Bool) (n : Said) (settles : settle_fault rules false h ≡ []) where
   pub closes : (a b : Text) → AreRows (two a b) e i s n (settled rules h).rows → closing h ≡ []
   closes a b are =
       let at_end = done h (two a b) e i s n are in

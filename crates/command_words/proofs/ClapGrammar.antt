@@ -7,15 +7,15 @@ use Rattle.std.specs.List.{prefix_len}
 use Rattle.std.specs.Str.{bytes_eq}
 use Rattle.command_words.specs.CommandLine.{Word, are_known_once, wanted_with, be_strict, expand_lets, ignore_unknown, is_among, is_no_end}
 use Rattle.command_words.specs.CommandLine.{is_operand, num_threads, num_threads_by, number_in, operands_of, options_by, options_of, with_values, workers_by}
-use Rattle.command_words.specs.CommandLine.{workers_in}
-use Rattle.command_words.specs.Found.{workers_of}
+use Rattle.command_words.specs.CommandLine.{profile, profile_by, profile_by_options, profile_in, profile_of, workers_in}
+use Rattle.command_words.specs.Found.{profile_given, workers_of}
 use Rattle.command_words.specs.declared.request.Options.{Options}
 use Rattle.command_words.proofs.ClapWords.{same_bytes}
 
 -- ---- the options, where some of them stood before
 
 abbrev pub told : Bool → Bool → Bool → List Word → Option Options
-told e i s [] = Some (record { replaces_lets = e; ignores_unknown_rules = i; is_strict = s })
+told e i s [] = Some (record { replaces_lets = e; ignores_unknown_rules = i; is_strict = s; is_profile_two = false })
 told e i s (word ∷ words) =
     if bytes_eq word expand_lets then (if e then None else told true i s words)
     else (if bytes_eq word ignore_unknown then (if i then None else told e true s words)
@@ -32,6 +32,7 @@ joined e i s words = record {
   replaces_lets = e || is_among expand_lets words;
   ignores_unknown_rules = i || is_among ignore_unknown words;
   is_strict = s || is_among be_strict words;
+  is_profile_two = false;
 }
 
 abbrev told_if : Bool → Bool → Bool → List Word → Option Options
@@ -147,21 +148,58 @@ no_workers (Some number) next words h = refl
 no_workers None next [] h = no_number next h
 no_workers None next (word ∷ words) h = refl
 
+-- ---- the profile, where some profile stood before
+
+abbrev pub profile_after : Option Word → List Word → Option (Option Bool)
+profile_after second [] = profile_given second
+profile_after None (word ∷ words) = profile_after (Some (profile_in word)) words
+profile_after (Some second) (word ∷ words) = None
+
+pub profile_is_told : (words : List Word) → profile_after None words ≡ profile_by_options words
+profile_is_told [] = refl
+profile_is_told (word ∷ []) = refl
+profile_is_told (word ∷ other ∷ words) = refl
+
+-- an option is no profile
+pub no_profile : (word : Word) → is_operand word ≡ false → profile_of word ≡ None
+no_profile [] h = absurd (true≢false h)
+no_profile (b ∷ []) h = absurd (true≢false h)
+no_profile (b ∷ c ∷ word) h = go (nat_eq b 45) refl
+  where
+    go : (t : Bool) → nat_eq b 45 ≡ t → profile_of (b ∷ c ∷ word) ≡ None
+    go true e = rw (eqb-true b 45 e) refl
+    go false e = let is : true ≡ false = rw e at h in absurd (true≢false is)
+
+-- where an option stands for the profile, or a second one, no profile is told
+pub no_second : (second : Option Word) (next : Word) (words : List Word) → is_operand next ≡ false
+    → profile_after second ((profile_by ++ next) ∷ words) ≡ None
+no_second (Some second) next words h = refl
+no_second None next [] h = rw (no_profile next h) refl
+no_second None next (word ∷ words) h = refl
+
 -- ---- options and their values
 
 module _ (word : Word) (rest : List Word) (no_end : bytes_eq word (codes "--") ≡ false) where
-  pub one_word : bytes_eq word num_threads ≡ false → with_values (word ∷ rest) ≡ word ∷ with_values rest
-  one_word no_threads = rw (no_end, no_threads) refl
+  pub one_word : bytes_eq word num_threads ≡ false → bytes_eq word profile ≡ false → with_values (word ∷ rest) ≡ word ∷ with_values rest
+  one_word no_threads no_profile = rw (no_end, no_threads, no_profile) refl
 
-pub asks_nothing : (operands : List Word) (workers : Option ℕ) → wanted_with operands None workers ≡ None
-asks_nothing [] w = refl
-asks_nothing (a ∷ []) w = refl
-asks_nothing (a ∷ b ∷ []) w = refl
-asks_nothing (a ∷ b ∷ c ∷ operands) w = refl
+pub asks_nothing : (operands : List Word) (workers : Option ℕ) (second : Option (Option Bool)) → wanted_with operands None workers second ≡ None
+asks_nothing [] w q = refl
+asks_nothing (a ∷ []) w q = refl
+asks_nothing (a ∷ b ∷ []) w q = refl
+asks_nothing (a ∷ b ∷ c ∷ operands) w q = refl
 
-pub asks_no_workers : (operands : List Word) (options : Option Options) → wanted_with operands options None ≡ None
-asks_no_workers [] o = refl
-asks_no_workers (a ∷ []) o = refl
-asks_no_workers (a ∷ b ∷ []) None = refl
-asks_no_workers (a ∷ b ∷ []) (Some o) = refl
-asks_no_workers (a ∷ b ∷ c ∷ operands) o = refl
+pub asks_no_workers : (operands : List Word) (options : Option Options) (second : Option (Option Bool)) → wanted_with operands options None second ≡ None
+asks_no_workers [] o q = refl
+asks_no_workers (a ∷ []) o q = refl
+asks_no_workers (a ∷ b ∷ []) None q = refl
+asks_no_workers (a ∷ b ∷ []) (Some o) q = refl
+asks_no_workers (a ∷ b ∷ c ∷ operands) o q = refl
+
+pub asks_no_profile : (operands : List Word) (options : Option Options) (workers : Option ℕ) → wanted_with operands options workers None ≡ None
+asks_no_profile [] o w = refl
+asks_no_profile (a ∷ []) o w = refl
+asks_no_profile (a ∷ b ∷ []) None w = refl
+asks_no_profile (a ∷ b ∷ []) (Some o) None = refl
+asks_no_profile (a ∷ b ∷ []) (Some o) (Some k) = refl
+asks_no_profile (a ∷ b ∷ c ∷ operands) o w = refl

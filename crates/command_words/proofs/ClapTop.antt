@@ -13,17 +13,17 @@ use Rattle.clap.specs.Faults.{fault_of, level_fault, turn_fault, walk_fault, def
 use Rattle.clap.proofs.FaultLemmas.{stopped_fault}
 use Rattle.command_words.specs.declared.request.Command.{Command}
 use Rattle.command_words.specs.declared.request.Command.TheVariants.{Check, Elaborate, Core, Prune}
-use Rattle.command_words.specs.CommandLine.{Asked, Wanted, asked_as, asked_for, asked_of, has_options, wanted_by, gives_number, is_flag, options_of, with_values}
+use Rattle.command_words.specs.CommandLine.{Asked, Wanted, asked_as, asked_for, asked_of, has_options, wanted_by, gives_number, gives_profile, is_flag, options_of, with_values}
 use Rattle.command_words.specs.Made.{made}
 use Rattle.command_words.specs.Found.{Given, IsGivenBy, IsReadFrom, name_of, wanted_from, flag_text}
 use Rattle.command_words.proofs.ClapApp.{check_shape, rules, shape_named, top_shape}
-use Rattle.command_words.proofs.ClapRows.{nothing, at_id, no_rows, row_for}
-use Rattle.command_words.proofs.ClapWords.{IsFlag, IsPlain, Word, ends, expands, first_faults, ignores, is_strict, no_cons, numbers, plain, same_bytes, strange, waits}
+use Rattle.command_words.proofs.ClapRows.{nothing, at_id, no_rows, row_for, unsaid}
+use Rattle.command_words.proofs.ClapWords.{IsFlag, IsPlain, Word, ends, expands, first_faults, gives, ignores, is_strict, no_cons, plain, same_bytes, strange, waits}
 use Rattle.command_words.proofs.ClapWords.{word_is}
 use Rattle.command_words.proofs.ClapWalk.{or_first}
 use Rattle.command_words.proofs.ClapEnd.{flag_at_end}
-use Rattle.command_words.proofs.ClapGrammar.{options_are_told, workers_are_told}
-use Rattle.command_words.proofs.ClapLost.{AllUtf8}
+use Rattle.command_words.proofs.ClapGrammar.{options_are_told, profile_is_told, workers_are_told}
+use Rattle.command_words.proofs.ClapLost.{AllUtf8, by_flag, flag_alone}
 use Rattle.command_words.proofs.ClapReach.{Answers, IsAskedBy, ReadsAs, reaches}
 
 abbrev names : Names
@@ -117,8 +117,8 @@ no_name word rest other u (plain is) bad = first_fails word rest (plain_word wor
 no_name word rest other u (expands is) bad = first_fails word rest (other_word word other u (rw is (record { operand = refl; no_end = refl }))) bad
 no_name word rest other u (ignores is) bad = first_fails word rest (other_word word other u (rw is (record { operand = refl; no_end = refl }))) bad
 no_name word rest other u (is_strict is) bad = first_fails word rest (other_word word other u (rw is (record { operand = refl; no_end = refl }))) bad
-no_name word rest other u (numbers v is) bad = first_fails word rest (other_word word other u (rw is (record { operand = refl; no_end = refl }))) bad
-no_name word rest other u (waits is) bad = first_fails word rest (other_word word other u (rw is (record { operand = refl; no_end = refl }))) bad
+no_name word rest other u (gives v x is) bad = first_fails word rest (other_word word other u (rw is (by_flag v x))) bad
+no_name word rest other u (waits v is) bad = first_fails word rest (other_word word other u (rw is (flag_alone v))) bad
 no_name word rest other u (strange f none) bad = first_fails word rest (other_word word other u f) bad
 
 no_words : fault_of made [] ≡ [] → ⊥
@@ -168,8 +168,12 @@ module _ (c : Command) (words : List Text) where
 -- what the words behind a command are taken for
 pub answers : (words : List Text) → AllUtf8 words → Answers (wanted_by (with_values words)) (walk_from nothing_held) words
 answers words u =
-    rw (options_are_told (filter is_flag (options_of (with_values words))), workers_are_told (filter gives_number (options_of (with_values words)))) at
-    (reaches words u nothing false false false false None [] None (record { settles = refl; are = no_rows }))
+    rw (
+      options_are_told (filter is_flag (options_of (with_values words))),
+      workers_are_told (filter gives_number (options_of (with_values words))),
+      profile_is_told (filter gives_profile (options_of (with_values words))),
+    ) at
+    (reaches words u nothing false false false false unsaid [] None (record { settles = refl; are = no_rows }))
 
 named : (c : Command) (words : List Text) → AllUtf8 words → Outcome (asked_for c (wanted_by (with_values words))) (name_of c ∷ words)
 named c words u = behind c words _ (answers words u)
@@ -215,10 +219,9 @@ flag_read : (id : Text) (b : Bool) (rows : List Row) → at_id id rows ≡ Some 
 flag_read id true rows h = rw h refl
 flag_read id false rows h = rw h refl
 
-number_read : (n : Option Text) (rows : List Row) → at_id (codes "workers") rows ≡ option_map (row_for CommandLine (codes "workers")) n
-    → first_of (codes "workers") rows ≡ n
-number_read None rows h = rw h refl
-number_read (Some v) rows h = rw h refl
+value_read : (id : Text) (n : Option Text) (rows : List Row) → at_id id rows ≡ option_map (row_for CommandLine id) n → first_of id rows ≡ n
+value_read id None rows h = rw h refl
+value_read id (Some v) rows h = rw h refl
 
 -- the rows say what is given
 pub given_by : (g : Given) (rows : List Row) → ReadsAs g rows → IsGivenBy g rows
@@ -228,7 +231,8 @@ given_by g rows h = record {
   expand = flag_read (codes "expand") g.options.replaces_lets rows h.expand;
   ignore = flag_read (codes "ignore") g.options.ignores_unknown_rules rows h.ignore;
   strict = flag_read (codes "strict") g.options.is_strict rows h.strict;
-  number = number_read g.number rows h.number;
+  number = value_read (codes "workers") g.number rows h.number;
+  profile = value_read (codes "profile") g.profile rows h.profile;
 }
 
 read_from : (asked : Option Asked) (words : List Text) → (h : IsRead asked words) → IsReadFrom h.command h.reads.given (subcommand_of made words)

@@ -7,8 +7,9 @@ use Rattle.clap.specs.Kinds.{Kinds, or_else}
 use Rattle.clap.specs.Walk.{Held, Row, Text, Waiting, Walk, idle, option, settled_rows, value, walked, word_met, is_pending, used}
 use Rattle.clap.specs.Faults.{repeat_fault, settle_fault, turn_fault, word_fault}
 use Rattle.clap.specs.declared.parser.matches.ValueSource.TheVariants.{CommandLine}
-use Rattle.command_words.specs.CommandLine.{be_strict, expand_lets, ignore_unknown, num_threads, num_threads_by}
-use Rattle.command_words.proofs.ClapApp.{rules, check_shape, expand_rule, ignore_rule, strict_rule, workers_rule, proof_rule, problem_rule}
+use Rattle.command_words.specs.CommandLine.{be_strict, expand_lets, ignore_unknown}
+use Rattle.command_words.proofs.ClapApp.{Valued, of_workers, of_profile, id_of, option_by, option_of, rule_by, rules, check_shape, expand_rule, ignore_rule}
+use Rattle.command_words.proofs.ClapApp.{strict_rule, proof_rule, problem_rule}
 use Rattle.command_words.proofs.ClapRows.{has_row_is, at_id, row_for}
 use Rattle.command_words.proofs.ClapWords.{IsPlain, IsFlag, IsNoOption, no_cons, strange_faults}
 
@@ -28,9 +29,9 @@ at_with waiting rows pending position is_trailing = record {
 abbrev pub at : List Row → Option (Text × List Text) → ℕ → Bool → Walk
 at = at_with idle
 
--- behind `--num-threads`, whose value is the next word
-abbrev pub waits_at : List Row → ℕ → Walk
-waits_at rows position = at_with (option (codes "workers")) rows (Some (codes "workers", [])) position false
+-- behind an option whose value is the next word
+abbrev pub waits_at : Valued → List Row → ℕ → Walk
+waits_at v rows position = at_with (option (id_of v)) rows (Some (id_of v, [])) position false
 
 -- a word that is a value: any behind `--`, and before it one that is no option
 abbrev pub IsValue : Bool → Text → Type 0
@@ -79,14 +80,16 @@ proof_settles a rows none = rw (range_fits (codes "proof") rows none) refl
 pub problem_settles : (a : Text) (rows : List Row) → at_id (codes "problem") rows ≡ None → settle_fault rules false (held rows (Some (codes "problem", a ∷ []))) ≡ []
 problem_settles a rows none = rw (range_fits (codes "problem") rows none) refl
 
-pub workers_settles : (a : Text) (rows : List Row) → at_id (codes "workers") rows ≡ None
-    → settle_fault rules false (held rows (Some (codes "workers", a ∷ []))) ≡ []
-workers_settles a rows none = rw (range_fits (codes "workers") rows none) refl
+pub value_settles : (v : Valued) (a : Text) (rows : List Row) → at_id (id_of v) rows ≡ None
+    → settle_fault rules false (held rows (Some (id_of v, a ∷ []))) ≡ []
+value_settles of_workers a rows none = rw (range_fits (codes "workers") rows none) refl
+value_settles of_profile a rows none = rw (range_fits (codes "profile") rows none) refl
 
 -- a second value is refused as it is used
-pub settles_no_more : (before a : Text) (rows : List Row) → at_id (codes "workers") rows ≡ Some (row_for CommandLine (codes "workers") before)
-    → settle_fault rules false (held rows (Some (codes "workers", a ∷ []))) ≡ [] → ⊥
-settles_no_more before a rows there bad = no_cons _ _ (rw (has_row_is (codes "workers") rows, there) at bad)
+pub settles_no_more : (v : Valued) (before a : Text) (rows : List Row) → at_id (id_of v) rows ≡ Some (row_for CommandLine (id_of v) before)
+    → settle_fault rules false (held rows (Some (id_of v, a ∷ []))) ≡ [] → ⊥
+settles_no_more of_workers before a rows there bad = no_cons _ _ (rw (has_row_is (codes "workers") rows, there) at bad)
+settles_no_more of_profile before a rows there bad = no_cons _ _ (rw (has_row_is (codes "profile") rows, there) at bad)
 
 -- ---- options
 
@@ -114,21 +117,25 @@ module _ (rows : List Row) (p : Option (Text × List Text)) (k : ℕ) where
   unfolding walked
   at_strict = refl
 
-  pub at_workers : (v : Text)
-      → walked rules [] (at rows p k false) (num_threads_by ++ v) ≡ at (used workers_rule (v ∷ []) (settled_rows rules p rows)) None k false
+  pub at_value : (v : Valued) (x : Text)
+      → walked rules [] (at rows p k false) (option_by v ++ x) ≡ at (used (rule_by v) (x ∷ []) (settled_rows rules p rows)) None k false
   unfolding walked
-  at_workers v = refl
+  at_value of_workers x = refl
+  at_value of_profile x = refl
 
-  pub to_wait : walked rules [] (at rows p k false) num_threads ≡ waits_at (settled_rows rules p rows) k
+  pub to_wait : (v : Valued) → walked rules [] (at rows p k false) (option_of v) ≡ waits_at v (settled_rows rules p rows) k
   unfolding walked
-  to_wait = refl
+  to_wait of_workers = refl
+  to_wait of_profile = refl
 
-  pub wait_turn : settle_fault rules false (held rows p) ≡ [] → turn_fault check_shape [] (at rows p k false) num_threads ≡ []
-  wait_turn settles = rw settles refl
+  pub wait_turn : (v : Valued) → settle_fault rules false (held rows p) ≡ [] → turn_fault check_shape [] (at rows p k false) (option_of v) ≡ []
+  wait_turn of_workers settles = rw settles refl
+  wait_turn of_profile settles = rw settles refl
 
-  pub workers_turn : (v : Text) → settle_fault rules false (held rows p) ≡ [] → at_id (codes "workers") (settled_rows rules p rows) ≡ None
-      → turn_fault check_shape [] (at rows p k false) (num_threads_by ++ v) ≡ []
-  workers_turn v settles none = rw (settles, range_fits (codes "workers") (settled_rows rules p rows) none) refl
+  pub value_turn : (v : Valued) (x : Text) → settle_fault rules false (held rows p) ≡ [] → at_id (id_of v) (settled_rows rules p rows) ≡ None
+      → turn_fault check_shape [] (at rows p k false) (option_by v ++ x) ≡ []
+  value_turn of_workers x settles none = rw (settles, range_fits (codes "workers") (settled_rows rules p rows) none) refl
+  value_turn of_profile x settles none = rw (settles, range_fits (codes "profile") (settled_rows rules p rows) none) refl
 
   pub expand_turn : settle_fault rules false (held rows p) ≡ [] → at_id (codes "expand") (settled_rows rules p rows) ≡ None → turn_fault check_shape [] (at rows p k false) expand_lets ≡ []
   expand_turn settles none = rw (settles, range_fits (codes "expand") (settled_rows rules p rows) none) refl
@@ -151,19 +158,22 @@ module _ (rows : List Row) (p : Option (Text × List Text)) (k : ℕ) where
       → turn_fault check_shape [] (at rows p k false) be_strict ≡ [] → ⊥
   strict_again settles r there bad = no_cons _ _ (rw (settles, has_row_is (codes "strict") (settled_rows rules p rows), there) at bad)
 
-  pub workers_again : (v : Text) → settle_fault rules false (held rows p) ≡ [] → (r : Row) → at_id (codes "workers") (settled_rows rules p rows) ≡ Some r
-      → turn_fault check_shape [] (at rows p k false) (num_threads_by ++ v) ≡ [] → ⊥
-  workers_again v settles r there bad = no_cons _ _ (rw (settles, has_row_is (codes "workers") (settled_rows rules p rows), there) at bad)
+  pub value_again : (v : Valued) (x : Text) → settle_fault rules false (held rows p) ≡ [] → (r : Row)
+      → at_id (id_of v) (settled_rows rules p rows) ≡ Some r → turn_fault check_shape [] (at rows p k false) (option_by v ++ x) ≡ [] → ⊥
+  value_again of_workers x settles r there bad = no_cons _ _ (rw (settles, has_row_is (codes "workers") (settled_rows rules p rows), there) at bad)
+  value_again of_profile x settles r there bad = no_cons _ _ (rw (settles, has_row_is (codes "profile") (settled_rows rules p rows), there) at bad)
 
   pub strange_turn : (word : Text) → IsUtf8 word → IsFlag word → IsNoOption word → turn_fault check_shape [] (at rows p k false) word ≡ [] → ⊥
   strange_turn word u f none bad = strange_faults word (held rows p) refl u f none (or_first _ _ (rw f.no_end at bad))
 
--- ---- the value of `--num-threads`
+-- ---- the value of an option
 
 module _ (rows : List Row) (k : ℕ) (word : Text) (is : IsPlain word) where
-  pub to_number : walked rules [] (waits_at rows k) word ≡ at rows (Some (codes "workers", word ∷ [])) k false
+  pub to_value : (v : Valued) → walked rules [] (waits_at v rows k) word ≡ at rows (Some (id_of v, word ∷ [])) k false
   unfolding walked
-  to_number = rw (is.no_end, is.long, is.short) refl
+  to_value of_workers = rw (is.no_end, is.long, is.short) refl
+  to_value of_profile = rw (is.no_end, is.long, is.short) refl
 
-  pub number_turn : turn_fault check_shape [] (waits_at rows k) word ≡ []
-  number_turn = rw (is.no_end, is.long, is.short) refl
+  pub taken_turn : (v : Valued) → turn_fault check_shape [] (waits_at v rows k) word ≡ []
+  taken_turn of_workers = rw (is.no_end, is.long, is.short) refl
+  taken_turn of_profile = rw (is.no_end, is.long, is.short) refl

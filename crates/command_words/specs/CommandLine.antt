@@ -24,12 +24,13 @@ pub data Task : Type 0 where
   over : Asked → Task
   generate : ℕ → ℕ → Task
 
--- what the words behind a command say
+-- what the words behind a command say, and whether the profile is the second, where they say that
 pub record Wanted : Type 0 where
   pub proof : List ℕ
   pub problem : List ℕ
   pub options : Options
   pub workers : ℕ
+  pub profile : Option Bool
 
 -- a word, as its bytes
 abbrev pub Word : Type 0
@@ -62,29 +63,43 @@ operands_of words = filter is_operand (before_end words) ++ behind_end words
 abbrev pub options_of : List Word → List Word
 options_of words = filter is_option (before_end words)
 
--- `--num-threads` takes the next word, whatever that is, as if it stood behind `=` in its own.
+-- `--num-threads` takes the next word, whatever that is, as if it stood behind `=` in its own, and so does `--profile`.
 abbrev pub num_threads : Word
 num_threads = codes "--num-threads"
 
 abbrev pub num_threads_by : Word
 num_threads_by = codes "--num-threads="
 
+abbrev pub profile : Word
+profile = codes "--profile"
+
+abbrev pub profile_by : Word
+profile_by = codes "--profile="
+
 abbrev mutual
   pub with_values : List Word → List Word
   with_values [] = []
   with_values (word ∷ words) =
-      if bytes_eq word (codes "--") then word ∷ words else (if bytes_eq word num_threads then with_value words else word ∷ with_values words)
+      if bytes_eq word (codes "--") then word ∷ words
+      else (if bytes_eq word num_threads then with_value num_threads num_threads_by words
+      else (if bytes_eq word profile then with_value profile profile_by words else word ∷ with_values words))
 
-  pub with_value : List Word → List Word
-  with_value [] = num_threads ∷ []
-  with_value (number ∷ words) = (num_threads_by ++ number) ∷ with_values words
+  pub with_value : Word → Word → List Word → List Word
+  with_value option by [] = option ∷ []
+  with_value option by (value ∷ words) = (by ++ value) ∷ with_values words
 
 abbrev pub gives_number : Word → Bool
 gives_number word = bytes_eq (take (length num_threads_by) word) num_threads_by
 
+abbrev pub gives_profile : Word → Bool
+gives_profile word = bytes_eq (take (length profile_by) word) profile_by
+
 -- what stands behind `=`
 abbrev pub number_in : Word → Word
 number_in word = drop (length num_threads_by) word
+
+abbrev pub profile_in : Word → Word
+profile_in word = drop (length profile_by) word
 
 -- A number is decimal digits without sign or leading zero.
 abbrev pub is_number : Word → Bool
@@ -112,9 +127,19 @@ workers_by [] = Some 1
 workers_by (word ∷ []) = workers_in (number_in word)
 workers_by (word ∷ other ∷ words) = None
 
--- an option that gives no number
+-- the profile that a word spells, `1` or `2`: whether it is the second
+abbrev pub profile_of : Word → Option Bool
+profile_of word = if bytes_eq word (codes "1") then Some false else (if bytes_eq word (codes "2") then Some true else None)
+
+-- the profile for which the options ask, where one of them says it; it is said once at most
+abbrev pub profile_by_options : List Word → Option (Option Bool)
+profile_by_options [] = Some None
+profile_by_options (word ∷ []) = option_map Some (profile_of (profile_in word))
+profile_by_options (word ∷ other ∷ words) = None
+
+-- an option that gives neither a number nor a profile
 abbrev pub is_flag : Word → Bool
-is_flag word = not (gives_number word)
+is_flag word = not (gives_number word) && not (gives_profile word)
 
 -- those that a check has: that lets are replaced, that steps by unknown rules are holes, and that conditions are strict
 abbrev pub expand_lets : Word
@@ -145,18 +170,24 @@ options_by words =
       replaces_lets = is_among expand_lets words;
       ignores_unknown_rules = is_among ignore_unknown words;
       is_strict = is_among be_strict words;
+      is_profile_two = false;
     })
     else None
 
 -- the operands are the proof and the problem, in this order
-abbrev pub wanted_with : List Word → Option Options → Option ℕ → Option Wanted
-wanted_with (proof ∷ problem ∷ []) (Some options) (Some workers) =
-    Some (record { proof = proof; problem = problem; options = options; workers = workers })
-wanted_with _ _ _ = None
+abbrev pub wanted_with : List Word → Option Options → Option ℕ → Option (Option Bool) → Option Wanted
+wanted_with (proof ∷ problem ∷ []) (Some options) (Some workers) (Some profile) =
+    Some (record { proof = proof; problem = problem; options = options; workers = workers; profile = profile })
+wanted_with _ _ _ _ = None
+
+-- behind these operands, by these options
+abbrev pub wanted_by_options : List Word → List Word → Option Wanted
+wanted_by_options operands options =
+    wanted_with operands (options_by (filter is_flag options)) (workers_by (filter gives_number options))
+    (profile_by_options (filter gives_profile options))
 
 abbrev pub wanted_by : List Word → Option Wanted
-wanted_by words =
-    wanted_with (operands_of words) (options_by (filter is_flag (options_of words))) (workers_by (filter gives_number (options_of words)))
+wanted_by words = wanted_by_options (operands_of words) (options_of words)
 
 -- `check` alone has `--strict`: with it the words spell no other command
 abbrev pub has_options : Command → Options → Bool
@@ -165,8 +196,19 @@ has_options Elaborate options = not options.is_strict
 has_options Core options = not options.is_strict
 has_options Prune options = not options.is_strict
 
+-- where no profile is said it is the first
+abbrev pub is_second : Option Bool → Bool
+is_second None = false
+is_second (Some b) = b
+
 abbrev pub asked_as : Command → Wanted → Asked
-asked_as command w = record { command = command; proof = w.proof; problem = w.problem; options = w.options; workers = w.workers }
+asked_as command w = record {
+  command = command;
+  proof = w.proof;
+  problem = w.problem;
+  options = record w.options { is_profile_two = is_second w.profile };
+  workers = w.workers;
+}
 
 abbrev pub asked_for : Command → Option Wanted → Option Asked
 asked_for command None = None
@@ -189,12 +231,16 @@ asked_of [] = None
 asked_of (word ∷ words) = asked_behind (command_named word) words
 
 -- `generate` has one operand, the number of links, and no option but the number of workers
-abbrev pub generate_with : List Word → List Word → Option ℕ → Option Task
-generate_with (count ∷ []) [] (Some workers) = option_map (λ links. generate links workers) (links_in count)
-generate_with _ _ _ = None
+abbrev pub generate_with : List Word → List Word → Option ℕ → Option (Option Bool) → Option Task
+generate_with (count ∷ []) [] (Some workers) (Some None) = option_map (λ links. generate links workers) (links_in count)
+generate_with _ _ _ _ = None
+
+abbrev pub generate_by_options : List Word → List Word → Option Task
+generate_by_options operands options =
+    generate_with operands (filter is_flag options) (workers_by (filter gives_number options)) (profile_by_options (filter gives_profile options))
 
 abbrev pub generate_by : List Word → Option Task
-generate_by words = generate_with (operands_of words) (filter is_flag (options_of words)) (workers_by (filter gives_number (options_of words)))
+generate_by words = generate_by_options (operands_of words) (options_of words)
 
 -- the first word is `generate`, or a command
 abbrev pub task_of : List Word → Option Task

@@ -1,4 +1,4 @@
--- Private. The command line as it is made for `clap`: four subcommands, each with two operands and four options.
+-- Private. The command line as it is made for `clap`: four subcommands, each with two operands and five options.
 use Rattle.std.specs.Prelude.{◌≡◌, Some, false, true, codes}
 use Rattle.clap.specs.Walk.{Rule, Text}
 use Rattle.clap.specs.Simple.{App, app_of, new_rule, new_shape, new_app, with_rule, with_subcommand}
@@ -33,6 +33,9 @@ made_strict = made_flag (codes "strict") (codes "strict")
 abbrev pub made_workers : Rule
 made_workers = made_valued (codes "workers") (codes "num-threads")
 
+abbrev pub made_profile : Rule
+made_profile = made_valued (codes "profile") (codes "profile")
+
 -- a command with its operands, and with the options without a value
 abbrev pub made_operands : Text → App
 made_operands name = with_rule (with_rule (new_app name) made_proof) made_problem
@@ -41,7 +44,7 @@ abbrev pub made_flags : Text → App
 made_flags name = with_rule (with_rule (with_rule (made_operands name) made_expand) made_ignore) made_strict
 
 abbrev pub made_command : Text → App
-made_command name = with_rule (made_flags name) made_workers
+made_command name = with_rule (with_rule (made_flags name) made_workers) made_profile
 
 pub record IsMadeCommand (name : Text) (c : Command) : Type 0 where
   pub shape : app_of c ≡ made_command name

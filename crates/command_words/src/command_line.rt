@@ -3,10 +3,10 @@ ghost use Rattle.std.specs.Prelude.{◌≡◌, ◌≢◌, ◌≤◌, ◌^◌, tr
 ghost use Rattle.clap.specs.Matches.{found_of};
 ghost use Rattle.clap.specs.Simple.{app_of, subcommand_rows_of};
 ghost use Rattle.clap.specs.Walk.{rows_of, rule_of};
-ghost use Rattle.command_words.specs.CommandLine.{asked_for, asked_of, has_options, number_up_to, task_of};
+ghost use Rattle.command_words.specs.CommandLine.{asked_for, asked_of, has_options, is_second, number_up_to, profile_of, task_of};
 ghost use Rattle.command_words.specs.Requests.{told_generation, told_of, told_task_of, IsNumberOfWorkers, MayBeDone, MayGenerate};
 ghost use Rattle.command_words.specs.Made.{made, made_alone, made_flag, made_operand, made_valued, IsMadeCommand};
-ghost use Rattle.command_words.specs.Found.{begins_generate, generate_of, has_none, name_of, wanted_from, workers_of, Given, IsGivenBy, IsReadFrom};
+ghost use Rattle.command_words.specs.Found.{begins_generate, generate_of, has_none, name_of, profile_given, wanted_from, workers_of, Given, IsGivenBy, IsReadFrom};
 ghost use Rattle.command_words.specs.declared.request.Command.{Command as Asked};
 
 use crate::request::{self, Generation, Options, Request, Task};
@@ -38,7 +38,7 @@ fn valued<'a>(alloc: Global, id: &'a str, name: &'a str) -> Arg<'a>
     Arg::new(alloc, id).long(name).action(ArgAction::Set)
 }
 
-/// A command of this name, with two operands and four options.
+/// A command of this name, with two operands and five options.
 fn command<'a>(alloc: Global, name: &'a str) -> Result<Command<'a>, AllocError>
     ensures { IfOk result (IsMadeCommand name.now) }
 {
@@ -48,7 +48,8 @@ fn command<'a>(alloc: Global, name: &'a str) -> Result<Command<'a>, AllocError>
         .arg(flag(alloc, "expand", "expand-let-bindings"))?
         .arg(flag(alloc, "ignore", "ignore-unknown-rules"))?
         .arg(flag(alloc, "strict", "strict"))?
-        .arg(valued(alloc, "workers", "num-threads"))
+        .arg(valued(alloc, "workers", "num-threads"))?
+        .arg(valued(alloc, "profile", "profile"))
 }
 
 /// The command line: four subcommands, and no help. All take `--strict` here, and all but `check` are refused with it afterwards.
@@ -121,6 +122,40 @@ fn workers_of(number: Option<&str>) -> Option<u32>
     }
 }
 
+/// Whether the profile that a text spells, `1` or `2`, is the second.
+fn profile_of(text: &str) -> Option<bool>
+    ensures { result ≡ profile_of text.now }
+{
+    match text {
+        "1" => Some(false),
+        "2" => Some(true),
+        _ => None,
+    }
+}
+
+/// Whether the profile is the second, by the value of its option, and where that stands.
+fn profile_given(value: Option<&str>) -> Option<Option<bool>>
+    ensures { result ≡ profile_given (option_map (λ text. text.now) value.entry) }
+{
+    match value {
+        None => Some(None),
+        Some(text) => {
+            let is_second = profile_of(text)?;
+            Some(Some(is_second))
+        }
+    }
+}
+
+/// Where no profile is said it is the first.
+fn is_second(profile: Option<bool>) -> bool
+    ensures { result ≡ is_second profile }
+{
+    match profile {
+        None => false,
+        Some(is_second) => is_second,
+    }
+}
+
 /// What the matches of a command line ask for.
 fn request_of<'a>(matches: &ArgMatches<'a>) -> Option<Request<'a>>
     ensures told { (c : Asked) (g : Given) → IsReadFrom c g (subcommand_rows_of matches.now) → told_of result ≡ asked_for c (wanted_from g) }
@@ -139,10 +174,14 @@ fn request_of<'a>(matches: &ArgMatches<'a>) -> Option<Request<'a>>
     let Some(workers) = workers_of(found.get_str("workers")) else {
         return None;
     };
+    let Some(profile) = profile_given(found.get_str("profile")) else {
+        return None;
+    };
     let options = Options {
         replaces_lets: found.get_flag("expand"),
         ignores_unknown_rules: found.get_flag("ignore"),
         is_strict: found.get_flag("strict"),
+        is_profile_two: is_second(profile),
     };
     let command = command_named(name);
     if !has_options(command, options) {
@@ -169,10 +208,10 @@ fn refused<'a>(kind: ErrorKind) -> Result<Option<Request<'a>>, AllocError>
 
 /// What the words of a command line ask for, where they spell a command (POSIX.1-2017, Base
 /// Definitions, "Utility Syntax Guidelines"): `check`, `elaborate`, `core` or `prune` with PROOF PROBLEM, and in any place
-/// behind the first word the options `--expand-let-bindings`, `--ignore-unknown-rules`, `--strict` (of `check` alone) and `--num-threads N`, each once at
-/// most. A `--` ends the options.
+/// behind the first word the options `--expand-let-bindings`, `--ignore-unknown-rules`, `--strict` (of `check` alone), `--num-threads N` and
+/// `--profile P`, each once at most. A `--` ends the options.
 /// N, 1 to 64, is the next word, or stands behind `=` in the same one: decimal digits without sign or leading zero. Where it is not
-/// said, one worker is asked for.
+/// said, one worker is asked for. P, `1` or `2`, stands so too, and where it is not said the profile is the first.
 ///
 /// `words` are those of the command line without the program's name. An error means out of memory.
 pub fn asked_of<'a>(alloc: Global, words: &'a [String]) -> Result<Option<Request<'a>>, AllocError>
@@ -221,8 +260,12 @@ fn generation_of(matches: &ArgMatches<'_>) -> Option<Generation>
         replaces_lets: matches.get_flag("expand"),
         ignores_unknown_rules: matches.get_flag("ignore"),
         is_strict: matches.get_flag("strict"),
+        is_profile_two: false,
     };
     if !has_none(options) {
+        return None;
+    }
+    if matches.get_str("profile").is_some() {
         return None;
     }
     let Some(links) = number_up_to(50_000, count) else {

@@ -22,6 +22,8 @@ pub struct Options {
     pub ignores_unknown_rules: bool,
     /// Whether each step is judged by the strict condition of its rule.
     pub is_strict: bool,
+    /// Whether the proof is read in the second profile, in which four rules have an index argument.
+    pub is_profile_two: bool,
 }
 
 /// A command over the proof at one path and the problem at another, by 1 to 64 workers.

@@ -16,6 +16,7 @@ use Rattle.term_pool.specs.Views.{TermsView, IsTerm, RefersTo, ReferToAll}
 use Rattle.term_pool.proofs.References.{AreOne}
 use Rattle.proof_store.specs.AddedSteps.{AddedStep}
 use Rattle.proof_store.specs.Meaning.{IsPivotOf}
+use Rattle.rule_model.specs.declared.index_arg.IndexArg.{IndexArg}
 use Rattle.rule_model.specs.declared.rules.Mode.{Mode}
 use Rattle.rule_model.specs.declared.rules.Rule.{Rule}
 use Rattle.rule_model.specs.Conditions.{Met}
@@ -90,24 +91,20 @@ pivots_unique s v one (r ∷ rs) ((t, a) ∷ ts) ((u, b) ∷ us) h k =
     ap (λ x. (x, a) ∷ ts) same ∙ (ap (λ x. (u, x) ∷ ts) sign ∙ ap (λ xs. (u, b) ∷ xs) (pivots_unique s v one rs ts us h.1 k.1))
 
 -- a step that is the same in all but its open anchors is met as it
-met_same : (j : Judged) (m : Mode) (r : Rule) (c : List Term) (ps : List (List Term)) (qs : List (Term × Bool)) (f : Option (List Fraction))
-    → j.mode ≡ m → j.rule ≡ r → j.clause ≡ c → j.premises ≡ ps → j.pivots ≡ qs → j.ratios ≡ f
-    → Met (record { mode = m; rule = r; clause = c; premises = ps; pivots = qs; ratios = f; anchors = j.anchors }) → Met j
-met_same j m r c ps qs f em er ec ep eq ef met =
-    subst (λ x. Met (record {
-      mode = j.mode;
-      rule = j.rule;
-      clause = j.clause;
-      premises = j.premises;
-      pivots = j.pivots;
-      ratios = x;
+met_same : (j : Judged) (m : Mode) (r : Rule) (c : List Term) (ps : List (List Term)) (qs : List (Term × Bool)) (f : Option (List Fraction)) (k : IndexArg)
+    → j.mode ≡ m → j.rule ≡ r → j.clause ≡ c → j.premises ≡ ps → j.pivots ≡ qs → j.ratios ≡ f → j.index ≡ k
+    → Met (record { mode = m; rule = r; clause = c; premises = ps; pivots = qs; ratios = f; index = k; anchors = j.anchors }) → Met j
+met_same j m r c ps qs f k em er ec ep eq ef ek met =
+    subst Met (λ i. record {
+      mode = sym em i;
+      rule = sym er i;
+      clause = sym ec i;
+      premises = sym ep i;
+      pivots = sym eq i;
+      ratios = sym ef i;
+      index = sym ek i;
       anchors = j.anchors;
-    })) (sym ef)
-    (subst (λ x. Met (record { mode = j.mode; rule = j.rule; clause = j.clause; premises = j.premises; pivots = x; ratios = f; anchors = j.anchors })) (sym eq)
-    (subst (λ x. Met (record { mode = j.mode; rule = j.rule; clause = j.clause; premises = x; pivots = qs; ratios = f; anchors = j.anchors })) (sym ep)
-    (subst (λ x. Met (record { mode = j.mode; rule = j.rule; clause = x; premises = ps; pivots = qs; ratios = f; anchors = j.anchors })) (sym ec)
-    (subst (λ x. Met (record { mode = j.mode; rule = x; clause = c; premises = ps; pivots = qs; ratios = f; anchors = j.anchors })) (sym er)
-    (subst (λ x. Met (record { mode = x; rule = r; clause = c; premises = ps; pivots = qs; ratios = f; anchors = j.anchors })) (sym em) met)))))
+    }) met
 
 -- the terms of numbers, and their references
 module _ (s : Table) (v : TermsView) (refs : List ℕ) (terms : List Term) (truth : ℕ) (refer : ReferToAll s v refs terms)
@@ -208,12 +205,12 @@ module _ (s : Table) (v : TermsView) (refs : List ℕ) (terms : List Term) (trut
       pivots = all_of_pivots (λ q. IsTerm s v q.0) (λ q. record { means = T q.0; refers = number_refers q.0 }) p.pivots;
       met = λ j stands.
           met_same j Mode.Strict p.rule (terms_of T p.clause) (map (λ source. terms_of T (clause_of given before source)) p.premises)
-          (map (λ (q : ℕ × Bool). (T q.0, q.1)) p.pivots) None stands.mode stands.rule
+          (map (λ (q : ℕ × Bool). (T q.0, q.1)) p.pivots) None IndexArg.Free stands.mode stands.rule
           (refer_unique s v one (A p).clause j.clause (terms_of T p.clause) stands.clause (items_refer p.clause))
           (clauses_unique s v one (map (linked_clause proof (map A before)) (A p).premises) j.premises
           (map (λ source. terms_of T (clause_of given before source)) p.premises) stands.premises (sources_refer before p.premises met.sources))
           (pivots_unique s v one (A p).pivots j.pivots (map (λ (q : ℕ × Bool). (T q.0, q.1)) p.pivots) stands.pivots (pivots_refer p.pivots))
-          stands.ratios (met.met j.anchors);
+          stands.ratios stands.index (met.met j.anchors);
     }
 
     planned_at : (steps : List PlannedStep) (k : ℕ) (a : AddedStep) → slice_get (map A steps) k ≡ Some a

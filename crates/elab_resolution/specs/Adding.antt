@@ -9,6 +9,7 @@ use Rattle.proof_store.specs.AddedSteps.{AddedStep}
 use Rattle.proof_store.specs.Meaning.{IsPivotOf}
 use Rattle.proof_store.specs.declared.added.Link.{Link}
 use Rattle.chain_plan.specs.Plans.{IsBridgeRule}
+use Rattle.rule_model.specs.declared.index_arg.IndexArg.{IndexArg}
 use Rattle.rule_model.specs.declared.rules.Mode.{Mode}
 use Rattle.rule_model.specs.declared.rules.Rule.{Rule}
 use Rattle.rule_model.specs.Conditions.{IsClauseOfTruths, Met}
@@ -37,6 +38,7 @@ pub record StandsForAdded (s : Table) (v : TermsView) (proof : ProofItems ℕ �
   pub premises : AllZip (ReferToAll s v) (map (linked_clause proof before) a.premises) j.premises
   pub pivots : AllZip (IsPivotOf s v) a.pivots j.pivots
   pub ratios : j.ratios ≡ None
+  pub index : j.index ≡ IndexArg.Free
 
 -- A step that is added for command i behind others: it is a resolution, or one by the rule true, false, not_not or weakening
 -- without pivots; what it rests on is a premise of the command or stands before it; its literals are terms of Bool; and it meets

@@ -51,7 +51,7 @@ pub record IsElaboratedText (problem : List ℕ) (options : Options) (proof : Li
   pub plan : Plan
   pub names : AreFreeNames checked.script elaboration plan
   pub printed : bytes ≡ proof_text plan checked.script elaboration
-  pub read_back : HasNamesApart checked.after → IsReadAs bytes checked.script elaboration
+  pub read_back : HasNamesApart checked.after → IsReadAs options.is_profile_two bytes checked.script elaboration
 
 -- The two texts as they were read, over references in some table of symbols and some pool, with the statuses that the commands have in
 -- strict mode.

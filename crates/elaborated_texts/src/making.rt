@@ -197,5 +197,6 @@ fn strictly(flags: Flags) -> Flags
         expand_lets: flags.expand_lets,
         strict: true,
         ignore_unknown: flags.ignore_unknown,
+        profile_two: flags.profile_two,
     }
 }

@@ -67,7 +67,7 @@ module _ (proof : ProofItems Var Term) (formed : IsWellFormed proof) (i : ℕ) (
 module _ (s : Table) (v : TermsView) (known : IsOneToOne v.pass) (one_term : (a : Tree) (t u : Term) → StandsFor s a t → StandsFor s a u → t ≡ u) (c : Checking)
     (refs : ProofItems ℕ ℕ) (proof : ProofItems Var Term) (stand : StandForItems s v refs proof)
     (formed : IsWellFormed proof) (i : ℕ) (less : i < commands_in proof) (block : List AddedStep) where
-  pub kept_fits : (strict : List Status) → IsKept strict i block → IsFittingBlock s v c refs proof i block
+  pub kept_fits : (strict : List Status) → IsKept refs strict i block → IsFittingBlock s v c refs proof i block
   kept_fits strict h = record {
     literals = λ sorted number a at below j stands. absurd (nothing_there number a (subst (λ b. slice_get b number ≡ Some a) h.none at));
     low = λ h2 assertions low number a at ts ps clause pivots. absurd (nothing_there number a (subst (λ b. slice_get b number ≡ Some a) h.none at));

@@ -5,6 +5,7 @@ mod Rules
 mod Sites
 mod Relinked
 mod BlockLemmas
+mod KeptIndices
 mod StrictSteps
 mod Roots
 mod ClosedRoots
@@ -19,3 +20,4 @@ mod OverMade
 mod OverBlocks
 mod OverSteps
 mod Asking
+mod IndexedSteps

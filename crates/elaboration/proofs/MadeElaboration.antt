@@ -8,7 +8,9 @@ use Rattle.term_pool.proofs.OneTerm.{one_term}
 use Rattle.term_reader.specs.declared.flags.Flags.{Flags}
 use Rattle.proof_store.specs.AddedSteps.{AddedStep}
 use Rattle.proof_store.specs.Meaning.{IsMeant, StandForItems}
+use Rattle.rule_model.specs.declared.index_arg.IndexArg.{IndexArg}
 use Rattle.rule_model.specs.declared.statuses.Status.{Status}
+use Rattle.step_check.specs.Indices.{AreIndicesTo}
 use Rattle.rule_model.specs.Elaboration.{IsElaboration}
 use Rattle.rule_model.specs.Proofs.{ProofItems}
 use Rattle.rule_model.specs.Scopes.{commands_in}
@@ -35,24 +37,24 @@ use Rattle.elaboration.proofs.OverNear.{NegationsAreOver}
 use Rattle.elaboration.proofs.OverBlocks.{OverLaws, relinked_over}
 use Rattle.elaboration.proofs.OverSteps.{over_terms}
 use Rattle.elaboration.proofs.Relinked.{Replace}
-use Rattle.elaboration.proofs.Whole.{StandForOne, blocks_are, can_replace, fitting_blocks, is_elaborated, over_blocks, strict_blocks, too_long}
+use Rattle.elaboration.proofs.Whole.{StandForOne, blocks_are, can_replace, fitting_blocks, is_elaborated, over_blocks, strict_blocks, loosely_at, too_long}
 
 -- the laws of `elaboration_laws`
 abbrev pub AreMeant : Type 0
 AreMeant =
-    (s : Table) (v : TermsView) (c : Checking) (refs new : ProofItems ℕ ℕ) (proof : ProofItems Var Term) (blocks : List (List AddedStep))
-    → StandForItems s v refs proof → AreBlocksOf refs blocks → IsAssembled refs blocks new → AreStrictBlocks s v c refs proof blocks → IsMeant s v new
+    (s : Table) (v : TermsView) (c : Checking) (refs new : ProofItems ℕ ℕ) (proof : ProofItems Var Term) (given : List IndexArg) (blocks : List (List AddedStep))
+    → StandForItems s v refs proof → AreBlocksOf refs blocks → IsAssembled refs given blocks new → AreStrictBlocks s v c refs proof given blocks → IsMeant s v new
 
 abbrev pub AreFormed : Type 0
 AreFormed =
-    (s : Table) (v : TermsView) (refs new : ProofItems ℕ ℕ) (terms : ProofItems Var Term) (blocks : List (List AddedStep))
-    → IsTable s → IsAssembled refs blocks new → StandForItems s v new terms → IsWellFormed terms
+    (s : Table) (v : TermsView) (refs new : ProofItems ℕ ℕ) (terms : ProofItems Var Term) (given : List IndexArg) (blocks : List (List AddedStep))
+    → IsTable s → IsAssembled refs given blocks new → StandForItems s v new terms → IsWellFormed terms
 
 abbrev pub AreElaborations : Type 0
 AreElaborations =
-    (s : Table) (v : TermsView) (c : Checking) (refs new : ProofItems ℕ ℕ) (proof terms : ProofItems Var Term) (blocks : List (List AddedStep))
-    → IsTable s → IsOneToOne v.pass → StandForItems s v refs proof → AreBlocksOf refs blocks → IsAssembled refs blocks new → StandForItems s v new terms
-    → AreStrictBlocks s v c refs proof blocks → AreFittingBlocks s v c refs proof blocks → IsElaboration c proof terms
+    (s : Table) (v : TermsView) (c : Checking) (refs new : ProofItems ℕ ℕ) (proof terms : ProofItems Var Term) (given : List IndexArg) (blocks : List (List AddedStep))
+    → IsTable s → IsOneToOne v.pass → StandForItems s v refs proof → AreBlocksOf refs blocks → IsAssembled refs given blocks new → StandForItems s v new terms
+    → AreStrictBlocks s v c refs proof given blocks → AreFittingBlocks s v c refs proof blocks → IsElaboration c proof terms
 
 pub assembly_too_long : (stop : AssembleStop) → stop_of_assembly stop ≡ ElabStop.TooMany → stop ≡ AssembleStop.TooMany
 assembly_too_long AssembleStop.TooMany e = refl
@@ -85,26 +87,27 @@ module _ (s : Table) (v : TermsView) (flags : Flags) (asserted : List ℕ) (refs
     refer : ReferToAll s w asserted can.asserted.assertions
     refer = refer_later s v w (more_of v w keeps) asserted can.asserted.assertions can.asserted.refer
 
-    made_strict : AreStrictBlocks s w c refs can.proof blocks
-    made_strict =
+    made_strict : (given : List IndexArg) → AreIndicesTo s w refs (commands_in refs) given → AreStrictBlocks s w c refs can.proof given blocks
+    made_strict given indices =
         strict_blocks replace one s table w known asserted refs strict later blocks made c refer
-        (are can.proof can.asserted.assertions can.stand can.asserted.refer)
+        (are can.proof can.asserted.assertions can.stand can.asserted.refer) (loosely_at s v flags asserted refs strict can check passes) given indices
 
-    pub made_elaboration : NearAreLow → AreMeant → AreFormed → AreElaborations → (new : ProofItems ℕ ℕ) → IsAssembled refs blocks new
+    pub made_elaboration : NearAreLow → AreMeant → AreFormed → AreElaborations → (given : List IndexArg) → AreIndicesTo s w refs (commands_in refs) given
+        → (new : ProofItems ℕ ℕ) → IsAssembled refs given blocks new
         → IsElaborated flags s w asserted refs new
-    made_elaboration low meant well elaborates new is =
+    made_elaboration low meant well elaborates given indices new is =
         is_elaborated one s table w known flags asserted refs new can.proof later.stand can.asserted.assertions refer
-        (meant s w c refs new can.proof blocks later.stand made_blocks is made_strict)
+        (meant s w c refs new can.proof given blocks later.stand made_blocks is (made_strict given indices))
         (λ elaboration stand. (
-          elaborates s w c refs new can.proof elaboration blocks table known later.stand made_blocks is stand made_strict
+          elaborates s w c refs new can.proof elaboration given blocks table known later.stand made_blocks is stand (made_strict given indices)
               (fitting_blocks replace one s table w known asserted refs strict later blocks made low c refer),
-          well s w refs new elaboration blocks table is stand,
+          well s w refs new elaboration given blocks table is stand,
         ))
 
-    pub made_over : NegationsAreOver → OverLaws → (new : ProofItems ℕ ℕ) → IsAssembled refs blocks new → StaysOver s w refs new
-    made_over law laws new is names proof elaboration old_stand new_stand is_over =
+    pub made_over : NegationsAreOver → OverLaws → (given : List IndexArg) (new : ProofItems ℕ ℕ) → IsAssembled refs given blocks new → StaysOver s w refs new
+    made_over law laws given new is names proof elaboration old_stand new_stand is_over =
         let same = one s w refs proof can.proof table known old_stand later.stand in
         let over = subst (IsProofOver names) same is_over in
-        over_terms s w known (one_term s table) refs new can.proof elaboration blocks later.stand made_blocks is new_stand names over
+        over_terms s w known (one_term s table) refs new can.proof elaboration given blocks later.stand made_blocks is new_stand names over
         (over_blocks replace one s table w known asserted refs strict later blocks made law names over
         (λ i block less h. relinked_over laws law one replace s table w known asserted refs strict can.proof later.stand names over i block less h))

@@ -12,7 +12,7 @@ use Rattle.proof_store.specs.AddedSteps.{AddedStep}
 use Rattle.proof_store.specs.Meaning.{StandForItems}
 use Rattle.rule_model.specs.declared.statuses.Status.{Status}
 use Rattle.rule_model.specs.Proofs.{ProofItems}
-use Rattle.rule_model.specs.Reading.{clause_at}
+use Rattle.rule_model.specs.Reading.{clause_at, index_arg_at}
 use Rattle.rule_model.specs.Scopes.{commands_in}
 use Rattle.rule_model.specs.Statuses.{Passes}
 use Rattle.elab_resolution.specs.Adding.{AreAddedFor, AreNear, EndsInClause, ResolvesAt, nots_at_step, roots_at}
@@ -23,6 +23,7 @@ use Rattle.elaboration_laws.proofs.Reading.{clause_stands}
 use Rattle.elaboration.specs.Elaborated.{IsNotStrict, IsPlacedFor, IsReplaced}
 use Rattle.elaboration.specs.Replaced.{CanBeReplaced, IsKeptOrReplaced, IsReplacement}
 use Rattle.elaboration.proofs.Growing.{stand_later}
+use Rattle.elaboration.proofs.KeptIndices.{missing_or}
 use Rattle.elaboration.proofs.TermSteps.{term_step}
 use Rattle.elaboration.proofs.Whole.{StandForOne, resolves_there}
 
@@ -40,13 +41,16 @@ not_both b f t = no (sym f ∙ t)
 
 module _ (s : Table) (v : TermsView) (asserted : List ℕ) (refs : ProofItems ℕ ℕ) (strict : List Status) (can : CanBeReplaced s v asserted refs strict)
     (i : ℕ) where
-  pub is_kept : i < commands_in refs → (¬ IsNotStrict strict i) → (block : List AddedStep) → block ≡ [] → IsKeptOrReplaced s v asserted refs strict i block
+  pub is_kept : i < commands_in refs → (¬ IsNotStrict refs strict i) → (block : List AddedStep) → block ≡ [] → IsKeptOrReplaced s v asserted refs strict i block
   is_kept less strictly block none =
       let count = can.count in
       let found = nth_there strict i (omega arith) in
       elim (passes_or found.0) [
-        | inl passes ↦ inl (record { none = none; status = found.0; is = found.1; passes = passes })
-        | inr fails ↦ absurd (strictly (record { status = found.0; is = found.1; fails = fails }))
+        | inl passes ↦ inl (record { none = none; status = found.0; is = found.1; passes = inl passes })
+        | inr fails ↦ elim (missing_or (index_arg_at refs i)) [
+          | inl missing ↦ inl (record { none = none; status = found.0; is = found.1; passes = inr missing })
+          | inr there ↦ absurd (strictly (record { status = found.0; is = found.1; fails = fails; there = there }))
+        ]
       ]
 
   pub resolves_of : StandForOne → IsTable s → IsOneToOne v.pass → IsReplaced refs strict i → (of : ProofItems Var Term) → StandForItems s v refs of

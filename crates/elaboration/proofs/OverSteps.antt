@@ -12,7 +12,9 @@ use Rattle.term_pool.specs.Views.{TermsView, ReferToAll}
 use Rattle.proof_store.specs.AddedSteps.{AddedStep}
 use Rattle.proof_store.specs.Meaning.{IsPivotOf, StandForItems}
 use Rattle.proof_store.proofs.MeaningLemmas.{commands_same}
+use Rattle.rule_model.specs.declared.index_arg.IndexArg.{IndexArg}
 use Rattle.rule_model.specs.declared.rules.Mode.{Mode}
+use Rattle.rule_model.specs.LeastIndices.{with_index}
 use Rattle.rule_model.specs.Judged.{Judged, anchors_at, judged_at}
 use Rattle.rule_model.specs.Proofs.{ProofItems}
 use Rattle.rule_model.specs.Reading.{clause_at, pivots_at, closes_at}
@@ -21,11 +23,11 @@ use Rattle.readable_proofs.specs.Names.{Vocabulary}
 use Rattle.readable_proofs.specs.ProofsOver.{IsTermIn, IsPivotIn, IsProofOver}
 use Rattle.elaborator.specs.Assembled.{IsAssembled}
 use Rattle.elaborator.specs.Blocks.{AreBlocksOf}
-use Rattle.elaborator.specs.Sources.{Looked, looked_at, looked_of, own_anchors, HasSource, from_proof, from_block, from_last}
+use Rattle.elaborator.specs.Sources.{Looked, index_for, looked_at, looked_of, looked_with, own_anchors, HasSource, from_proof, from_block, from_last}
 use Rattle.elaboration_laws.specs.StrictBlocks.{AnchorsStand, StandsForJudged}
 use Rattle.elaboration_laws.proofs.Anchors.{own_list, own_stand}
 use Rattle.elaboration_laws.proofs.Ones.{one_anchors, one_judged}
-use Rattle.elaboration_laws.proofs.Reading.{closes_same, clause_stands, pivots_stand, anchors_stand, judged_stands}
+use Rattle.elaboration_laws.proofs.Reading.{closes_same, clause_stands, pivots_stand, anchors_stand, judged_stands, judged_stands_with}
 use Rattle.elaboration.proofs.OverLines.{IsOverAt, over_at, proof_over, same_over}
 
 -- the terms of the steps of a block may stand in this scope
@@ -41,8 +43,8 @@ AreBlocksOver s w v proof is_over blocks =
     IsBlockOver s w v (over_at v proof i less is_over).nesting block
 
 module _ (s : Table) (w : TermsView) (known : IsOneToOne w.pass) (one_term : (a : Tree) (t u : Term) → StandsFor s a t → StandsFor s a u → t ≡ u)
-    (refs new : ProofItems ℕ ℕ) (proof terms : ProofItems Var Term) (blocks : List (List AddedStep)) (old_stand : StandForItems s w refs proof)
-    (blocks_are : AreBlocksOf refs blocks) (is : IsAssembled refs blocks new) (new_stand : StandForItems s w new terms)
+    (refs new : ProofItems ℕ ℕ) (proof terms : ProofItems Var Term) (given : List IndexArg) (blocks : List (List AddedStep)) (old_stand : StandForItems s w refs proof)
+    (blocks_are : AreBlocksOf refs blocks) (is : IsAssembled refs given blocks new) (new_stand : StandForItems s w new terms)
     (v : Vocabulary) (is_over : IsProofOver v proof) (added : AreBlocksOver s w v proof is_over blocks) where
   within_old : (i : ℕ) (block : List AddedStep) → slice_get blocks i ≡ Some block → i < commands_in proof
   within_old i block e =
@@ -74,11 +76,12 @@ module _ (s : Table) (w : TermsView) (known : IsOneToOne w.pass) (one_term : (a 
   each_over : (j : ℕ) → j < commands_in new → IsOverAt v terms j
   each_over j less = go (is.sources j less)
     where
-      go : HasSource refs blocks is.places new j → IsOverAt v terms j
+      go : HasSource refs given blocks is.places new j → IsOverAt v terms j
       go (from_proof i none own from) =
-          let same : judged_at Mode.Strict proof i ≡ judged_at Mode.Strict terms j =
-          one_judged s w known one_term (looked_at refs i) (judged_at Mode.Strict proof i) (judged_at Mode.Strict terms j) refl
-          (judged_stands s w refs proof old_stand Mode.Strict i)
+          let index = index_for given refs i in
+          let same : with_index index (judged_at Mode.Strict proof i) ≡ judged_at Mode.Strict terms j =
+          one_judged s w known one_term (looked_with given refs i) (with_index index (judged_at Mode.Strict proof i)) (judged_at Mode.Strict terms j) refl
+          (judged_stands_with s w refs proof old_stand Mode.Strict i index)
           (subst (λ x. StandsForJudged s w x (judged_at Mode.Strict terms j)) from.looks (judged_stands s w new terms new_stand Mode.Strict j)) in
           same_over v (closes_at proof i) (closes_at terms j) (anchors_at proof i) (anchors_at terms j) (clause_at proof i) (clause_at terms j)
           (pivots_at proof i) (pivots_at terms j) (sym (closes_there i j from.closes_is)) (ap (λ (y : Judged). y.anchors) same)

@@ -1,5 +1,5 @@
 -- Each step in the place of a resolution is Ok in strict mode by its record, and each command that is kept passes there.
-use Rattle.std.proofs.Common.{◌≡◌, ◌-◌, ℕ, List, [], ◌∷◌}
+use Rattle.std.proofs.Common.{◌≡◌, ◌-◌, ◌⊎◌, inl, inr, ℕ, List, [], ◌∷◌}
 use Rattle.std.proofs.Common.{map, length, take, slice_get, Some, None, refl, sym, ◌∙◌, ap, subst, All}
 use Rattle.std.specs.List.{AllZip}
 use Rattle.std.specs.Option.{option_map_or}
@@ -11,14 +11,16 @@ use Rattle.term_pool.specs.Views.{TermsView, ReferToAll}
 use Rattle.proof_store.specs.AddedSteps.{AddedStep}
 use Rattle.proof_store.specs.Meaning.{StandForItems}
 use Rattle.proof_store.specs.declared.added.Link.{Link}
+use Rattle.rule_model.specs.declared.index_arg.IndexArg.{IndexArg}
 use Rattle.rule_model.specs.declared.rules.Mode.{Mode}
 use Rattle.rule_model.specs.declared.statuses.Status.{Status}
 use Rattle.rule_model.specs.Columns.{checking_in}
 use Rattle.rule_model.specs.Judged.{Judged, anchors_at}
 use Rattle.rule_model.specs.Proofs.{ProofItems}
-use Rattle.rule_model.specs.Reading.{closes_at}
+use Rattle.rule_model.specs.Reading.{closes_at, index_arg_at}
 use Rattle.rule_model.specs.Statuses.{Checking, AreStatuses}
 use Rattle.rule_model.proofs.Standing.{slice_get_taken}
+use Rattle.step_check.specs.Indices.{IsIndexGiven}
 use Rattle.elab_resolution.specs.Adding.{IsLinkFor}
 use Rattle.elab_resolution.specs.Adding.{linked_clause as clause_before}
 use Rattle.elaborator.specs.Sources.{linked_clause, looked_of, own_anchors}
@@ -27,6 +29,7 @@ use Rattle.elaboration_laws.specs.StrictBlocks.{AnchorsStand, IsDoneAs, IsStrict
 use Rattle.elaboration_laws.proofs.Anchors.{own_list, own_stand}
 use Rattle.elaboration_laws.proofs.Reading.{anchors_stand}
 use Rattle.elaboration.specs.Replaced.{IsKept, IsTermStep}
+use Rattle.elaboration.proofs.KeptIndices.{PassesLoosely, missing_or, passes_with}
 use Rattle.elaboration.proofs.Rules.{added_judged, added_not_wide}
 
 pub nothing_there : {X : Type 0} (k : ℕ) (x : X) → slice_get [] k ≡ Some x → ⊥
@@ -57,6 +60,7 @@ module _ (s : Table) (v : TermsView) (c : Checking) (refs : ProofItems ℕ ℕ) 
     premises = h.premises;
     pivots = h.pivots;
     ratios = None;
+    index = IndexArg.Free;
     anchors = anchors;
   }
 
@@ -71,6 +75,7 @@ module _ (s : Table) (v : TermsView) (c : Checking) (refs : ProofItems ℕ ℕ) 
       premises = subst (λ cs. AllZip (ReferToAll s v) cs h.premises) (same_links refs block number _ a.premises h.links) h.premises_refer;
       pivots = h.pivots_refer;
       ratios = refl;
+      index = refl;
       anchors = stand;
     };
     mode = refl;
@@ -79,18 +84,26 @@ module _ (s : Table) (v : TermsView) (c : Checking) (refs : ProofItems ℕ ℕ) 
         (added_not_wide a.rule (record_of number a h anchors) h.rule, h.met anchors);
   }
 
-  pub kept_strict : (strict : List Status) → AreStatuses (checking_in Mode.Strict c) proof strict → IsKept strict i block
-      → IsStrictBlock s v c refs proof i block
-  kept_strict strict are h = record {
-    kept = λ none. record { status = h.status; passes = h.passes; is = are.each i h.status h.is };
+  pub kept_strict : StandForItems s v refs proof → (strict : List Status) → AreStatuses (checking_in Mode.Strict c) proof strict
+      → (index : IndexArg) → IsIndexGiven s v refs i index → PassesLoosely c proof i → IsKept refs strict i block
+      → IsStrictBlock s v c refs proof i index block
+  kept_strict stand strict are index given loose h = record {
+    kept = λ none. elim (missing_or (index_arg_at refs i)) [
+      | inl missing ↦ inr (passes_with s v c refs proof stand i index (given.least missing) loose)
+      | inr other ↦ inl (given.own other, record {
+        status = h.status;
+        passes = elim h.passes [ inl passes ↦ passes | inr missing ↦ absurd (other missing) ];
+        is = are.each i h.status h.is;
+      })
+    ];
     added = λ number a at below. absurd (nothing_there number a (subst (λ b. slice_get b number ≡ Some a) h.none at));
     last = λ a at. absurd (nothing_there (length block - 1) a (subst (λ b. slice_get b (length block - 1) ≡ Some a) h.none at));
   }
 
-  pub replaced_strict : (strict : List Status) → StandForItems s v refs proof → closes_at proof i ≡ None
+  pub replaced_strict : (strict : List Status) (index : IndexArg) → StandForItems s v refs proof → closes_at proof i ≡ None
       → ((k : ℕ) (a : AddedStep) → slice_get block k ≡ Some a → IsTermStep s v refs proof i (take k block) a)
-      → (block ≡ [] → ⊥) → IsStrictBlock s v c refs proof i block
-  replaced_strict strict stand closes each some = record {
+      → (block ≡ [] → ⊥) → IsStrictBlock s v c refs proof i index block
+  replaced_strict strict index stand closes each some = record {
     kept = λ none. absurd (some none);
     added = λ number a at below.
         strict_step number a (each number a at) (own_anchors refs i) (own_list (closes_at refs i) (anchors_at proof i)) (own_stand s v refs proof stand i);

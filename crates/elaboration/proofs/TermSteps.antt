@@ -86,5 +86,6 @@ module _ (s : Table) (v : TermsView) where
             premises = premises.1;
             pivots = pivots.1;
             ratios = refl;
+            index = refl;
           });
         }

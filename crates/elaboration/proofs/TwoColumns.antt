@@ -1,44 +1,82 @@
 -- A command that passes in check mode and not in strict mode is by a rule with two columns, and is Ok in check mode. Where it is an
 -- assume, it stands in the outermost scope.
 use Rattle.std.proofs.Common.{◌≡◌, ◌⊎◌, inl, inr, ℕ, zero, suc, Bool, true, false, List, Option, Some, None, refl, sym, subst, arith}
-use Rattle.term_model.specs.Terms.{Var, Term}
+use Rattle.term_model.specs.declared.symbols.Op.{Op}
+use Rattle.term_model.specs.Terms.{Var, Term, not_of}
+use Rattle.rule_model.specs.declared.index_arg.IndexArg.{IndexArg}
 use Rattle.rule_model.specs.declared.kinds.Kind.{Kind}
 use Rattle.rule_model.specs.declared.rules.Mode.{Mode}
 use Rattle.rule_model.specs.declared.rules.Rule.{Rule}
 use Rattle.rule_model.specs.declared.rules.StepCause.{StepCause}
 use Rattle.rule_model.specs.declared.statuses.Status.{Status}
+use Rattle.rule_model.specs.Clausal.{as_it_stands, Allows, GivesOne, Begins, IsOnlyPremise}
 use Rattle.rule_model.specs.Columns.{judged_in, checking_in}
 use Rattle.rule_model.specs.Conditions.{IsMetAt, IsTooWideAt, IsTooWideBy, IsTooWideWhere, MeetsClosing, MeetsRule, MeetsWhere}
 use Rattle.rule_model.specs.Judged.{Judged, judged_at}
 use Rattle.rule_model.specs.Proofs.{ProofItems}
-use Rattle.rule_model.specs.Reading.{closes_at, rule_at, scope_at}
+use Rattle.rule_model.specs.Reading.{closes_at, index_arg_at, rule_at, scope_at}
 use Rattle.rule_model.specs.RuleNames.{kind_of}
 use Rattle.rule_model.specs.Statuses.{Checking, IsStatusAt, IsStatusBy, MayAssume, Passes, kind_of_rule, kind_under}
 use Rattle.equality_blocks.specs.Commands.{in_check_mode}
 use Rattle.elaboration.specs.Elaborated.{IsResolution}
 use Rattle.elaboration.specs.Replaced.{HasTwoColumns, IsOkInCheck}
 
--- a step by any other rule meets in strict mode what it meets in check mode
-step_met : (rule : Rule) → ¬ HasTwoColumns rule → (j : Judged) → MeetsRule rule (judged_in Mode.Check j) → MeetsRule rule (judged_in Mode.Strict j)
-step_met Rule.Resolution other j met = absurd (other (inl (inl refl)))
-step_met Rule.ThResolution other j met = absurd (other (inl (inr refl)))
-step_met Rule.Refl other j met = absurd (other (inr (inl tt)))
-step_met Rule.Trans other j met = absurd (other (inr (inl tt)))
-step_met Rule.Cong other j met = absurd (other (inr (inl tt)))
-step_met Rule.EqTransitive other j met = absurd (other (inr (inr tt)))
-step_met Rule.EqCongruent other j met = absurd (other (inr (inr tt)))
-step_met Rule.EqCongruentPred other j met = absurd (other (inr (inr tt)))
-step_met rule other j met = met
+-- where the index is not missing, strict mode allows the places that check mode allows
+allowed_strictly : (index : IndexArg) → (index ≡ IndexArg.Missing → ⊥) → (k : ℕ) → Allows Mode.Check index k → Allows Mode.Strict index k
+allowed_strictly IndexArg.Free there k a = a
+allowed_strictly IndexArg.Missing there k a = absurd (there refl)
+allowed_strictly (IndexArg.At j) there k a = a
+allowed_strictly IndexArg.Bad there k a = a
+
+module _ (index : IndexArg) (there : index ≡ IndexArg.Missing → ⊥) (op : Op) (whole_sign sign : Term → Term) where
+  gives_strictly : (whole : Term) (rest : List Term) → GivesOne (Allows Mode.Check index) op whole_sign sign whole rest
+      → GivesOne (Allows Mode.Strict index) op whole_sign sign whole rest
+  gives_strictly whole rest g = record {
+    arguments = g.arguments;
+    place = g.place;
+    argument = g.argument;
+    at_place = g.at_place;
+    allows = allowed_strictly index there g.place g.allows;
+    whole_is = g.whole_is;
+    rest_is = g.rest_is;
+  }
+
+  begins_strictly : (premises : List (List Term)) (clause : List Term) → Begins (GivesOne (Allows Mode.Check index) op whole_sign sign) premises clause
+      → Begins (GivesOne (Allows Mode.Strict index) op whole_sign sign) premises clause
+  begins_strictly premises clause b =
+      record { whole = b.whole; rest = b.rest; none = b.none; literals = b.literals; given = gives_strictly b.whole b.rest b.given }
+
+  given_strictly : (premises : List (List Term)) (clause : List Term)
+      → IsOnlyPremise (GivesOne (Allows Mode.Check index) op whole_sign sign) premises clause
+      → IsOnlyPremise (GivesOne (Allows Mode.Strict index) op whole_sign sign) premises clause
+  given_strictly premises clause p = record { whole = p.whole; unit = p.unit; given = gives_strictly p.whole clause p.given }
+
+-- a step by any other rule meets in strict mode what it meets in check mode, where its index is not missing
+step_met : (rule : Rule) → ¬ HasTwoColumns rule → (j : Judged) → (j.index ≡ IndexArg.Missing → ⊥) → MeetsRule rule (judged_in Mode.Check j)
+    → MeetsRule rule (judged_in Mode.Strict j)
+step_met Rule.AndPos other j there met = begins_strictly j.index there Op.And not_of as_it_stands j.premises j.clause met
+step_met Rule.OrNeg other j there met = begins_strictly j.index there Op.Or as_it_stands not_of j.premises j.clause met
+step_met Rule.And other j there met = given_strictly j.index there Op.And as_it_stands as_it_stands j.premises j.clause met
+step_met Rule.NotOr other j there met = given_strictly j.index there Op.Or not_of not_of j.premises j.clause met
+step_met Rule.Resolution other j there met = absurd (other (inl (inl refl)))
+step_met Rule.ThResolution other j there met = absurd (other (inl (inr refl)))
+step_met Rule.Refl other j there met = absurd (other (inr (inl tt)))
+step_met Rule.Trans other j there met = absurd (other (inr (inl tt)))
+step_met Rule.Cong other j there met = absurd (other (inr (inl tt)))
+step_met Rule.EqTransitive other j there met = absurd (other (inr (inr tt)))
+step_met Rule.EqCongruent other j there met = absurd (other (inr (inr tt)))
+step_met Rule.EqCongruentPred other j there met = absurd (other (inr (inr tt)))
+step_met rule other j there met = met
 
 closing_met : (rule : Rule) → ¬ HasTwoColumns rule → (proof : ProofItems Var Term) (i k : ℕ) → MeetsClosing Mode.Check rule proof i k
     → MeetsClosing Mode.Strict rule proof i k
 closing_met Rule.Let other proof i k met = absurd (other (inr (inl tt)))
 closing_met rule other proof i k met = met
 
-where_met : (proof : ProofItems Var Term) (i : ℕ) (closes : Option ℕ) → ¬ HasTwoColumns (rule_at proof i) → MeetsWhere Mode.Check proof i closes
-    → MeetsWhere Mode.Strict proof i closes
-where_met proof i None other met = step_met (rule_at proof i) other (judged_at Mode.Check proof i) met
-where_met proof i (Some k) other met = closing_met (rule_at proof i) other proof i k met
+where_met : (proof : ProofItems Var Term) (i : ℕ) (closes : Option ℕ) → ¬ HasTwoColumns (rule_at proof i)
+    → (index_arg_at proof i ≡ IndexArg.Missing → ⊥) → MeetsWhere Mode.Check proof i closes → MeetsWhere Mode.Strict proof i closes
+where_met proof i None other there met = step_met (rule_at proof i) other (judged_at Mode.Check proof i) there met
+where_met proof i (Some k) other there met = closing_met (rule_at proof i) other proof i k met
 
 -- the mode plays no part in what is too wide
 wide_by : (rule : Rule) (j : Judged) → IsTooWideBy rule (judged_in Mode.Strict j) → IsTooWideBy rule (judged_in Mode.Check j)
@@ -73,9 +111,9 @@ assumed : (rule : Rule) → kind_of rule ≡ Kind.Assumed → HasTwoColumns rule
 assumed Rule.Assume e = inr (inl tt)
 assumed rule e = absurd (cc)
 
-module _ (c : Checking) (proof : ProofItems Var Term) (i : ℕ) where
+module _ (c : Checking) (proof : ProofItems Var Term) (i : ℕ) (there : index_arg_at proof i ≡ IndexArg.Missing → ⊥) where
   strict_met : ¬ HasTwoColumns (rule_at proof i) → IsMetAt Mode.Check proof i → IsMetAt Mode.Strict proof i
-  strict_met other met = where_met proof i (closes_at proof i) other met
+  strict_met other met = where_met proof i (closes_at proof i) other there met
 
   not_wide : ¬ IsTooWideAt Mode.Check proof i → ¬ IsTooWideAt Mode.Strict proof i
   not_wide narrow wide = narrow (wide_where proof i (closes_at proof i) wide)

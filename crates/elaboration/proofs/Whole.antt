@@ -33,15 +33,19 @@ use Rattle.step_check.specs.Statuses.{AreStatusesOf, checking, mode_of}
 use Rattle.elab_resolution.specs.Adding.{ResolvesAt}
 use Rattle.elaborator.specs.Blocks.{AreBlocksOf, commands_needed}
 use Rattle.elaborator.specs.Pieces.{AreMadeBy}
+use Rattle.elaborator.specs.Sources.{index_for}
+use Rattle.step_check.specs.Indices.{AreIndicesTo}
+use Rattle.rule_model.specs.declared.index_arg.IndexArg.{IndexArg}
 use Rattle.elaboration_laws.specs.StrictBlocks.{AreFittingBlocks, AreStrictBlocks}
 use Rattle.elaboration_laws.proofs.Forming.{formed_over_terms}
 use Rattle.elaboration_laws.proofs.Ones.{one_clause}
-use Rattle.elaboration_laws.proofs.Reading.{rule_same}
+use Rattle.elaboration_laws.proofs.Reading.{rule_same, index_same}
 use Rattle.equality_blocks.specs.Blocks.{IsReplacementFor}
 use Rattle.equality_blocks.specs.Commands.{IsClosedTruth, in_check_mode}
 use Rattle.elaboration.specs.Elaborated.{AreWellSorted, IsElaborated, IsNotStrict, IsReplaced, IsResolution, IsShortBlock, IsTooLong, PassAll, in_strict_mode}
 use Rattle.elaboration.specs.Replaced.{CanBeReplaced, IsKeptOrReplaced, IsOkInCheck, IsRelinking, IsReplacement, IsTermStep}
 use Rattle.elaboration.proofs.BlockLemmas.{are_blocks, not_empty}
+use Rattle.elaboration.proofs.KeptIndices.{PassesLoosely, given_at}
 use Rattle.elaboration.proofs.FittingSteps.{NearAreLow, kept_fits, replaced_fits}
 use Rattle.elaboration.proofs.OverLines.{over_at}
 use Rattle.elaboration.proofs.OverNear.{NegationsAreOver, clause_over, pivots_over}
@@ -78,7 +82,7 @@ module _ (s : Table) (v : TermsView) (flags : Flags) (asserted : List ℕ) (refs
 
   -- a command that passes in check mode and not in strict mode
   pub ok_at : flags.strict ≡ false → PassAll flags s v asserted refs → AreStatusesOf (in_strict_mode flags) s v asserted refs strict
-      → (i : ℕ) → IsNotStrict strict i → IsOkInCheck can.proof can.asserted.assertions i
+      → (i : ℕ) → IsNotStrict refs strict i → IsOkInCheck can.proof can.asserted.assertions i
   ok_at check all are i fails =
       let assertions = can.asserted.assertions in
       let loose_are = all.are can.proof assertions can.stand can.asserted.refer in
@@ -88,12 +92,27 @@ module _ (s : Table) (v : TermsView) (flags : Flags) (asserted : List ℕ) (refs
       let loose_size = loose_are.count in
       let within : i < length all.statuses = omega arith in
       let loose = get_or all.statuses i Status.Ok in
-      ok_in_check (checking flags assertions) can.proof i loose fails.status
+      ok_in_check (checking flags assertions) can.proof i (λ e. fails.there (index_same s v refs can.proof can.stand i ∙ e)) loose fails.status
       (in_check flags check assertions can.proof i loose (loose_are.each i loose (slice_get-get_or all.statuses i Status.Ok within)))
       (all.pass i Status.Ok within) (strict_are.each i fails.status fails.is) fails.fails
 
-  abbrev pub can_replace : IsWellFormed refs → AreWellSorted s v asserted refs → flags.strict ≡ false → PassAll flags s v asserted refs
-      → AreStatusesOf (in_strict_mode flags) s v asserted refs strict → CanBeReplaced s v asserted refs strict
+  -- each command passes in check mode
+  pub loosely_at : flags.strict ≡ false → PassAll flags s v asserted refs → (i : ℕ) → i < commands_in can.proof
+      → PassesLoosely (checking flags can.asserted.assertions) can.proof i
+  loosely_at check all i less =
+      let assertions = can.asserted.assertions in
+      let are = all.are can.proof assertions can.stand can.asserted.refer in
+      let size = are.count in
+      let within : i < length all.statuses = omega arith in
+      let status = get_or all.statuses i Status.Ok in
+      record {
+        status = status;
+        is = in_check flags check assertions can.proof i status (are.each i status (slice_get-get_or all.statuses i Status.Ok within));
+        passes = all.pass i Status.Ok within;
+      }
+
+  abbrev pub can_replace : IsWellFormed refs → AreWellSorted s v asserted refs → flags.strict ≡ false
+      → PassAll flags s v asserted refs → AreStatusesOf (in_strict_mode flags) s v asserted refs strict → CanBeReplaced s v asserted refs strict
   can_replace formed sorted check all are = record {
     proof = can.proof;
     stand = can.stand;
@@ -147,12 +166,19 @@ module _ (replace : Replace IsReplacementFor) (one : StandForOne) (s : Table) (t
   steps_are i block h k a at = subst (λ p. IsTermStep s w refs p i (take k block) a) (same_proof i block h) (h.each k a at)
 
   pub strict_blocks : (c : Checking) → ReferToAll s w asserted c.assertions → AreStatuses (checking_in Mode.Strict c) can.proof strict
-      → AreStrictBlocks s w c refs can.proof blocks
-  strict_blocks c refer are i block e = elim (made.each i block e) [
-    | inl kept ↦ kept_strict s w c refs can.proof i block strict are kept
+      → ((i : ℕ) → i < commands_in can.proof → PassesLoosely c can.proof i) → (given : List IndexArg) → AreIndicesTo s w refs (commands_in refs) given
+      → AreStrictBlocks s w c refs can.proof given blocks
+  strict_blocks c refer are loose given indices i block e = elim (made.each i block e) [
+    | inl kept ↦
+        (let within = slice_get_within blocks i block e in
+        let count = made.count_is in
+        let same = commands_same s w refs can.proof can.stand in
+        let less : i < commands_in refs = omega arith in
+        let less_there : i < commands_in can.proof = omega arith in
+        kept_strict s w c refs can.proof i block can.stand strict are (index_for given refs i) (given_at s w refs given indices i less) (loose i less_there) kept)
     | inr other ↦ elim other [
       | inl h ↦
-          replaced_strict s w c refs can.proof i block strict can.stand
+          replaced_strict s w c refs can.proof i block strict (index_for given refs i) can.stand
           (closes_none can.proof i (rule_there s w asserted refs strict can i h.short.replaced)
           (met_there s w asserted refs strict can i h.short.replaced)) (steps_are i block h)
           (not_empty (clause_at refs i) block h.ends)

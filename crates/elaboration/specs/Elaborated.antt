@@ -1,6 +1,6 @@
 -- Public. What is asked of a proof that is elaborated, and what is returned: an elaboration, in which each command that is Ok in check
 -- mode alone is replaced by steps that are Ok in strict mode.
-use Rattle.std.specs.Prelude.{◌≡◌, ◌≤◌, ◌+◌, ◌-◌, ◌^◌, ◌⊎◌, ℕ, true, List, [], length, slice_get, Some, All}
+use Rattle.std.specs.Prelude.{◌≡◌, ◌≤◌, ◌+◌, ◌-◌, ◌^◌, ◌⊎◌, ℕ, Bool, true, List, [], length, slice_get, Some, All}
 use Rattle.std.specs.List.{AllByRecursion}
 use Rattle.sym_table.specs.Table.{Table}
 use Rattle.term_model.specs.Terms.{Var, Term}
@@ -9,11 +9,13 @@ use Rattle.term_reader.specs.declared.flags.Flags.{Flags}
 use Rattle.proof_store.specs.AddedSteps.{AddedStep}
 use Rattle.proof_store.specs.Checks.{StandForSome}
 use Rattle.proof_store.specs.Meaning.{StandForItems}
+use Rattle.rule_model.specs.declared.index_arg.IndexArg.{IndexArg}
 use Rattle.rule_model.specs.declared.rules.Rule.{Rule}
 use Rattle.rule_model.specs.declared.statuses.Status.{Status}
 use Rattle.rule_model.specs.Elaboration.{IsElaboration}
+use Rattle.rule_model.specs.Profiles.{HaveIndices}
 use Rattle.rule_model.specs.Proofs.{ProofItems}
-use Rattle.rule_model.specs.Reading.{rule_at}
+use Rattle.rule_model.specs.Reading.{rule_at, index_arg_at}
 use Rattle.rule_model.specs.Scopes.{outermost, commands_in}
 use Rattle.rule_model.specs.Statuses.{Passes}
 use Rattle.rule_model.specs.Truth.{IsLiteralIn, IsWellSortedProof}
@@ -48,21 +50,23 @@ AreWellSorted s v asserted refs =
 abbrev pub IsResolution : Rule → Type 0
 IsResolution rule = (rule ≡ Rule.Resolution) ⊎ (rule ≡ Rule.ThResolution)
 
--- by these statuses in strict mode the command at an index is neither Ok nor a hole: it is not strict
-pub record IsNotStrict (strict : List Status) (i : ℕ) : Type 0 where
+-- By these statuses in strict mode the command at an index is neither Ok nor a hole, and not for lack of its index argument: it is not
+-- strict.
+pub record IsNotStrict (refs : ProofItems ℕ ℕ) (strict : List Status) (i : ℕ) : Type 0 where
   pub status : Status
   pub is : slice_get strict i ≡ Some status
   pub fails : ¬ Passes status
+  pub there : index_arg_at refs i ≡ IndexArg.Missing → ⊥
 
 -- the command at an index is a resolution that is not strict: steps with pivots are put in its place
 pub record IsReplaced (refs : ProofItems ℕ ℕ) (strict : List Status) (i : ℕ) : Type 0 where
-  pub not_strict : IsNotStrict strict i
+  pub not_strict : IsNotStrict refs strict i
   pub rule : IsResolution (rule_at refs i)
 
 -- The command at an index is not strict, and is no resolution. So it assumes a term that is asserted up to flips alone, or is by a rule of
 -- equality or a let: steps of the rules of equality are put in its place.
 pub record IsRelinked (refs : ProofItems ℕ ℕ) (strict : List Status) (i : ℕ) : Type 0 where
-  pub not_strict : IsNotStrict strict i
+  pub not_strict : IsNotStrict refs strict i
   pub other : ¬ IsResolution (rule_at refs i)
 
 -- where steps are added for the command at an index, for a problem with these assertions
@@ -130,3 +134,9 @@ abbrev pub StaysOver : Table → TermsView → ProofItems ℕ ℕ → ProofItems
 StaysOver s v refs new =
     (names : Vocabulary) (proof elaboration : ProofItems Var Term) → StandForItems s v refs proof → StandForItems s v new elaboration →
     IsProofOver names proof → IsProofOver names elaboration
+
+-- In each profile whose indices the proof has for which these references stand, the one for which the new ones stand has its indices too.
+abbrev pub StaysIndexed : Table → TermsView → ProofItems ℕ ℕ → ProofItems ℕ ℕ → Type 0
+StaysIndexed s v refs new =
+    (is_profile_two : Bool) (proof elaboration : ProofItems Var Term) → StandForItems s v refs proof → StandForItems s v new elaboration →
+    HaveIndices is_profile_two proof → HaveIndices is_profile_two elaboration

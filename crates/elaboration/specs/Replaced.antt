@@ -8,12 +8,13 @@ use Rattle.term_model.specs.Terms.{Var, Term}
 use Rattle.term_pool.specs.Views.{TermsView, ReferToAll}
 use Rattle.proof_store.specs.AddedSteps.{AddedStep}
 use Rattle.proof_store.specs.Meaning.{IsPivotOf, StandForItems}
+use Rattle.rule_model.specs.declared.index_arg.IndexArg.{IndexArg}
 use Rattle.rule_model.specs.declared.rules.Mode.{Mode}
 use Rattle.rule_model.specs.declared.rules.Rule.{Rule}
 use Rattle.rule_model.specs.declared.statuses.Status.{Status}
 use Rattle.rule_model.specs.Conditions.{IsClauseOfTruths, Met}
 use Rattle.rule_model.specs.Proofs.{ProofItems}
-use Rattle.rule_model.specs.Reading.{clause_at, premises_at, rule_at, scope_at}
+use Rattle.rule_model.specs.Reading.{clause_at, index_arg_at, premises_at, rule_at, scope_at}
 use Rattle.rule_model.specs.Scopes.{commands_in}
 use Rattle.rule_model.specs.Statuses.{IsStatusAt, Passes}
 use Rattle.rule_model.specs.Truth.{IsWellSortedProof}
@@ -50,6 +51,7 @@ pub record IsTermStep (s : Table) (v : TermsView) (refs : ProofItems ℕ ℕ) (p
     premises = premises;
     pivots = pivots;
     ratios = None;
+    index = IndexArg.Free;
     anchors = anchors;
   })
 
@@ -71,16 +73,16 @@ pub record IsRelinking (s : Table) (v : TermsView) (asserted : List ℕ) (refs :
   pub more : Grows view.pass v.pass
   pub steps : IsReplacementFor site view block
 
--- by its strict status the command at an index passes, and none are added for it
-pub record IsKept (strict : List Status) (i : ℕ) (block : List AddedStep) : Type 0 where
+-- By its strict status the command at an index passes, or it lacks its index argument. None are added for it.
+pub record IsKept (refs : ProofItems ℕ ℕ) (strict : List Status) (i : ℕ) (block : List AddedStep) : Type 0 where
   pub none : block ≡ []
   pub status : Status
   pub is : slice_get strict i ≡ Some status
-  pub passes : Passes status
+  pub passes : Passes status ⊎ (index_arg_at refs i ≡ IndexArg.Missing)
 
 abbrev pub IsKeptOrReplaced : Table → TermsView → List ℕ → ProofItems ℕ ℕ → List Status → ℕ → List AddedStep → Type 0
 IsKeptOrReplaced s v asserted refs strict i block =
-    IsKept strict i block ⊎ (IsReplacement s v refs strict i block ⊎ IsRelinking s v asserted refs strict i block)
+    IsKept refs strict i block ⊎ (IsReplacement s v refs strict i block ⊎ IsRelinking s v asserted refs strict i block)
 
 -- the rules with two columns: commands of other rules meet in strict mode what they meet in check mode
 abbrev pub HasTwoColumns : Rule → Type 0
@@ -105,4 +107,4 @@ pub record CanBeReplaced (s : Table) (v : TermsView) (asserted : List ℕ) (refs
   pub refer : ReferToAll s v asserted assertions
   pub truths : All IsClosedTruth assertions
   pub count : length strict ≡ commands_in refs
-  pub ok : (i : ℕ) → IsNotStrict strict i → IsOkInCheck proof assertions i
+  pub ok : (i : ℕ) → IsNotStrict refs strict i → IsOkInCheck proof assertions i

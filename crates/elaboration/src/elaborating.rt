@@ -1,7 +1,7 @@
 //! The call that elaborates a proof.
 
 ghost use Rattle.std.specs.Prelude.{◌≡◌, ◌<◌, ◌≤◌, false, IfOk, IfErr};
-ghost use Rattle.elaboration.specs.Elaborated.{in_strict_mode, AreWellSorted, IsElaborated, IsPlacedFor, IsTooLong, PassAll, StaysOver};
+ghost use Rattle.elaboration.specs.Elaborated.{in_strict_mode, AreWellSorted, IsElaborated, IsPlacedFor, IsTooLong, PassAll, StaysIndexed, StaysOver};
 ghost use Rattle.elaboration.specs.declared.stops.ElabStop.TheVariants as ElabStop;
 ghost use Rattle.pair_pool.specs.Views.{IsForMany};
 ghost use Rattle.step_check.specs.Chunks.{CanBeChecked};
@@ -24,6 +24,7 @@ use readable_proofs::laws::new_terms_are_over_their_names;
 use rule_model::laws::contexts::images_are_closed;
 use std::alloc::Global;
 use std::thread::Threads;
+use step_check::given_indices;
 use sym_table::Symbols;
 use term_pool::Terms;
 use term_reader::{Flags, Problem};
@@ -42,7 +43,7 @@ pub struct Checked<'a> {
 /// The elaboration of a proof whose commands are all Ok or holes in check mode (Alethe specification, "Elaboration"): each of its
 /// commands is there, in its scope and order and with its clause, and each that is no hole is Ok in strict mode. The steps in the place
 /// of a command that is not strict are those of `elab_resolution`, `elab_equality` and `elab_denials`; all other commands stay as they
-/// are, and ids are new.
+/// are, but that an index argument that is missing becomes the least with which the step is met, and ids are new.
 ///
 /// Refuses only where there would be 2^32 - 1 commands or more with some steps that might be added, where the pool has no room for a
 /// cell of a term that may be made for a replaced command, and when out of memory. Looks at each command of the proof, and takes
@@ -72,6 +73,9 @@ pub fn elaborated<R: Threads + Sync, G: Gate>(
 
     // Its terms are over each vocabulary over which those of the proof are.
     ensures over { IfOk result (λ new. StaysOver checked.now.symbols.now terms.new checked.now.proof.now new) }
+
+    // Its indices are those of each profile of which those of the proof are.
+    ensures indexed { IfOk result (λ new. StaysIndexed checked.now.symbols.now terms.new checked.now.proof.now new) }
     ensures too_many { IfErr result (λ stop. stop ≡ ElabStop.TooMany →
         IsTooLong checked.now.symbols.now terms.new checked.now.problem.now.assertions checked.now.proof.now checked.now.strict.now) }
 
@@ -105,7 +109,8 @@ pub fn elaborated<R: Threads + Sync, G: Gate>(
     new_terms_are_over_their_names();
     assembled_proofs_are_meant();
     assembled_proofs_are_elaborations();
-    match assemble(alloc, proof, &added) {
+    let given = given_indices(alloc, proof, checked.symbols, terms)?;
+    match assemble(alloc, proof, &added, &given) {
         Ok(new) => Ok(new),
         Err(stop) => Err(ElabStop::from(stop)),
     }

@@ -142,7 +142,7 @@ fn replaced(
 ) -> Result<Vec<Added>, RuleStop>
     requires inside { i < commands_in proof.now }
     requires fits { CanBeReplaced replacements.now.symbols.now terms.old replacements.now.problem.now.assertions proof.now replacements.now.strict.now }
-    requires not_strict { IsNotStrict replacements.now.strict.now i }
+    requires not_strict { IsNotStrict proof.now replacements.now.strict.now i }
     requires asserted { CanBeAsked replacements.now.problem.now.assertions terms.old asserted.old }
     ensures replaced { IfOk result (λ block. IsReplacement replacements.now.symbols.now terms.new proof.now replacements.now.strict.now i block.items
         ⊎ IsRelinking replacements.now.symbols.now terms.new replacements.now.problem.now.assertions proof.now replacements.now.strict.now i block.items) }
@@ -201,7 +201,7 @@ impl<'a> Elaborate for Replacements<'a> {
         kept: &mut Assertions,
         terms: &mut Terms<'_>,
     ) -> Result<Vec<Added>, RuleStop> {
-        if is_not_strict(self.strict, i) {
+        if is_not_strict(proof, self.strict, i) {
             match replaced(alloc, self, proof, i, kept, terms) {
                 Ok(block) => Ok(trimmed(block)),
                 Err(stop) => Err(stop),

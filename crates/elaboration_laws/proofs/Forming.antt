@@ -12,7 +12,7 @@ use Rattle.term_pool.proofs.Leaves.{one_leaf}
 use Rattle.proof_store.specs.Meaning.{IsPivotOf, IsProofStepOf, StandForItems, no_items_stand, assume_stands, step_stands, subproof_stands}
 use Rattle.rule_model.specs.declared.rules.Rule.{Rule}
 use Rattle.rule_model.specs.Proofs.{Step, ProofItems}
-use Rattle.rule_model.specs.RuleNames.{rule_named, left_out_rules, IsSymbolName}
+use Rattle.rule_model.specs.RuleNames.{rule_named, takes_index, left_out_rules, IsSymbolName}
 use Rattle.rule_model.specs.Scopes.{Nesting, outermost, inner}
 use Rattle.rule_model.specs.Visibility.{Sight, visible, open_bindings, assumes_in}
 use Rattle.rule_model.specs.WellFormed.{IsNewId, IsLowest, HasRule, MayOpen, MayStand, AreWellFormed, IsWellFormed}
@@ -76,6 +76,10 @@ rule_stands s v step of h r = record {
     | inr none ↦ inr (sym h.ratios ∙ none)
   ];
   lowest = subst (λ qs. IfSome qs (λ list. All IsLowest list)) h.ratios r.lowest;
+  index = elim r.index [
+    | inl takes ↦ inl (ap takes_index (sym h.rule) ∙ takes)
+    | inr free ↦ inr (sym h.index ∙ free)
+  ];
 }
 
 module _ (s : Table) (v : TermsView) (table : IsTable s) where

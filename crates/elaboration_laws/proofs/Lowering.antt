@@ -14,6 +14,8 @@ use Rattle.term_pool.specs.Views.{TermsView, ReferToAll}
 use Rattle.proof_store.specs.AddedSteps.{AddedStep}
 use Rattle.proof_store.specs.Meaning.{IsPivotOf, StandForItems}
 use Rattle.proof_store.proofs.MeaningLemmas.{commands_same}
+use Rattle.rule_model.specs.LeastIndices.{with_index}
+use Rattle.rule_model.specs.declared.index_arg.IndexArg.{IndexArg}
 use Rattle.rule_model.specs.declared.rules.Mode.{Mode}
 use Rattle.rule_model.specs.Commands.{Line, lines_in}
 use Rattle.rule_model.specs.Contexts.{images}
@@ -29,13 +31,13 @@ use Rattle.rule_model.proofs.Numbers.{lines_in_count}
 use Rattle.rule_model.proofs.Standing.{all_at}
 use Rattle.elaborator.specs.Assembled.{IsAssembled}
 use Rattle.elaborator.specs.Blocks.{AreBlocksOf}
-use Rattle.elaborator.specs.Sources.{Looked, looked_at, looked_of, own_anchors, HasSource, from_proof, from_block, from_last}
+use Rattle.elaborator.specs.Sources.{Looked, looked_at, looked_of, own_anchors, HasSource, from_proof, from_block, from_last, looked_with, index_for}
 use Rattle.elaborator.proofs.Sourcing.{pivots_are}
 use Rattle.elaboration_laws.specs.StrictBlocks.{AnchorsStand, StandsForJudged, AreFittingBlocks}
 use Rattle.elaboration_laws.proofs.Anchors.{own_list, own_stand}
 use Rattle.elaboration_laws.proofs.Meant.{all_each}
 use Rattle.elaboration_laws.proofs.Ones.{one_anchors, one_judged}
-use Rattle.elaboration_laws.proofs.Reading.{clause_stands, pivots_stand, anchors_stand, judged_stands}
+use Rattle.elaboration_laws.proofs.Reading.{clause_stands, pivots_stand, anchors_stand, judged_stands, judged_stands_with}
 use Rattle.elaboration_laws.proofs.Sorting.{anchors_there}
 
 -- what is asked of a command's terms
@@ -64,8 +66,8 @@ low_at h proof i less all =
     }
 
 module _ (s : Table) (v : TermsView) (known : IsOneToOne v.pass) (one_term : (a : Tree) (t u : Term) → StandsFor s a t → StandsFor s a u → t ≡ u) (c : Checking)
-    (refs new : ProofItems ℕ ℕ) (proof terms : ProofItems Var Term) (blocks : List (List AddedStep)) (old_stand : StandForItems s v refs proof) (blocks_are : AreBlocksOf refs blocks)
-    (is : IsAssembled refs blocks new) (new_stand : StandForItems s v new terms) (fitting : AreFittingBlocks s v c refs proof blocks) (h : ℕ)
+    (refs new : ProofItems ℕ ℕ) (proof terms : ProofItems Var Term) (given : List IndexArg) (blocks : List (List AddedStep)) (old_stand : StandForItems s v refs proof) (blocks_are : AreBlocksOf refs blocks)
+    (is : IsAssembled refs given blocks new) (new_stand : StandForItems s v new terms) (fitting : AreFittingBlocks s v c refs proof blocks) (h : ℕ)
     (assertions : All (λ t. height t ≤ h) c.assertions) (low : IsLowProof h proof) where
   old_low : (i : ℕ) (block : List AddedStep) → slice_get blocks i ≡ Some block → IsLowAt h proof i
   old_low i block e =
@@ -89,12 +91,14 @@ module _ (s : Table) (v : TermsView) (known : IsOneToOne v.pass) (one_term : (a 
   each_low : (j : ℕ) → j < commands_in new → IsLowAt (2 * h + 10) terms j
   each_low j less = go (is.sources j less)
     where
-      go : HasSource refs blocks is.places new j → IsLowAt (2 * h + 10) terms j
+      go : HasSource refs given blocks is.places new j → IsLowAt (2 * h + 10) terms j
       go (from_proof i none own from) =
           let old = old_low i [] none in
-          let same : judged_at Mode.Strict terms j ≡ judged_at Mode.Strict proof i =
-          one_judged s v known one_term (looked_at refs i) (judged_at Mode.Strict terms j) (judged_at Mode.Strict proof i) refl
-          (subst (λ x. StandsForJudged s v x (judged_at Mode.Strict terms j)) from.looks (judged_stands s v new terms new_stand Mode.Strict j)) (judged_stands s v refs proof old_stand Mode.Strict i) in
+          let index : IndexArg = index_for given refs i in
+          let same : judged_at Mode.Strict terms j ≡ with_index index (judged_at Mode.Strict proof i) =
+          one_judged s v known one_term (looked_with given refs i) (judged_at Mode.Strict terms j) (with_index index (judged_at Mode.Strict proof i)) refl
+          (subst (λ x. StandsForJudged s v x (judged_at Mode.Strict terms j)) from.looks (judged_stands s v new terms new_stand Mode.Strict j))
+          (judged_stands_with s v refs proof old_stand Mode.Strict i index) in
           record {
             clause = subst (All (λ t. height t ≤ 2 * h + 10)) (sym (ap (λ (y : Judged). y.clause) same))
                 (All-weaker (λ t. height t ≤ h) (λ t. height t ≤ 2 * h + 10) (λ t x. omega arith) (clause_at proof i) old.clause);
@@ -105,7 +109,7 @@ module _ (s : Table) (v : TermsView) (known : IsOneToOne v.pass) (one_term : (a 
       go (from_last i block a e at own from) =
           added_low i j (length block - 1) block a (anchors_at refs i) e at from.looks
           (subst (λ xs. All (λ (b : Var × Term). height b.1 ≤ 2 * h + 10) (images xs))
-          (sym (anchors_there s v known one_term c refs new proof terms blocks old_stand blocks_are is new_stand fitting i j (ap (λ (x : Looked). x.anchors) from.looks)))
+          (sym (anchors_there s v known one_term c refs new proof terms given blocks old_stand blocks_are is new_stand fitting i j (ap (λ (x : Looked). x.anchors) from.looks)))
           (higher_images (images (anchors_at proof i)) (old_low i block e).images))
       go (from_block i number block a e at below from) =
           added_low i j number block a (own_anchors refs i) e at from.looks

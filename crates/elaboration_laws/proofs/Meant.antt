@@ -8,6 +8,8 @@ use Rattle.term_pool.specs.Bindings.{IsBindingOf}
 use Rattle.term_pool.specs.Views.{TermsView, IsTerm, RefersTo, ReferToAll}
 use Rattle.proof_store.specs.AddedSteps.{AddedStep}
 use Rattle.proof_store.specs.Meaning.{IsPivotOf, StandForItems, BindsTerm, IsOfTerms, AreOfTerms}
+use Rattle.rule_model.specs.LeastIndices.{with_index}
+use Rattle.rule_model.specs.declared.index_arg.IndexArg.{IndexArg}
 use Rattle.rule_model.specs.declared.rules.Mode.{Mode}
 use Rattle.rule_model.specs.declared.rules.Rule.{Rule}
 use Rattle.rule_model.specs.Commands.{Line, lines_in}
@@ -22,10 +24,11 @@ use Rattle.rule_model.proofs.LinearForms.{all_split}
 use Rattle.elaborator.specs.Assembled.{IsAssembled}
 use Rattle.elaborator.specs.Blocks.{AreBlocksOf}
 use Rattle.elaborator.specs.Sources.{Looked, looked_at, looked_of, own_anchors, IsInItsPlace, HasSource, from_proof, from_block, from_last}
+use Rattle.elaborator.specs.Sources.{looked_with, index_for}
 use Rattle.elaborator.proofs.Sourcing.{pivots_are}
 use Rattle.elaboration_laws.specs.StrictBlocks.{AnchorsStand, StandsForJudged, ClosesWith, ClosesStrictly, ReplacesStrictly, AreStrictBlocks}
 use Rattle.elaboration_laws.proofs.BlockLines.{line_there, block_is}
-use Rattle.elaboration_laws.proofs.Reading.{clause_stands, anchors_stand, judged_stands}
+use Rattle.elaboration_laws.proofs.Reading.{clause_stands, anchors_stand, judged_stands, judged_stands_with}
 
 -- what holds of each item
 pub all_each : {X : Type 0} (P : X → Type 0) (xs : List X) → ((i : ℕ) (x : X) → slice_get xs i ≡ Some x → P x) → AllByRecursion P xs
@@ -78,8 +81,8 @@ module _ (s : Table) (v : TermsView) where
     anchors = anchor_terms x.anchors j.anchors h.anchors;
   }
 
-  module _ (c : Checking) (refs new : ProofItems ℕ ℕ) (proof : ProofItems Var Term) (blocks : List (List AddedStep)) (old_stand : StandForItems s v refs proof) (blocks_are : AreBlocksOf refs blocks)
-      (is : IsAssembled refs blocks new) (strict : AreStrictBlocks s v c refs proof blocks) where
+  module _ (c : Checking) (refs new : ProofItems ℕ ℕ) (proof : ProofItems Var Term) (given : List IndexArg) (blocks : List (List AddedStep)) (old_stand : StandForItems s v refs proof) (blocks_are : AreBlocksOf refs blocks)
+      (is : IsAssembled refs given blocks new) (strict : AreStrictBlocks s v c refs proof given blocks) where
     -- a step that closes a scope has no pivots
     closing_pivots : (a : AddedStep) (premises : List (List Term)) (i k : ℕ) → ClosesWith a.rule premises proof i k → ((a.rule ≡ Rule.Resolution) ⊎ (a.rule ≡ Rule.ThResolution)) ⊎ (a.pivots ≡ []) → a.pivots ≡ []
     closing_pivots a premises i k closes (inr none) = none
@@ -121,9 +124,11 @@ module _ (s : Table) (v : TermsView) where
     each_line j line there =
         go (is.sources j (let less = slice_get_within (lines_in outermost new) j line there in let count = lines_in_count outermost new in omega arith))
       where
-        go : HasSource refs blocks is.places new j → IsLineOfTerms line
+        go : HasSource refs given blocks is.places new j → IsLineOfTerms line
         go (from_proof i none own from) =
-            line_terms j line (looked_at refs i) there from.looks (judged_terms (looked_at refs i) (judged_at Mode.Strict proof i) (judged_stands s v refs proof old_stand Mode.Strict i))
+            line_terms j line (looked_with given refs i) there from.looks
+            (judged_terms (looked_with given refs i) (with_index (index_for given refs i) (judged_at Mode.Strict proof i))
+            (judged_stands_with s v refs proof old_stand Mode.Strict i (index_for given refs i)))
         go (from_block i number block a e at below from) =
             let h = (strict i block e).added number a at below in
             line_terms j line (looked_of refs block (own_anchors refs i) a) there from.looks (judged_terms (looked_of refs block (own_anchors refs i) a) h.judged h.stands)

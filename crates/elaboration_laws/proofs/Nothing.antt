@@ -1,5 +1,5 @@
 -- Nothing is added to a proof.
-use Rattle.std.proofs.Common.{◌≡◌, ◌<◌, ◌-◌, inl, ℕ, zero, suc, List, [], length, slice_get, Some, replicate, sym, subst}
+use Rattle.std.proofs.Common.{◌≡◌, ◌<◌, ◌-◌, inl, ℕ, zero, suc, List, [], length, slice_get, Some, replicate, sym, subst, refl}
 use Rattle.std.proofs.lemmas.Option.{slice_get_within}
 use Rattle.std.proofs.lemmas.List.{length-replicate}
 use Rattle.term_model.proofs.Basics.{same_some}
@@ -31,9 +31,9 @@ none_are_blocks refs = record {
 }
 
 pub none_are_strict : (s : Table) (v : TermsView) (c : Checking) (refs : ProofItems ℕ ℕ) (proof : ProofItems Var Term) → ((i : ℕ) → i < commands_in refs → PassesStrictly c proof i)
-    → AreStrictBlocks s v c refs proof (replicate (commands_in refs) [])
+    → AreStrictBlocks s v c refs proof [] (replicate (commands_in refs) [])
 none_are_strict s v c refs proof pass i block e = record {
-  kept = λ none. pass i (subst (λ n. i < n) (length-replicate {A = List AddedStep} (commands_in refs) []) (slice_get_within (replicate (commands_in refs) []) i block e));
+  kept = λ none. inl (refl, pass i (subst (λ n. i < n) (length-replicate {A = List AddedStep} (commands_in refs) []) (slice_get_within (replicate (commands_in refs) []) i block e)));
   added = λ number a at below. absurd (none_in (commands_in refs) i number block a e at);
   last = λ a at. absurd (none_in (commands_in refs) i (length block - 1) block a e at);
 }

@@ -65,6 +65,7 @@ module _ (s : Table) (v : TermsView) (known : IsOneToOne v.pass) (one_term : (a 
       let premises = one_list x.premises j.premises k.premises h.premises g.premises in
       let pivots = one_pivots x.pivots j.pivots k.pivots h.pivots g.pivots in
       let ratios = sym h.ratios ∙ g.ratios in
+      let index = sym h.index ∙ g.index in
       let anchors = one_anchors x.anchors j.anchors k.anchors h.anchors g.anchors in
       λ i. record {
         mode = mode i;
@@ -73,5 +74,6 @@ module _ (s : Table) (v : TermsView) (known : IsOneToOne v.pass) (one_term : (a 
         premises = premises i;
         pivots = pivots i;
         ratios = ratios i;
+        index = index i;
         anchors = anchors i;
       }

@@ -15,6 +15,7 @@ use Rattle.term_pool.specs.Views.{TermsView, ReferToAll}
 use Rattle.proof_store.specs.AddedSteps.{AddedStep}
 use Rattle.proof_store.specs.Meaning.{StandForItems}
 use Rattle.proof_store.proofs.MeaningLemmas.{commands_same}
+use Rattle.rule_model.specs.declared.index_arg.IndexArg.{IndexArg}
 use Rattle.rule_model.specs.declared.kinds.Kind.{Kind}
 use Rattle.rule_model.specs.declared.rules.Mode.{Mode}
 use Rattle.rule_model.specs.declared.rules.Rule.{Rule}
@@ -33,6 +34,7 @@ use Rattle.rule_model.proofs.LineReading.{scope_is}
 use Rattle.elaborator.specs.Assembled.{IsAssembled}
 use Rattle.elaborator.specs.Blocks.{standing, IsAddedStep, IsAddedAssume, AreBlocksOf}
 use Rattle.elaborator.specs.Sources.{Looked, looked_at, looked_of, own_anchors, IsAt, IsFrom, IsScopeAlike, IsInItsPlace, HasSource, from_proof, from_block, from_last}
+use Rattle.elaborator.specs.Sources.{looked_with}
 use Rattle.elaborator.proofs.AddedRules.{judged_no_assume}
 use Rattle.elaborator.proofs.AddedSources.{own_number}
 use Rattle.elaborator.proofs.ClosedOnce.{closed_above}
@@ -85,8 +87,8 @@ with_by Rule.Let premises proof new i j k alike same h =
 with_by rule premises proof new i j k alike same h = absurd h
 
 module _ (s : Table) (v : TermsView) (known : IsOneToOne v.pass) (one_term : (a : Tree) (t u : Term) → StandsFor s a t → StandsFor s a u → t ≡ u) (c : Checking)
-    (refs new : ProofItems ℕ ℕ) (proof terms : ProofItems Var Term) (blocks : List (List AddedStep)) (old_stand : StandForItems s v refs proof) (blocks_are : AreBlocksOf refs blocks)
-    (is : IsAssembled refs blocks new) (new_stand : StandForItems s v new terms) (strict : AreStrictBlocks s v c refs proof blocks) where
+    (refs new : ProofItems ℕ ℕ) (proof terms : ProofItems Var Term) (given : List IndexArg) (blocks : List (List AddedStep)) (old_stand : StandForItems s v refs proof) (blocks_are : AreBlocksOf refs blocks)
+    (is : IsAssembled refs given blocks new) (new_stand : StandForItems s v new terms) (strict : AreStrictBlocks s v c refs proof given blocks) where
   -- what stands at a new index has the clause of the command
   same_clause : (i p : ℕ) → IsAt is.places i p → clause_at terms p ≡ clause_at proof i
   same_clause i p at =
@@ -109,14 +111,14 @@ module _ (s : Table) (v : TermsView) (known : IsOneToOne v.pass) (one_term : (a 
       rule_is : (x : Looked) → looked_at new m ≡ x → is_assume x.rule ≡ true
       rule_is x same = sym (ap is_assume (rule_there m x same)) ∙ h.assume
 
-      go : HasSource refs blocks is.places new m → (n : ℕ) × IsAt is.places n m × IsAssumeIn proof i k n
+      go : HasSource refs given blocks is.places new m → (n : ℕ) × IsAt is.places n m × IsAssumeIn proof i k n
       go (from_proof n none own from) = (
         n,
         own.place,
         record {
           before = elim (cases_lt n i) [ inl x ↦ x | inr y ↦ absurd (too_late n own.place (eq-or-lt_of_le y)) ];
           scope = sym (scope_same s v refs proof old_stand n) ∙ (sym from.scope_is ∙ (scope_same s v new terms new_stand m ∙ h.scope));
-          assume = ap is_assume (sym (rule_same s v refs proof old_stand n)) ∙ rule_is (looked_at refs n) from.looks;
+          assume = ap is_assume (sym (rule_same s v refs proof old_stand n)) ∙ rule_is (looked_with given refs n) from.looks;
         },
       )
         where
@@ -182,11 +184,10 @@ module _ (s : Table) (v : TermsView) (known : IsOneToOne v.pass) (one_term : (a 
         scope : IsScopeAlike refs new is.places k
         scope = own.scope k closes_old
 
-  -- a command for which nothing is added
-  kept_passes : (i j : ℕ) → slice_get blocks i ≡ Some [] → IsInItsPlace refs new is.places i j → IsFrom new j (looked_at refs i) (scope_at refs i) (closes_at refs i) → j < commands_in new
-      → PassesStrictly c terms j
-  kept_passes i j none own from less =
-      let old = (strict i [] none).kept refl in
+  -- a command for which nothing is added and which keeps its index argument
+  own_passes : (i j : ℕ) → slice_get blocks i ≡ Some [] → IsInItsPlace refs new is.places i j → IsFrom new j (looked_at refs i) (scope_at refs i) (closes_at refs i) → j < commands_in new
+      → PassesStrictly c proof i → PassesStrictly c terms j
+  own_passes i j none own from less old =
       record {
         status = old.status;
         passes = old.passes;
@@ -284,10 +285,20 @@ module _ (s : Table) (v : TermsView) (known : IsOneToOne v.pass) (one_term : (a 
               (subst (λ y. AllZip (ReferToAll s v) y (premise_clauses terms j)) (ap (λ (y : Looked). y.premises) from.looks)
               ((judged_stands s v new terms new_stand Mode.Strict j).premises)) h.stand
 
+  -- or which gets another
+  kept_passes : (i j : ℕ) → slice_get blocks i ≡ Some [] → IsInItsPlace refs new is.places i j
+      → IsFrom new j (looked_with given refs i) (scope_at refs i) (closes_at refs i) → j < commands_in new → PassesStrictly c terms j
+  kept_passes i j none own from less = elim ((strict i [] none).kept refl) [
+    | inl old ↦ own_passes i j none own
+        (subst (λ k. IsFrom new j (record (looked_at refs i) { index = k }) (scope_at refs i) (closes_at refs i)) old.0 from) less old.1
+    | inr other ↦ step_passes j (looked_with given refs i) from.looks
+        (sym (closes_same s v new terms new_stand j) ∙ (from.closes_is ∙ other.open_scope)) other.judged other.strict
+  ]
+
   each_passes : (j : ℕ) → j < commands_in new → PassesStrictly c terms j
   each_passes j less = go (is.sources j less)
     where
-      go : HasSource refs blocks is.places new j → PassesStrictly c terms j
+      go : HasSource refs given blocks is.places new j → PassesStrictly c terms j
       go (from_proof i none own from) = kept_passes i j none own from less
       go (from_last i block a e at own from) = last_passes i j block a e at own from less
       go (from_block i number block a e at below from) =

@@ -1,5 +1,5 @@
 -- Cited by crates above. What a proof over references has at an index stands for what the proof over terms has there.
-use Rattle.std.proofs.Common.{◌≡◌, ℕ, List, [], ◌∷◌, ◌++◌, map, None, subst}
+use Rattle.std.proofs.Common.{◌≡◌, ℕ, List, [], ◌∷◌, ◌++◌, map, None, subst, refl}
 use Rattle.std.specs.List.{AllZip}
 use Rattle.sym_table.specs.Table.{Table}
 use Rattle.term_model.proofs.Zips.{zip_append}
@@ -7,14 +7,16 @@ use Rattle.term_model.specs.Terms.{Var, Term}
 use Rattle.term_pool.specs.Bindings.{IsBindingOf}
 use Rattle.term_pool.specs.Views.{TermsView, ReferToAll}
 use Rattle.proof_store.specs.Meaning.{IsPivotOf, StandForItems, no_items_stand, assume_stands, step_stands, subproof_stands}
-use Rattle.proof_store.proofs.MeaningLemmas.{IsEntryOf, IsScopeOf, zip_same, zip_related, entries_stand, scopes_stand, same_rule, same_premises, same_discharged, same_ratios, same_clause, same_pivots}
+use Rattle.proof_store.proofs.MeaningLemmas.{IsEntryOf, IsScopeOf, zip_same, zip_related, entries_stand, scopes_stand, same_rule, same_premises, same_discharged, same_ratios, same_index, same_clause, same_pivots}
+use Rattle.rule_model.specs.LeastIndices.{with_index}
+use Rattle.rule_model.specs.declared.index_arg.IndexArg.{IndexArg}
 use Rattle.rule_model.specs.declared.rules.Mode.{Mode}
 use Rattle.rule_model.specs.declared.rules.Rule.{Rule}
 use Rattle.rule_model.specs.Commands.{Line, lines_in, scopes}
 use Rattle.rule_model.specs.Judged.{open_anchors, anchors_at, judged_at}
 use Rattle.rule_model.specs.Proofs.{ProofItems}
-use Rattle.rule_model.specs.Reading.{rule_of, clause_of, premises_of, discharged_of, pivots_of, ratios_of}
-use Rattle.rule_model.specs.Reading.{rule_at, clause_at, premises_at, discharged_at, pivots_at, ratios_at, scope_at, closes_at, bindings_at, last_inside_at}
+use Rattle.rule_model.specs.Reading.{rule_of, clause_of, premises_of, discharged_of, pivots_of, ratios_of, index_arg_of}
+use Rattle.rule_model.specs.Reading.{rule_at, clause_at, premises_at, discharged_at, pivots_at, ratios_at, index_arg_at, scope_at, closes_at, bindings_at, last_inside_at}
 use Rattle.rule_model.specs.Scopes.{Nesting, outermost, inner}
 use Rattle.elaborator.specs.Sources.{looked_at}
 use Rattle.elaboration_laws.specs.StrictBlocks.{AnchorsStand, StandsForJudged}
@@ -45,6 +47,11 @@ module _ (s : Table) (v : TermsView) where
 
     ratios_same : (i : ℕ) → ratios_at refs i ≡ ratios_at proof i
     ratios_same i = zip_same (IsEntryOf s v) (λ e. ratios_of e.command) (λ e. ratios_of e.command) None (same_ratios s v) _ _ i (entries_stand s v refs proof h)
+
+    pub index_same : (i : ℕ) → index_arg_at refs i ≡ index_arg_at proof i
+    index_same i =
+        zip_same (IsEntryOf s v) (λ e. index_arg_of e.command) (λ e. index_arg_of e.command) IndexArg.Free (same_index s v) _ _ i
+        (entries_stand s v refs proof h)
 
     pub scope_same : (i : ℕ) → scope_at refs i ≡ scope_at proof i
     scope_same i = zip_same (IsEntryOf s v) (λ e. e.scope) (λ e. e.scope) 0 (λ e f k. k.scope) _ _ i (entries_stand s v refs proof h)
@@ -83,5 +90,20 @@ module _ (s : Table) (v : TermsView) where
       premises = subst (λ js. AllZip (ReferToAll s v) (map (clause_at refs) (premises_at refs i)) (map (clause_at proof) js)) (premises_same i) (clauses_stand (premises_at refs i));
       pivots = pivots_stand i;
       ratios = ratios_same i;
+      index = index_same i;
       anchors = anchors_stand i;
     }
+
+    -- the same with another index argument
+    pub judged_stands_with : (mode : Mode) (i : ℕ) (index : IndexArg)
+        → StandsForJudged s v (record (looked_at refs i) { index = index }) (with_index index (judged_at mode proof i))
+    judged_stands_with mode i index =
+        let h = judged_stands mode i in record {
+          rule = h.rule;
+          clause = h.clause;
+          premises = h.premises;
+          pivots = h.pivots;
+          ratios = h.ratios;
+          index = refl;
+          anchors = h.anchors;
+        }

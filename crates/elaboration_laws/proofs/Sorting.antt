@@ -14,6 +14,7 @@ use Rattle.term_pool.specs.Views.{TermsView, ReferToAll}
 use Rattle.proof_store.specs.AddedSteps.{AddedStep}
 use Rattle.proof_store.specs.Meaning.{StandForItems}
 use Rattle.proof_store.proofs.MeaningLemmas.{commands_same}
+use Rattle.rule_model.specs.declared.index_arg.IndexArg.{IndexArg}
 use Rattle.rule_model.specs.declared.rules.Mode.{Mode}
 use Rattle.rule_model.specs.Commands.{Line, lines_in, closed_scope}
 use Rattle.rule_model.specs.Contexts.{IsClosedUnder}
@@ -110,8 +111,8 @@ pub literals_at : (proof : ProofItems Var Term) (i : ℕ) → i < commands_in pr
 literals_at proof i less h = (sorted_at proof i less h).0
 
 module _ (s : Table) (v : TermsView) (known : IsOneToOne v.pass) (one_term : (a : Tree) (t u : Term) → StandsFor s a t → StandsFor s a u → t ≡ u) (c : Checking)
-    (refs new : ProofItems ℕ ℕ) (proof terms : ProofItems Var Term) (blocks : List (List AddedStep)) (old_stand : StandForItems s v refs proof) (blocks_are : AreBlocksOf refs blocks)
-    (is : IsAssembled refs blocks new) (new_stand : StandForItems s v new terms) (fitting : AreFittingBlocks s v c refs proof blocks) where
+    (refs new : ProofItems ℕ ℕ) (proof terms : ProofItems Var Term) (given : List IndexArg) (blocks : List (List AddedStep)) (old_stand : StandForItems s v refs proof) (blocks_are : AreBlocksOf refs blocks)
+    (is : IsAssembled refs given blocks new) (new_stand : StandForItems s v new terms) (fitting : AreFittingBlocks s v c refs proof blocks) where
   within_old : (i : ℕ) (block : List AddedStep) → slice_get blocks i ≡ Some block → i < commands_in proof
   within_old i block e =
       let less = slice_get_within blocks i block e in
@@ -139,7 +140,7 @@ module _ (s : Table) (v : TermsView) (known : IsOneToOne v.pass) (one_term : (a 
   each_sorted : IsWellSortedProof proof → (j : ℕ) → j < commands_in new → SortedAt terms j
   each_sorted sorted j less = go (is.sources j less)
     where
-      go : HasSource refs blocks is.places new j → SortedAt terms j
+      go : HasSource refs given blocks is.places new j → SortedAt terms j
       go (from_proof i none own from) = in_place_sorted i j [] none own (ap (λ (x : Looked). x.anchors) from.looks) from.closes_is sorted
       go (from_last i block a e at own from) = in_place_sorted i j block e own (ap (λ (x : Looked). x.anchors) from.looks) from.closes_is sorted
       go (from_block i number block a e at below from) =

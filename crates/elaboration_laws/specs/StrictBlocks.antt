@@ -1,6 +1,6 @@
 -- Public. What is asked of added steps, over terms, for the assembled proof to be Ok in strict mode: each meets the condition of
 -- its rule by its record. And what is asked of commands for which nothing is added.
-use Rattle.std.specs.Prelude.{◌≡◌, ◌<◌, ◌≤◌, ◌+◌, ◌*◌, ◌-◌, ℕ, Bool, true, false, List, [], map, length, slice_get, Option, Some, None, All, Contains}
+use Rattle.std.specs.Prelude.{◌≡◌, ◌<◌, ◌≤◌, ◌+◌, ◌*◌, ◌-◌, ◌⊎◌, ℕ, Bool, true, false, List, [], map, length, slice_get, Option, Some, None, All, Contains}
 use Rattle.std.specs.List.{AllZip, AllByRecursion}
 use Rattle.sym_table.specs.Table.{Table}
 use Rattle.term_model.specs.declared.symbols.Sort.{Sort}
@@ -12,6 +12,7 @@ use Rattle.term_pool.specs.Bindings.{IsBindingOf}
 use Rattle.term_pool.specs.Views.{TermsView, ReferToAll}
 use Rattle.proof_store.specs.AddedSteps.{AddedStep}
 use Rattle.proof_store.specs.Meaning.{IsPivotOf}
+use Rattle.rule_model.specs.declared.index_arg.IndexArg.{IndexArg}
 use Rattle.rule_model.specs.declared.rules.Mode.{Mode}
 use Rattle.rule_model.specs.declared.rules.Rule.{Rule}
 use Rattle.rule_model.specs.declared.statuses.Status.{Status}
@@ -21,11 +22,12 @@ use Rattle.rule_model.specs.Contexts.{IsClosedUnder}
 use Rattle.rule_model.specs.Elaboration.{IsLowProof}
 use Rattle.rule_model.specs.Judged.{Judged, anchors_at}
 use Rattle.rule_model.specs.Proofs.{ProofItems}
-use Rattle.rule_model.specs.Reading.{bindings_at, closes_at, is_assume}
+use Rattle.rule_model.specs.Reading.{bindings_at, closes_at, index_arg_at, is_assume, rule_at}
+use Rattle.rule_model.specs.RuleNames.{kind_of, IsJudged}
 use Rattle.rule_model.specs.Statuses.{Checking, IsStatusAt, Passes}
 use Rattle.rule_model.specs.Subproof.{IsSubproof, IsLetClosing, AreLinkedTo}
 use Rattle.rule_model.specs.Truth.{IsWellSortedProof}
-use Rattle.elaborator.specs.Sources.{Looked, looked_of, own_anchors}
+use Rattle.elaborator.specs.Sources.{Looked, index_for, looked_at, looked_of, own_anchors}
 
 -- what anchors bind over references stands for what they bind over terms
 abbrev pub AnchorsStand : Table → TermsView → List (List (ℕ × ℕ)) → List (List (Var × Term)) → Type 0
@@ -38,6 +40,7 @@ pub record StandsForJudged (s : Table) (v : TermsView) (x : Looked) (j : Judged)
   pub premises : AllZip (ReferToAll s v) x.premises j.premises
   pub pivots : AllZip (IsPivotOf s v) x.pivots j.pivots
   pub ratios : x.ratios ≡ j.ratios
+  pub index : x.index ≡ j.index
   pub anchors : AnchorsStand s v x.anchors j.anchors
 
 -- an assume's term is an assertion; of any other step the numbers are not too wide, and it meets the condition of its rule
@@ -77,19 +80,29 @@ pub record PassesStrictly (c : Checking) (proof : ProofItems Var Term) (i : ℕ)
   pub passes : Passes status
   pub is : IsStatusAt (checking_in Mode.Strict c) proof i status
 
--- Where nothing is added for the command of index i, it is Ok or a hole in strict mode, and each step that is added for it is Ok there
--- by its record.
+-- The step of an index is by a rule that has a condition and closes nothing, and with this index argument it is Ok in strict mode.
+pub record PassesWith (s : Table) (v : TermsView) (c : Checking) (refs : ProofItems ℕ ℕ) (i : ℕ) (index : IndexArg) : Type 0 where
+  pub judged : IsJudged (kind_of (rule_at refs i))
+  pub open_scope : closes_at refs i ≡ None
+  pub strict : IsStrictStep s v c (record (looked_at refs i) { index = index })
+
+-- A command for which nothing is added is Ok or a hole in strict mode, as it is, or with the index argument that it gets.
+abbrev pub IsKeptStrictly : Table → TermsView → Checking → ProofItems ℕ ℕ → ProofItems Var Term → ℕ → IndexArg → Type 0
+IsKeptStrictly s v c refs proof i index = ((index ≡ index_arg_at refs i) × PassesStrictly c proof i) ⊎ PassesWith s v c refs i index
+
+-- Where nothing is added for the command of index i, it is Ok or a hole in strict mode with the index argument that it gets, and each
+-- step that is added for it is Ok there by its record.
 pub record IsStrictBlock (s : Table) (v : TermsView) (c : Checking) (refs : ProofItems ℕ ℕ) (proof : ProofItems Var Term) (i : ℕ)
-    (block : List AddedStep) : Type 0 where
-  pub kept : block ≡ [] → PassesStrictly c proof i
+    (index : IndexArg) (block : List AddedStep) : Type 0 where
+  pub kept : block ≡ [] → IsKeptStrictly s v c refs proof i index
   pub added : (number : ℕ) (a : AddedStep) → slice_get block number ≡ Some a → number + 1 < length block →
       IsStrictStep s v c (looked_of refs block (own_anchors refs i) a)
   pub last : (a : AddedStep) → slice_get block (length block - 1) ≡ Some a →
       ReplacesStrictly s v c proof (looked_of refs block (anchors_at refs i) a) i (closes_at proof i)
 
-abbrev pub AreStrictBlocks : Table → TermsView → Checking → ProofItems ℕ ℕ → ProofItems Var Term → List (List AddedStep) → Type 0
-AreStrictBlocks s v c refs proof blocks =
-    (i : ℕ) (block : List AddedStep) → slice_get blocks i ≡ Some block → IsStrictBlock s v c refs proof i block
+abbrev pub AreStrictBlocks : Table → TermsView → Checking → ProofItems ℕ ℕ → ProofItems Var Term → List IndexArg → List (List AddedStep) → Type 0
+AreStrictBlocks s v c refs proof given blocks =
+    (i : ℕ) (block : List AddedStep) → slice_get blocks i ≡ Some block → IsStrictBlock s v c refs proof i (index_for given refs i) block
 
 -- a literal where these anchors are open: a term of Bool in which no variable stands free but those that they bind
 abbrev pub MayBeLiteral : List (List (Var × Term)) → Term → Type 0

@@ -7,6 +7,7 @@ ghost use Rattle.elaboration_laws.specs.StrictBlocks.{AnchorsStand, AreFittingBl
 ghost use Rattle.pair_pool.specs.Views.{IsOneToOne};
 ghost use Rattle.proof_store.specs.AddedSteps.{AddedStep};
 ghost use Rattle.proof_store.specs.Meaning.{StandForItems, IsMeant};
+ghost use Rattle.rule_model.specs.declared.index_arg.IndexArg.{IndexArg};
 ghost use Rattle.rule_model.specs.declared.rules.Mode.{Mode};
 ghost use Rattle.rule_model.specs.declared.statuses.Status.{Status};
 ghost use Rattle.rule_model.specs.Columns.{checking_in};
@@ -27,25 +28,25 @@ use term_pool::trees_of_terms;
 /// proof stands for a proof over terms. That one is well formed, and keeps each command of the other as an elaboration does.
 pub fn assembled_proofs_are_meant()
     ensures some { (s : Table) (v : TermsView) (c : Checking) (refs new : ProofItems ℕ ℕ) (proof : ProofItems Var Term)
-        (blocks : List (List AddedStep)) → StandForItems s v refs proof → AreBlocksOf refs blocks →
-        IsAssembled refs blocks new → AreStrictBlocks s v c refs proof blocks → IsMeant s v new }
+        (given : List IndexArg) (blocks : List (List AddedStep)) → StandForItems s v refs proof → AreBlocksOf refs blocks →
+        IsAssembled refs given blocks new → AreStrictBlocks s v c refs proof given blocks → IsMeant s v new }
     ensures formed { (s : Table) (v : TermsView) (refs new : ProofItems ℕ ℕ) (terms : ProofItems Var Term)
-        (blocks : List (List AddedStep)) → IsTable s → IsAssembled refs blocks new → StandForItems s v new terms →
+        (given : List IndexArg) (blocks : List (List AddedStep)) → IsTable s → IsAssembled refs given blocks new → StandForItems s v new terms →
         IsWellFormed terms }
     ensures kept { (s : Table) (v : TermsView) (c : Checking) (refs new : ProofItems ℕ ℕ) (proof terms : ProofItems Var Term)
-        (blocks : List (List AddedStep)) → IsTable s → IsOneToOne v.pass → StandForItems s v refs proof →
-        IsAssembled refs blocks new → StandForItems s v new terms → Keeps c outermost proof outermost terms }
+        (given : List IndexArg) (blocks : List (List AddedStep)) → IsTable s → IsOneToOne v.pass → StandForItems s v refs proof →
+        IsAssembled refs given blocks new → StandForItems s v new terms → Keeps c outermost proof outermost terms }
 {
     trees_of_terms();
     proofs_stand_for_one();
 }
 
-/// Where each command for which nothing is added is Ok or a hole in strict mode, and each added step is Ok there by its record,
-/// every command of the assembled proof is Ok or a hole in strict mode.
+/// Where each command for which nothing is added is Ok or a hole in strict mode with the index argument that it gets, and each added step
+/// is Ok there by its record, every command of the assembled proof is Ok or a hole in strict mode.
 pub fn assembled_proofs_pass()
     ensures { (s : Table) (v : TermsView) (c : Checking) (refs new : ProofItems ℕ ℕ) (proof terms : ProofItems Var Term)
-        (blocks : List (List AddedStep)) → IsTable s → IsOneToOne v.pass → StandForItems s v refs proof → AreBlocksOf refs blocks →
-        IsAssembled refs blocks new → StandForItems s v new terms → AreStrictBlocks s v c refs proof blocks →
+        (given : List IndexArg) (blocks : List (List AddedStep)) → IsTable s → IsOneToOne v.pass → StandForItems s v refs proof → AreBlocksOf refs blocks →
+        IsAssembled refs given blocks new → StandForItems s v new terms → AreStrictBlocks s v c refs proof given blocks →
         (statuses : List Status) × AreStatuses (checking_in Mode.Strict c) terms statuses × All Passes statuses }
 {
     trees_of_terms();
@@ -56,8 +57,8 @@ pub fn assembled_proofs_pass()
 /// is kept, as `elaborations_keep_verdicts` of `rule_model` says.
 pub fn assembled_proofs_are_elaborations()
     ensures { (s : Table) (v : TermsView) (c : Checking) (refs new : ProofItems ℕ ℕ) (proof terms : ProofItems Var Term)
-        (blocks : List (List AddedStep)) → IsTable s → IsOneToOne v.pass → StandForItems s v refs proof → AreBlocksOf refs blocks →
-        IsAssembled refs blocks new → StandForItems s v new terms → AreStrictBlocks s v c refs proof blocks →
+        (given : List IndexArg) (blocks : List (List AddedStep)) → IsTable s → IsOneToOne v.pass → StandForItems s v refs proof → AreBlocksOf refs blocks →
+        IsAssembled refs given blocks new → StandForItems s v new terms → AreStrictBlocks s v c refs proof given blocks →
         AreFittingBlocks s v c refs proof blocks → IsElaboration c proof terms }
 {
     trees_of_terms();
@@ -70,7 +71,7 @@ pub fn nothing_need_be_added()
     ensures blocks { (refs : ProofItems ℕ ℕ) → AreBlocksOf refs (replicate (commands_in refs) []) }
     ensures strict { (s : Table) (v : TermsView) (c : Checking) (refs : ProofItems ℕ ℕ) (proof : ProofItems Var Term) →
         ((i : ℕ) → i < commands_in refs → PassesStrictly c proof i) →
-        AreStrictBlocks s v c refs proof (replicate (commands_in refs) []) }
+        AreStrictBlocks s v c refs proof [] (replicate (commands_in refs) []) }
     ensures fitting { (s : Table) (v : TermsView) (c : Checking) (refs : ProofItems ℕ ℕ) (proof : ProofItems Var Term) →
         AreFittingBlocks s v c refs proof (replicate (commands_in refs) []) }
 {}

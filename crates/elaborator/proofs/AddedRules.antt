@@ -89,4 +89,5 @@ added_rule places start a id discharged judged pivots = record {
   pivots = pivots;
   ratios = inr refl;
   lowest = tt;
+  index = inr refl;
 }

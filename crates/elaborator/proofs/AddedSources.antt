@@ -73,7 +73,7 @@ module _ (job : Job) (is : IsJob job) (i : ℕ) (l : Line ℕ ℕ) (there : slic
         let count = is.blocks.count in
         line_of_block i m block a (block_there job.blocks i (omega arith)) (front_get block m a e) (omega arith) (record {
           looks = looks_added (lines_to t.builder) s.places job.proof (told_on s t (extended_grows (front block) s t ext) job reached.told s.places refl) block (next_index s.builder) m (omega arith) news
-              a line (own_anchors job.proof i) w.rule w.clause_is w.premises w.pivots w.ratios (found (by_last job is i l there)) anchored;
+              a line (own_anchors job.proof i) w.rule w.clause_is w.premises w.pivots w.ratios w.index (found (by_last job is i l there)) anchored;
           own = w.own ∙ (reached.number ∙ (ap (λ (x : Scope ℕ ℕ). scope_number x.nesting) (sym same) ∙ (own_number l l.command ∙ sym (scope_is job.proof i l there))));
           closing = w.closes;
         })

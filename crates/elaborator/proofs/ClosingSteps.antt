@@ -28,7 +28,7 @@ use Rattle.elaborator.specs.Links.{IsWithin, target}
 use Rattle.elaborator.specs.Names.{name_of}
 use Rattle.elaborator.specs.Reached.{State, one_more, placed, IsPlacedIn, Job, IsJob, IsOpened, AreAround, IsReached, IsAtLine, written_to, IsLevel}
 use Rattle.elaborator.specs.Reached.{IsTold, LooksAs, IsLineFrom, IsLineInPlace, LineSource, line_of_proof, line_of_last}
-use Rattle.elaborator.specs.Sources.{Looked, looked_at, looked_of, IsAt, AreAt}
+use Rattle.elaborator.specs.Sources.{Looked, looked_with, looked_of, IsAt, AreAt, index_for}
 use Rattle.elaborator.specs.Steps.{added_step, kept_step, front, block_at, last_of, step_in_place, IsInPlace}
 use Rattle.elaborator.proofs.AddedRules.{added_rule}
 use Rattle.elaborator.proofs.Closing.{IsClosing, has_id, discharged_seen, zip, v, grows, reached_closed, in_step}
@@ -36,7 +36,7 @@ use Rattle.elaborator.proofs.Levels.{Grows, at_more, same_anchors}
 use Rattle.elaborator.proofs.OldLines.{index_is, written_next, line_closes}
 use Rattle.elaborator.proofs.Rooms.{closer_of_line, front_length, room_inside}
 use Rattle.elaborator.proofs.Seeing.{index_of_get}
-use Rattle.elaborator.proofs.Sourcing.{all_at_places, found_may, looks_added, looks_kept, told_more, told_on}
+use Rattle.elaborator.proofs.Sourcing.{all_at_places, found_may, looks_added, looks_kept, told_more, told_on, given_fits}
 use Rattle.elaborator.proofs.InPlace.{block_there, get_front, moved_step, kept_is_moved, moved_rule, moved_takes, added_takes, all_within, all_seen, all_placed_in, added_judged, by_last, within}
 
 true_false : true ≡ false → ⊥
@@ -98,9 +98,9 @@ module _ (job : Job) (is : IsJob job) (i k : ℕ) (s : State) where
 pub record IsClosed (job : Job) (i : ℕ) (s : State) (o : Opened) : Type 0 where
   pub in_place : IsInPlace s.places job.proof i o.start (last_of (block_at job.blocks i))
   pub discharged : All (λ j. j < length s.places) (discharged_at job.proof i)
-  pub may : MayTake s.builder (step_in_place s.places job.proof i o.start (last_of (block_at job.blocks i)) (name_of o.name) (map (slice_index s.places) (discharged_at job.proof i)))
+  pub may : MayTake s.builder (step_in_place s.places job.given job.proof i o.start (last_of (block_at job.blocks i)) (name_of o.name) (map (slice_index s.places) (discharged_at job.proof i)))
   pub reached : IsReached job (written_to job.proof (i + 1)) (placed (next_index s.builder)
-      (one_more (take_step s.builder (step_in_place s.places job.proof i o.start (last_of (block_at job.blocks i)) (name_of o.name) (map (slice_index s.places) (discharged_at job.proof i)))) s))
+      (one_more (take_step s.builder (step_in_place s.places job.given job.proof i o.start (last_of (block_at job.blocks i)) (name_of o.name) (map (slice_index s.places) (discharged_at job.proof i)))) s))
 
 module _ (job : Job) (is : IsJob job) (i : ℕ) (s : State) (h : IsClosing job i s) where
   abbrev old_line : Line ℕ ℕ
@@ -205,9 +205,9 @@ module _ (job : Job) (is : IsJob job) (i : ℕ) (s : State) (h : IsClosing job i
         number_is : (k : ℕ) → closes_at job.proof i ≡ Some k → scope_number (inside h.old_around h.old_before h.old_anchor) ≡ k
         number_is k e = same_some (sym (closes_is job.proof i _ h.there) ∙ e)
 
-    kept_source : block_at job.blocks i ≡ [] → LooksAs (lines_to u.builder) (closing_line new) (looked_at job.proof i) → LineSource job u.places (lines_to u.builder) p_now (closing_line new)
+    kept_source : block_at job.blocks i ≡ [] → LooksAs (lines_to u.builder) (closing_line new) (looked_with job.given job.proof i) → LineSource job u.places (lines_to u.builder) p_now (closing_line new)
     kept_source empty looks =
-        line_of_proof i (block_is ∙ ap (λ (b : List AddedStep). Some b) empty) in_its_place (from_old (looked_at job.proof i) looks)
+        line_of_proof i (block_is ∙ ap (λ (b : List AddedStep). Some b) empty) in_its_place (from_old (looked_with job.given job.proof i) looks)
 
     last_source : (b : IsBlockOf old_line (block_at job.blocks i)) → new ≡ added_step s.places h.opened.opened.start b.last new.id new.discharged
         → LineSource job u.places (lines_to u.builder) p_now (closing_line new)
@@ -217,7 +217,7 @@ module _ (job : Job) (is : IsJob job) (i : ℕ) (s : State) (h : IsClosing job i
         line_of_last i block b.last block_is b.is_last in_its_place (from_old (looked_of job.proof block (anchors_at job.proof i) b.last)
         (looks_added (lines_to u.builder) s.places job.proof told block start (length block - 1) (omega arith) news b.last (closing_line new) (anchors_at job.proof i)
         (ap (λ (x : Step ℕ). x.rule) is_new) (ap (λ (x : Step ℕ). x.clause) is_new) (ap (λ (x : Step ℕ). x.premises) is_new) (ap (λ (x : Step ℕ). x.pivots) is_new)
-        (ap (λ (x : Step ℕ). x.ratios) is_new)
+        (ap (λ (x : Step ℕ). x.ratios) is_new) (ap (λ (x : Step ℕ). x.index) is_new)
         (found_may s.places (visible h.around h.before) (at h.old_around h.old_before) (length block - 1) b.last sees_now (b.each (length block - 1) b.last b.is_last))
         (anchored ∙ sym (anchors_are job.proof i _ h.there))))
       where
@@ -267,27 +267,29 @@ module _ (job : Job) (is : IsJob job) (i : ℕ) (s : State) (h : IsClosing job i
       let o = h.opened.opened in
       let same_discharged = discharged_are job.proof i _ h.there in
       let id : name_of o.name ≡ h.anchor.id = sym h.opened.id in
-      let new = moved_step s.places h.old (name_of o.name) new_discharged in
+      let index_now = index_for job.given job.proof i in
+      let new = moved_step s.places index_now h.old (name_of o.name) new_discharged in
       let premises = all_placed_in s.places (visible h.around h.before) (visible h.old_around h.old_before) h.old.premises sees_now may_old.premises in
-      let both = closed_by new id (λ c. moved_takes c s.places h.old (name_of o.name) new_discharged) refl (record {
-        rule = moved_rule s.places h.old (name_of o.name) new_discharged may_old.rule;
+      let both = closed_by new id (λ c. moved_takes c s.places index_now h.old (name_of o.name) new_discharged) refl (record {
+        rule = moved_rule s.places index_now h.old (name_of o.name) new_discharged may_old.rule
+            (given_fits job.given job.proof i old_line h.old is.given h.there refl may_old.rule);
         premises = all_seen s.places (visible h.around h.before) h.old.premises premises;
         discharged = discharged_now;
-      }) refl (kept_source new id (λ c. moved_takes c s.places h.old (name_of o.name) new_discharged) refl none
-      (looks_kept (lines_to (at h.around (with_subproof h.before h.anchor.bindings h.items new))) s.places job.proof (told new id (λ c. moved_takes c s.places h.old (name_of o.name) new_discharged) refl) i
-      old_line (closing_line new) h.there (record { rule = refl; clause_is = refl; premises = refl; pivots = refl; ratios = refl }) within_old
-      (anchored new id (λ c. moved_takes c s.places h.old (name_of o.name) new_discharged) refl))) in
-      let kept : kept_step s.places job.proof i (name_of o.name) (map (slice_index s.places) (discharged_at job.proof i)) ≡ new =
-      kept_is_moved s.places job.proof i _ h.old h.there refl (name_of o.name) (map (slice_index s.places) (discharged_at job.proof i))
-      ∙ ap (λ ds. moved_step s.places h.old (name_of o.name) (map (slice_index s.places) ds)) same_discharged in
+      }) refl (kept_source new id (λ c. moved_takes c s.places index_now h.old (name_of o.name) new_discharged) refl none
+      (looks_kept (lines_to (at h.around (with_subproof h.before h.anchor.bindings h.items new))) s.places job.proof (told new id (λ c. moved_takes c s.places index_now h.old (name_of o.name) new_discharged) refl) i index_now
+      old_line (closing_line new) h.there (record { rule = refl; clause_is = refl; premises = refl; pivots = refl; ratios = refl; index = refl }) within_old
+      (anchored new id (λ c. moved_takes c s.places index_now h.old (name_of o.name) new_discharged) refl))) in
+      let kept : kept_step s.places job.given job.proof i (name_of o.name) (map (slice_index s.places) (discharged_at job.proof i)) ≡ new =
+      kept_is_moved s.places job.given job.proof i _ h.old h.there refl (name_of o.name) (map (slice_index s.places) (discharged_at job.proof i))
+      ∙ ap (λ ds. moved_step s.places index_now h.old (name_of o.name) (map (slice_index s.places) ds)) same_discharged in
       record {
         in_place = subst (IsInPlace s.places job.proof i o.start) last
             (subst (All (λ j. j < length s.places)) (sym (premises_are job.proof i _ h.there)) within_old);
         discharged = subst (All (λ j. j < length s.places)) (sym same_discharged) discharged_within;
-        may = subst (λ x. MayTake s.builder (step_in_place s.places job.proof i o.start x (name_of o.name) (map (slice_index s.places) (discharged_at job.proof i)))) last
+        may = subst (λ x. MayTake s.builder (step_in_place s.places job.given job.proof i o.start x (name_of o.name) (map (slice_index s.places) (discharged_at job.proof i)))) last
             (subst (MayTake s.builder) (sym kept) both.0);
         reached = subst (λ x. IsReached job (written_to job.proof (i + 1)) (placed (next_index s.builder)
-            (one_more (take_step s.builder (step_in_place s.places job.proof i o.start x (name_of o.name) (map (slice_index s.places) (discharged_at job.proof i)))) s))) last
+            (one_more (take_step s.builder (step_in_place s.places job.given job.proof i o.start x (name_of o.name) (map (slice_index s.places) (discharged_at job.proof i)))) s))) last
             (subst (λ x. IsReached job (written_to job.proof (i + 1)) (placed (next_index s.builder) (one_more (take_step s.builder x) s))) (sym kept) both.1);
       }
 
@@ -314,10 +316,10 @@ module _ (job : Job) (is : IsJob job) (i : ℕ) (s : State) (h : IsClosing job i
       record {
         in_place = subst (IsInPlace s.places job.proof i o.start) last links;
         discharged = subst (All (λ j. j < length s.places)) (sym same_discharged) discharged_within;
-        may = subst (λ x. MayTake s.builder (step_in_place s.places job.proof i o.start x (name_of o.name) (map (slice_index s.places) (discharged_at job.proof i)))) last
+        may = subst (λ x. MayTake s.builder (step_in_place s.places job.given job.proof i o.start x (name_of o.name) (map (slice_index s.places) (discharged_at job.proof i)))) last
             (subst (MayTake s.builder) (sym same) both.0);
         reached = subst (λ x. IsReached job (written_to job.proof (i + 1)) (placed (next_index s.builder)
-            (one_more (take_step s.builder (step_in_place s.places job.proof i o.start x (name_of o.name) (map (slice_index s.places) (discharged_at job.proof i)))) s))) last
+            (one_more (take_step s.builder (step_in_place s.places job.given job.proof i o.start x (name_of o.name) (map (slice_index s.places) (discharged_at job.proof i)))) s))) last
             (subst (λ x. IsReached job (written_to job.proof (i + 1)) (placed (next_index s.builder) (one_more (take_step s.builder x) s))) (sym same) both.1);
       }
 

@@ -250,6 +250,7 @@ extended_more added a s t u h (inl p) few is =
       premises = ap (λ ps. map (target ps (next_index s.builder)) a.premises) h.places;
       pivots = refl;
       ratios = refl;
+      index = refl;
     })
     (λ c. step_added s.builder.nesting s.builder.items t.builder.items written (h.adds c) (no_hole c a.rule p.judged)) h.assumes)
 extended_more added a s t u h (inr p) few is =
@@ -269,6 +270,7 @@ extended_more added a s t u h (inr p) few is =
       premises = ap (map (target s.places (next_index s.builder))) (sym p.premises);
       pivots = sym p.pivots;
       ratios = refl;
+      index = refl;
     })
     (λ c. subst (λ n. Adds c n s.builder.items (with_assume t.builder.items id r)) (sym p.outer)
     (assume_added s.builder.items t.builder.items id r (subst (λ n. Adds c n s.builder.items t.builder.items) p.outer (h.adds c))))

@@ -11,7 +11,7 @@ use Rattle.rule_model.proofs.LineReading.{rule_is, clause_is, premises_are, disc
 use Rattle.rule_model.proofs.Numbers.{lines_in_count}
 use Rattle.elaborator.specs.Reached.{Job, IsTold, LooksAs, IsLineFrom, IsLineInPlace, LineSource, line_of_proof, line_of_block, line_of_last}
 use Rattle.elaborator.specs.Sources.{Looked, looked_at, IsAt, AreAt, IsFrom, IsInItsPlace, HasSource, from_proof, from_block, from_last, AllHaveSources}
-use Rattle.elaborator.proofs.Sourcing.{pivots_are, ratios_are}
+use Rattle.elaborator.proofs.Sourcing.{pivots_are, ratios_are, index_arg_is}
 
 pub told_clause : (new : ProofItems ℕ ℕ) (p : ℕ) (clause : List ℕ) → IsTold (lines_in outermost new) p clause → clause_at new p ≡ clause
 told_clause new p clause h = clause_is new p h.line h.there ∙ h.clause_is
@@ -43,6 +43,7 @@ module _ (job : Job) (places : List ℕ) (new : ProofItems ℕ ℕ) where
         let premises = ap (map (clause_at new)) (premises_are new j line there) ∙ told_clauses (premises_of line.command) x.premises h.premises in
         let pivots = pivots_are new j line there ∙ h.pivots in
         let ratios = ratios_are new j line there ∙ h.ratios in
+        let index = index_arg_is new j line there ∙ h.index in
         let anchors = anchors_are new j line there ∙ h.anchors in
         λ i. record {
           rule = rule i;
@@ -50,6 +51,7 @@ module _ (job : Job) (places : List ℕ) (new : ProofItems ℕ ℕ) where
           premises = premises i;
           pivots = pivots i;
           ratios = ratios i;
+          index = index i;
           anchors = anchors i;
         }
 
@@ -70,13 +72,13 @@ module _ (job : Job) (places : List ℕ) (new : ProofItems ℕ ℕ) where
       };
     }
 
-    has_source : LineSource job places (lines_in outermost new) j line → HasSource job.proof job.blocks places new j
+    has_source : LineSource job places (lines_in outermost new) j line → HasSource job.proof job.given job.blocks places new j
     has_source (line_of_proof i none own from) = from_proof i none (in_its_place i from.closing own) (from_is _ _ _ from)
     has_source (line_of_block i number block a there_is at less from) = from_block i number block a there_is at less (from_is _ _ _ from)
     has_source (line_of_last i block a there_is at own from) = from_last i block a there_is at (in_its_place i from.closing own) (from_is _ _ _ from)
 
   pub all_have_sources : ((k : ℕ) (line : Line ℕ ℕ) → slice_get (lines_in outermost new) k ≡ Some line → LineSource job places (lines_in outermost new) k line)
-      → AllHaveSources job.proof job.blocks places new
+      → AllHaveSources job.proof job.given job.blocks places new
   all_have_sources sources j less =
       let count = lines_in_count outermost new in
       let line = nth_there (lines_in outermost new) j (omega arith) in

@@ -3,17 +3,19 @@ use Rattle.std.proofs.Common.{◌≡◌, ◌<◌, ◌+◌, ◌-◌, ◌^◌, ◌
 use Rattle.std.proofs.lemmas.List.Elements.{All-map, All-weaker, All-contains}
 use Rattle.std.proofs.lemmas.Option.{slice_get_within}
 use Rattle.proof_store.specs.AddedSteps.{AddedStep}
+use Rattle.rule_model.specs.declared.index_arg.IndexArg.{IndexArg}
 use Rattle.rule_model.specs.Commands.{Line, lines_in}
 use Rattle.rule_model.specs.Elaboration.{TakesPlace}
 use Rattle.rule_model.specs.Proofs.{Step, ProofItems}
 use Rattle.rule_model.specs.Reading.{step_of, is_assume}
-use Rattle.rule_model.specs.RuleNames.{kind_of, IsJudged}
+use Rattle.rule_model.specs.RuleNames.{kind_of, IsJudged, takes_index}
 use Rattle.rule_model.specs.Scopes.{outermost, Scope, commands_in, next_index}
 use Rattle.rule_model.specs.Statuses.{Checking}
 use Rattle.rule_model.specs.WellFormed.{HasRule}
 use Rattle.rule_model.proofs.Numbers.{lines_in_count}
 use Rattle.rule_model.proofs.Standing.{slice_get_taken}
 use Rattle.term_model.proofs.Lists.{get_taken}
+use Rattle.elaborator.specs.Sources.{index_for}
 use Rattle.elaborator.specs.Blocks.{standing, IsAddedStep, MayBeAdded, IsBlockOf}
 use Rattle.elaborator.specs.Reached.{State, MayAddHere, IsPlacedIn, Job, IsJob, IsReached, needed_to}
 use Rattle.elaborator.specs.Steps.{kept_step, front, block_at}
@@ -34,8 +36,8 @@ block_there (b ∷ blocks) zero less = refl
 block_there (b ∷ blocks) (suc i) less = block_there blocks i (omega arith)
 
 -- a step of the proof with another id, and premises and discharged assumes at their new indices
-abbrev pub moved_step : List ℕ → Step ℕ → List ℕ → List ℕ → Step ℕ
-moved_step places s id discharged = record {
+abbrev pub moved_step : List ℕ → IndexArg → Step ℕ → List ℕ → List ℕ → Step ℕ
+moved_step places index s id discharged = record {
   id = id;
   rule = s.rule;
   rule_name = s.rule_name;
@@ -44,19 +46,22 @@ moved_step places s id discharged = record {
   discharged = discharged;
   pivots = s.pivots;
   ratios = s.ratios;
+  index = index;
 }
 
-pub kept_is_moved : (places : List ℕ) (proof : ProofItems ℕ ℕ) (i : ℕ) (l : Line ℕ ℕ) (s : Step ℕ) → slice_get (lines_in outermost proof) i ≡ Some l
-    → step_of l.command ≡ s → (id discharged : List ℕ) → kept_step places proof i id discharged ≡ moved_step places s id discharged
-kept_is_moved places proof i l s there same id discharged =
-    (let e = entry_there proof i l there in rw e refl) ∙ ap (λ x. moved_step places x id discharged) same
+pub kept_is_moved : (places : List ℕ) (given : List IndexArg) (proof : ProofItems ℕ ℕ) (i : ℕ) (l : Line ℕ ℕ) (s : Step ℕ) → slice_get (lines_in outermost proof) i ≡ Some l
+    → step_of l.command ≡ s → (id discharged : List ℕ) → kept_step places given proof i id discharged ≡ moved_step places (index_for given proof i) s id discharged
+kept_is_moved places given proof i l s there same id discharged =
+    (let e = entry_there proof i l there in rw e refl) ∙ ap (λ x. moved_step places (index_for given proof i) x id discharged) same
 
-pub moved_rule : (places : List ℕ) (s : Step ℕ) (id discharged : List ℕ) → HasRule s → HasRule (moved_step places s id discharged)
-moved_rule places s id discharged h =
-    record { named = h.named; symbol = h.symbol; kept = h.kept; pivots = h.pivots; ratios = h.ratios; lowest = h.lowest }
+pub moved_rule : (places : List ℕ) (index : IndexArg) (s : Step ℕ) (id discharged : List ℕ) → HasRule s
+    → (takes_index s.rule ≡ true) ⊎ (index ≡ IndexArg.Free) → HasRule (moved_step places index s id discharged)
+moved_rule places index s id discharged h fits =
+    record { named = h.named; symbol = h.symbol; kept = h.kept; pivots = h.pivots; ratios = h.ratios; lowest = h.lowest; index = fits }
 
-pub moved_takes : (c : Checking) (places : List ℕ) (s : Step ℕ) (id discharged : List ℕ) → TakesPlace c s (moved_step places s id discharged)
-moved_takes c places s id discharged = record { clause = refl; hole = λ e. (e, refl); no_hole = λ e. e }
+pub moved_takes : (c : Checking) (places : List ℕ) (index : IndexArg) (s : Step ℕ) (id discharged : List ℕ)
+    → TakesPlace c s (moved_step places index s id discharged)
+moved_takes c places index s id discharged = record { clause = refl; hole = λ e. (e, refl); no_hole = λ e. e }
 
 pub added_takes : (c : Checking) (old new : Step ℕ) → new.clause ≡ old.clause → IsJudged (kind_of old.rule) → IsJudged (kind_of new.rule) → TakesPlace c old new
 added_takes c old new clause before after = record {

@@ -1,5 +1,6 @@
 -- Cited by crates above. Where lines come from, as more is written.
 use Rattle.std.proofs.Common.{◌≡◌, ◌<◌, ◌≤◌, ◌+◌, ◌-◌, ◌⊎◌, inl, inr, ℕ, List, [], ◌∷◌, ◌++◌, map, length, slice_get, slice_index, Option, Some, None, All, sym, ◌∙◌, ap, subst, arith}
+use Rattle.std.proofs.Common.{false, true}
 use Rattle.std.specs.List.{AllZip}
 use Rattle.std.specs.Option.{option_map, option_map_or}
 use Rattle.std.proofs.lemmas.List.Elements.{All-nil, All-head, All-tail, All-weaker, All-contains}
@@ -9,10 +10,14 @@ use Rattle.term_model.proofs.Lists.{nth_there, slice_get-last}
 use Rattle.term_model.proofs.Zips.{zip_weaken}
 use Rattle.proof_store.specs.AddedSteps.{AddedStep}
 use Rattle.proof_store.specs.declared.added.Link.{Link}
-use Rattle.rule_model.specs.Commands.{Line, Entry, entry_of, entries, lines_in, lines_to}
+use Rattle.rule_model.specs.RuleNames.{takes_index}
+use Rattle.rule_model.specs.WellFormed.{HasRule}
+use Rattle.rule_model.specs.declared.index_arg.IndexArg.{IndexArg}
+use Rattle.rule_model.specs.Commands.{Line, Entry, entry_of, entries, lines_in, lines_to, assume}
 use Rattle.rule_model.specs.Judged.{open_anchors}
-use Rattle.rule_model.specs.Proofs.{ProofItems}
-use Rattle.rule_model.specs.Reading.{rule_of, clause_of, premises_of, pivots_of, ratios_of, discharged_of, clause_at, discharged_at, pivots_at, ratios_at, last_inside_at}
+use Rattle.rule_model.specs.Proofs.{ProofItems, Step}
+use Rattle.rule_model.specs.Reading.{rule_of, clause_of, premises_of, pivots_of, ratios_of, index_arg_of, discharged_of, clause_at}
+use Rattle.rule_model.specs.Reading.{discharged_at, pivots_at, ratios_at, index_arg_at, last_inside_at, step_of}
 use Rattle.rule_model.specs.Scopes.{outermost, Scope, last_index, next_index}
 use Rattle.rule_model.specs.Visibility.{visible}
 use Rattle.rule_model.proofs.LineReading.{rule_is, clause_is, premises_are, anchors_are}
@@ -22,7 +27,7 @@ use Rattle.elaborator.specs.Blocks.{IsLink, MayBeAdded}
 use Rattle.elaborator.specs.Links.{target}
 use Rattle.elaborator.specs.Reached.{State, IsPlacedIn, Job, IsTold, LooksAs, IsLineFrom, IsLineInPlace, LineSource, line_of_proof, line_of_block, line_of_last, IsAddedLine, IsExtended}
 use Rattle.elaborator.specs.Reached.{AreTold, AreSourced}
-use Rattle.elaborator.specs.Sources.{Looked, looked_at, linked_clause, looked_of, IsAt, AreInOrder}
+use Rattle.elaborator.specs.Sources.{Looked, looked_at, linked_clause, looked_of, IsAt, AreInOrder, index_for, AreIndicesFor}
 use Rattle.elaborator.proofs.Levels.{Grows, at_more, extended_grows}
 use Rattle.elaborator.proofs.Seeing.{index_of_get}
 
@@ -37,6 +42,7 @@ module _ (s t : State) (g : Grows s t) where
     premises = zip_weaken (IsTold (lines_to s.builder)) (IsTold (lines_to t.builder)) (λ p c y. told_more p c y) (premises_of l.command) x.premises h.premises;
     pivots = h.pivots;
     ratios = h.ratios;
+    index = h.index;
     anchors = h.anchors;
   }
 
@@ -162,13 +168,14 @@ found_may places seen scope number a sees (inl h) =
 found_may places seen scope number a sees (inr h) =
     subst (All (IsFound (length places) number)) (sym h.premises) (All-nil (IsFound (length places) number))
 
--- what a line has that keeps a line of the proof
-pub record KeepsLine (places : List ℕ) (old new : Line ℕ ℕ) : Type 0 where
+-- what a line has that keeps a line of the proof, with an index argument
+pub record KeepsLine (places : List ℕ) (index_given : IndexArg) (old new : Line ℕ ℕ) : Type 0 where
   pub rule : rule_of new.command ≡ rule_of old.command
   pub clause_is : clause_of new.command ≡ clause_of old.command
   pub premises : premises_of new.command ≡ map (slice_index places) (premises_of old.command)
   pub pivots : pivots_of new.command ≡ pivots_of old.command
   pub ratios : ratios_of new.command ≡ ratios_of old.command
+  pub index : index_arg_of new.command ≡ index_given
 
 -- commands and their new indices, in step
 pub all_at_places : (places js : List ℕ) → All (λ j. j < length places) js → AllZip (IsAt places) js (map (slice_index places) js)
@@ -188,6 +195,28 @@ module _ {V T : Type 0} (proof : ProofItems V T) (i : ℕ) (l : Line V T) (there
   pub ratios_are : ratios_at proof i ≡ ratios_of l.command
   ratios_are = ap (λ e. option_map_or (λ (e : Entry T). ratios_of e.command) e None) entry_there
 
+  pub index_arg_is : index_arg_at proof i ≡ index_arg_of l.command
+  index_arg_is = ap (λ e. option_map_or (λ (e : Entry T). index_arg_of e.command) e IndexArg.Free) entry_there
+
+-- the index argument that a step gets is one that its rule may have, and an assume gets none
+pub given_fits : (given : List IndexArg) (proof : ProofItems ℕ ℕ) (i : ℕ) (l : Line ℕ ℕ) (s : Step ℕ) → AreIndicesFor proof given
+    → slice_get (lines_in outermost proof) i ≡ Some l → step_of l.command ≡ s → HasRule s
+    → (takes_index s.rule ≡ true) ⊎ (index_for given proof i ≡ IndexArg.Free)
+given_fits given proof i l s are there is h = elim (are i) [
+  | inl own ↦ elim h.index [
+    | inl takes ↦ inl takes
+    | inr free ↦ inr (own ∙ (index_arg_is proof i l there ∙ (ap (λ (x : Step ℕ). x.index) is ∙ free)))
+  ]
+  | inr takes ↦ inl (ap takes_index (sym (rule_is proof i l there ∙ ap (λ (x : Step ℕ). x.rule) is)) ∙ takes)
+]
+
+pub assume_given : (given : List IndexArg) (proof : ProofItems ℕ ℕ) (i : ℕ) (scope : Scope ℕ ℕ) (id : List ℕ) (t : ℕ) → AreIndicesFor proof given
+    → slice_get (lines_in outermost proof) i ≡ Some (record { scope = scope; command = assume id t }) → index_for given proof i ≡ IndexArg.Free
+assume_given given proof i scope id t are there = elim (are i) [
+  | inl own ↦ own ∙ index_arg_is proof i (record { scope = scope; command = assume id t }) there
+  | inr takes ↦ absurd (let e : false ≡ true = ap takes_index (sym (rule_is proof i (record { scope = scope; command = assume id t }) there)) ∙ takes in cc)
+]
+
 -- premises at their new indices
 module _ (lines : List (Line ℕ ℕ)) (places : List ℕ) (proof : ProofItems ℕ ℕ) (told : (j p : ℕ) → slice_get places j ≡ Some p → IsTold lines p (clause_at proof j)) where
   told_at : (j : ℕ) → j < length places → IsTold lines (slice_index places j) (clause_at proof j)
@@ -200,9 +229,10 @@ module _ (lines : List (Line ℕ ℕ)) (places : List ℕ) (proof : ProofItems �
   told_kept (j ∷ js) all =
       (told_at j (All-head (λ j. j < length places) j js all), told_kept js (All-tail (λ j. j < length places) j js all))
 
-  pub looks_kept : (i : ℕ) (old new : Line ℕ ℕ) → slice_get (lines_in outermost proof) i ≡ Some old → KeepsLine places old new → All (λ j. j < length places) (premises_of old.command)
-      → open_anchors new.scope.nesting ≡ open_anchors old.scope.nesting → LooksAs lines new (looked_at proof i)
-  looks_kept i old new there k within anchored = record {
+  pub looks_kept : (i : ℕ) (index_given : IndexArg) (old new : Line ℕ ℕ) → slice_get (lines_in outermost proof) i ≡ Some old
+      → KeepsLine places index_given old new → All (λ j. j < length places) (premises_of old.command)
+      → open_anchors new.scope.nesting ≡ open_anchors old.scope.nesting → LooksAs lines new (record (looked_at proof i) { index = index_given })
+  looks_kept i index_given old new there k within anchored = record {
     rule = k.rule ∙ sym (rule_is proof i old there);
     clause_is = k.clause_is ∙ sym (clause_is proof i old there);
     premises = subst (λ ps. AllZip (IsTold lines) ps (looked_at proof i).premises) (sym k.premises)
@@ -210,6 +240,7 @@ module _ (lines : List (Line ℕ ℕ)) (places : List ℕ) (proof : ProofItems �
         (told_kept (premises_of old.command) within));
     pivots = k.pivots ∙ sym (pivots_are proof i old there);
     ratios = k.ratios ∙ sym (ratios_are proof i old there);
+    index = k.index;
     anchors = anchored ∙ sym (anchors_are proof i old there);
   }
 
@@ -228,12 +259,13 @@ module _ (lines : List (Line ℕ ℕ)) (places : List ℕ) (proof : ProofItems �
 
     pub looks_added : (a : AddedStep) (line : Line ℕ ℕ) (anchors : List (List (ℕ × ℕ))) → rule_of line.command ≡ a.rule → clause_of line.command ≡ a.clause
         → premises_of line.command ≡ map (target places start) a.premises → pivots_of line.command ≡ a.pivots → ratios_of line.command ≡ None
-        → All (IsFound (length places) number) a.premises → open_anchors line.scope.nesting ≡ anchors → LooksAs lines line (looked_of proof block anchors a)
-    looks_added a line anchors rule clause premises pivots ratios found anchored = record {
+        → index_arg_of line.command ≡ IndexArg.Free → All (IsFound (length places) number) a.premises → open_anchors line.scope.nesting ≡ anchors → LooksAs lines line (looked_of proof block anchors a)
+    looks_added a line anchors rule clause premises pivots ratios index found anchored = record {
       rule = rule;
       clause_is = clause;
       premises = subst (λ ps. AllZip (IsTold lines) ps (map (linked_clause proof block) a.premises)) (sym premises) (told_linked a.premises found);
       pivots = pivots;
       ratios = ratios;
+      index = index;
       anchors = anchored;
     }

@@ -23,7 +23,7 @@ use Rattle.elaborator.specs.Blocks.{standing, IsAddedAssume, MayBeAdded, IsBlock
 use Rattle.elaborator.specs.Names.{name_of}
 use Rattle.elaborator.specs.Reached.{State, seen_in, one_more, placed, new_name, IsStepNow, MayAddHere, IsPlacedIn, IsExtended, Job, IsJob, IsReached, IsAtLine, written_to}
 use Rattle.elaborator.specs.Reached.{IsTold, LooksAs, IsLineInPlace, LineSource, line_of_proof, line_of_last}
-use Rattle.elaborator.specs.Sources.{looked_at, IsAt}
+use Rattle.elaborator.specs.Sources.{looked_with, IsAt, index_for}
 use Rattle.elaborator.specs.Steps.{added_step, front, block_at, last_of, step_in_place, IsInPlace}
 use Rattle.elaborator.proofs.AddedRules.{judged_no_assume}
 use Rattle.elaborator.proofs.AddedSources.{sources_front}
@@ -33,7 +33,7 @@ use Rattle.elaborator.proofs.Levels.{Grows, grows_then, extended_grows, more_gro
 use Rattle.elaborator.proofs.OldLines.{index_is, written_next}
 use Rattle.elaborator.proofs.Rooms.{front_length}
 use Rattle.elaborator.proofs.Seeing.{contains_left, visible_assume, visible_step}
-use Rattle.elaborator.proofs.Sourcing.{found_may, looks_added, looks_kept, told_more, told_on}
+use Rattle.elaborator.proofs.Sourcing.{found_may, looks_added, looks_kept, told_more, told_on, given_fits, assume_given}
 use Rattle.elaborator.proofs.Standing.{reached_next, assumes_step}
 use Rattle.elaborator.proofs.Tidy.{new_id, shut, stands}
 use Rattle.rule_model.proofs.RuleWords.{named_no_assume}
@@ -120,7 +120,7 @@ module _ (job : Job) (is : IsJob job) (i : ℕ) (scope : Scope ℕ ℕ) (command
           nothing : {k : ℕ} → None ≡ Some k → ⊥
           nothing e = cc
 
-      kept_source : block_at job.blocks i ≡ [] → discharged_at job.proof i ≡ [] → new.discharged ≡ [] → LooksAs (lines_to u.builder) new_line (looked_at job.proof i)
+      kept_source : block_at job.blocks i ≡ [] → discharged_at job.proof i ≡ [] → new.discharged ≡ [] → LooksAs (lines_to u.builder) new_line (looked_with job.given job.proof i)
           → IsAt (t.places ++ p ∷ []) i p → LineSource job (t.places ++ p ∷ []) (lines_to u.builder) p new_line
       kept_source empty old_none new_none looks place =
           line_of_proof i (block_is ∙ ap (λ (b : List AddedStep). Some b) empty) (in_its_place old_none new_none place) (record { looks = looks; own = numbered; closing = sym none })
@@ -133,7 +133,8 @@ module _ (job : Job) (is : IsJob job) (i : ℕ) (scope : Scope ℕ ℕ) (command
           line_of_last i block b.last block_is b.is_last (in_its_place old_none (ap (λ (x : Step ℕ). x.discharged) is_new) place) (record {
             looks = looks_added (lines_to u.builder) t.places job.proof told block (next_index s.builder) (length block - 1) (omega arith) news b.last new_line (anchors_at job.proof i)
                 (ap (λ (x : Step ℕ). x.rule) is_new) (ap (λ (x : Step ℕ). x.clause) is_new) (ap (λ (x : Step ℕ). x.premises) is_new) (ap (λ (x : Step ℕ). x.pivots) is_new)
-                (ap (λ (x : Step ℕ). x.ratios) is_new) (found_may t.places (seen_in t) scope (length block - 1) b.last sees_now may) (anchored ∙ sym (anchors_are job.proof i _ there));
+                (ap (λ (x : Step ℕ). x.ratios) is_new) (ap (λ (x : Step ℕ). x.index) is_new)
+                (found_may t.places (seen_in t) scope (length block - 1) b.last sees_now may) (anchored ∙ sym (anchors_are job.proof i _ there));
             own = numbered;
             closing = sym none;
           })
@@ -176,7 +177,7 @@ module _ (job : Job) (is : IsJob job) (i : ℕ) (scope : Scope ℕ ℕ) (command
 pub record IsStepStood (job : Job) (i : ℕ) (s t : State) : Type 0 where
   pub in_place : IsInPlace t.places job.proof i (next_index s.builder) (last_of (block_at job.blocks i))
   pub stood : IsStood job i t
-      (step_in_place t.places job.proof i (next_index s.builder) (last_of (block_at job.blocks i)) (name_of (new_name t)) [])
+      (step_in_place t.places job.given job.proof i (next_index s.builder) (last_of (block_at job.blocks i)) (name_of (new_name t)) [])
 
 module _ (job : Job) (is : IsJob job) (i : ℕ) (s t : State) where
   Written : Scope ℕ ℕ → IndexedCommand ℕ → Type 0
@@ -185,19 +186,19 @@ module _ (job : Job) (is : IsJob job) (i : ℕ) (s t : State) where
       IsExtended (front (block_at job.blocks i)) s t → next_index t.builder + 1 < 2 ^ 32 - 1 → IsStepStood job i s t
 
   from_none : block_at job.blocks i ≡ [] → IsInPlace t.places job.proof i (next_index s.builder) None
-      → IsStood job i t (step_in_place t.places job.proof i (next_index s.builder) None (name_of (new_name t)) []) → IsStepStood job i s t
+      → IsStood job i t (step_in_place t.places job.given job.proof i (next_index s.builder) None (name_of (new_name t)) []) → IsStepStood job i s t
   from_none none in_place stood =
       let last : None ≡ last_of (block_at job.blocks i) = sym (ap last_of none) in
       record {
         in_place = subst (IsInPlace t.places job.proof i (next_index s.builder)) last in_place;
-        stood = subst (λ o. IsStood job i t (step_in_place t.places job.proof i (next_index s.builder) o (name_of (new_name t)) [])) last stood;
+        stood = subst (λ o. IsStood job i t (step_in_place t.places job.given job.proof i (next_index s.builder) o (name_of (new_name t)) [])) last stood;
       }
 
   from_some : (a : AddedStep) → last_of (block_at job.blocks i) ≡ Some a → IsInPlace t.places job.proof i (next_index s.builder) (Some a)
-      → IsStood job i t (step_in_place t.places job.proof i (next_index s.builder) (Some a) (name_of (new_name t)) []) → IsStepStood job i s t
+      → IsStood job i t (step_in_place t.places job.given job.proof i (next_index s.builder) (Some a) (name_of (new_name t)) []) → IsStepStood job i s t
   from_some a is_last in_place stood = record {
     in_place = subst (IsInPlace t.places job.proof i (next_index s.builder)) (sym is_last) in_place;
-    stood = subst (λ o. IsStood job i t (step_in_place t.places job.proof i (next_index s.builder) o (name_of (new_name t)) [])) (sym is_last) stood;
+    stood = subst (λ o. IsStood job i t (step_in_place t.places job.given job.proof i (next_index s.builder) o (name_of (new_name t)) [])) (sym is_last) stood;
   }
 
   -- where the command is a step
@@ -244,26 +245,28 @@ module _ (job : Job) (is : IsJob job) (i : ℕ) (s t : State) where
       go : (block_at job.blocks i ≡ []) ⊎ IsBlockOf (record { scope = scope; command = step old }) (block_at job.blocks i) → IsStepStood job i s t
       go (inl empty) =
           let id = name_of (new_name t) in
-          let new = moved_step t.places old id [] in
+          let index_now = index_for job.given job.proof i in
+          let new = moved_step t.places index_now old id [] in
           let sees = sees_now job is i scope (step old) there s t reached ext few in
           let premises = all_placed_in t.places (seen_in t) (visible scope.nesting scope.items) old.premises sees may_old.premises in
-          let same = kept_is_moved t.places job.proof i (record { scope = scope; command = step old }) old there refl id [] in
-          let may : MayTake t.builder (moved_step t.places old id []) = record {
+          let same = kept_is_moved t.places job.given job.proof i (record { scope = scope; command = step old }) old there refl id [] in
+          let may : MayTake t.builder (moved_step t.places index_now old id []) = record {
             closing = λ e. absurd (true_false (sym e ∙ shut t ext.tidy few));
             standing = λ e. record {
               id = new_id t ext.tidy few;
-              rule = moved_rule t.places old id [] may_old.rule;
+              rule = moved_rule t.places index_now old id [] may_old.rule
+                  (given_fits job.given job.proof i (record { scope = scope; command = step old }) old is.given there refl may_old.rule);
               premises = all_seen t.places (seen_in t) old.premises premises;
               discharged = refl;
             };
           } in
           let within_old = all_within t.places (seen_in t) old.premises premises in
-          let looks = looks_kept (lines_to (add_step t.builder new)) t.places job.proof (told job is i scope (step old) there s t reached ext few new refl) i
+          let looks = looks_kept (lines_to (add_step t.builder new)) t.places job.proof (told job is i scope (step old) there s t reached ext few new refl) i index_now
           (record { scope = scope; command = step old }) (record { scope = t.builder; command = step new }) there
-          (record { rule = refl; clause_is = refl; premises = refl; pivots = refl; ratios = refl }) within_old (anchored job is i scope (step old) there s t reached ext few new refl refl none number) in
+          (record { rule = refl; clause_is = refl; premises = refl; pivots = refl; ratios = refl; index = refl }) within_old (anchored job is i scope (step old) there s t reached ext few new refl refl none number) in
           from_none empty
           (subst (All (λ j. j < length t.places)) (sym (premises_are job.proof i (record { scope = scope; command = step old }) there)) within_old)
-          (subst (IsStood job i t) (sym same) (stood_by new refl may (λ c. moved_takes c t.places old id []) refl
+          (subst (IsStood job i t) (sym same) (stood_by new refl may (λ c. moved_takes c t.places index_now old id []) refl
           (kept_source job is i scope (step old) there s t reached ext few new refl refl none number empty discharges_none refl looks)))
       go (inr b) =
           let id = name_of (new_name t) in
@@ -392,8 +395,15 @@ module _ (job : Job) (is : IsJob job) (i : ℕ) (s : State) where
             bindings = λ k e. absurd (nothing (sym closes ∙ e));
             last = λ k e. absurd (nothing (sym closes ∙ e));
           }) (record {
-            looks = looks_kept (lines_to u.builder) s.places job.proof (told_on s u g job reached.told s.places refl) i line (record { scope = at n s.builder.items; command = assume (name_of (new_name s)) r }) there
-                (record { rule = refl; clause_is = refl; premises = refl; pivots = refl; ratios = refl }) (All-nil _) anchored;
+            looks = looks_kept (lines_to u.builder) s.places job.proof (told_on s u g job reached.told s.places refl) i (index_for job.given job.proof i) line (record { scope = at n s.builder.items; command = assume (name_of (new_name s)) r }) there
+                (record {
+                  rule = refl;
+                  clause_is = refl;
+                  premises = refl;
+                  pivots = refl;
+                  ratios = refl;
+                  index = sym (assume_given job.given job.proof i scope own_id r is.given there);
+                }) (All-nil _) anchored;
             own = number;
             closing = sym closes;
           })

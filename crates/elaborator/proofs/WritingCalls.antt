@@ -2,6 +2,7 @@
 use Rattle.std.proofs.Common.{◌≡◌, ◌<◌, ◌+◌, ◌-◌, ◌^◌, ℕ, zero, suc, true, false, List, [], ◌∷◌, ◌++◌, length, slice_get, slice_index, slice_index_or, Option, Some, None, Result, Ok, Err, IfOk, OnOk, refl, sym, ◌∙◌, ap, subst, arith}
 use Rattle.std.proofs.lemmas.List.{take_all}
 use Rattle.proof_store.specs.AddedSteps.{AddedStep}
+use Rattle.rule_model.specs.declared.index_arg.IndexArg.{IndexArg}
 use Rattle.rule_model.specs.Commands.{IndexedCommand, assume, step, closing, Line, lines_around, lines_in, lines_to}
 use Rattle.rule_model.specs.Elaboration.{Keeps}
 use Rattle.rule_model.specs.Proofs.{Step, ProofItems}
@@ -105,7 +106,7 @@ module _ (job : Job) (is : IsJob job) (s : State) (reached : IsReached job (at o
   lines_now : lines_to s.builder ≡ lines_in outermost s.builder.items
   lines_now = ap (λ n. lines_around n ++ lines_in n s.builder.items) outer_now
 
-  pub assembled_is : IsWellFormed s.builder.items → IsAssembled job.proof job.blocks s.builder.items
+  pub assembled_is : IsWellFormed s.builder.items → IsAssembled job.proof job.given job.blocks s.builder.items
   assembled_is formed = record {
     formed = formed;
     kept = λ c. subst (λ n. Keeps c outermost job.proof n s.builder.items) outer_now (reached.level.keeps c);
@@ -126,18 +127,19 @@ module _ (job : Job) (is : IsJob job) (s : State) (reached : IsReached job (at o
         (subst (λ ls. (k : ℕ) (line : Line ℕ ℕ) → slice_get ls k ≡ Some line → LineSource job s.places ls k line) lines_now reached.sources);
   }
 
-pub ok_assembled : {E : Type 0} (r : Result (ProofItems ℕ ℕ) E) (items proof : ProofItems ℕ ℕ) (blocks : List (List AddedStep)) → IfOk r (λ p. p ≡ items) → IfOk r (λ p. IsWellFormed p)
-    → (IsWellFormed items → IsAssembled proof blocks items) → IfOk r (IsAssembled proof blocks)
-ok_assembled (Ok p) items proof blocks same formed f = subst (IsAssembled proof blocks) (sym same) (f (subst IsWellFormed same formed))
-ok_assembled (Err e) items proof blocks same formed f = tt
+pub ok_assembled : {E : Type 0} (r : Result (ProofItems ℕ ℕ) E) (items proof : ProofItems ℕ ℕ) (given : List IndexArg) (blocks : List (List AddedStep))
+    → IfOk r (λ p. p ≡ items) → IfOk r (λ p. IsWellFormed p)
+    → (IsWellFormed items → IsAssembled proof given blocks items) → IfOk r (IsAssembled proof given blocks)
+ok_assembled (Ok p) items proof given blocks same formed f = subst (IsAssembled proof given blocks) (sym same) (f (subst IsWellFormed same formed))
+ok_assembled (Err e) items proof given blocks same formed f = tt
 
 -- what is in the place of a step, where the call succeeds
-pub ok_in_place : {E : Type 0} (r : Result NewStep E) (ps qs : List ℕ) (proof : ProofItems ℕ ℕ) (i start : ℕ) (o last : Option AddedStep) → ps ≡ qs → o ≡ last
-    → IfOk r (λ n. (id discharged : List ℕ) → new_step n id discharged ≡ step_in_place ps proof i start o id discharged)
-    → IfOk r (λ n. (id discharged : List ℕ) → new_step n id discharged ≡ step_in_place qs proof i start last id discharged)
-ok_in_place r ps qs proof i start o last same is h =
-    subst (λ x. IfOk r (λ n. (id discharged : List ℕ) → new_step n id discharged ≡ step_in_place qs proof i start x id discharged)) is
-    (subst (λ x. IfOk r (λ n. (id discharged : List ℕ) → new_step n id discharged ≡ step_in_place x proof i start o id discharged)) same h)
+pub ok_in_place : {E : Type 0} (r : Result NewStep E) (ps qs : List ℕ) (given : List IndexArg) (proof : ProofItems ℕ ℕ) (i start : ℕ) (o last : Option AddedStep) → ps ≡ qs → o ≡ last
+    → IfOk r (λ n. (id discharged : List ℕ) → new_step n id discharged ≡ step_in_place ps given proof i start o id discharged)
+    → IfOk r (λ n. (id discharged : List ℕ) → new_step n id discharged ≡ step_in_place qs given proof i start last id discharged)
+ok_in_place r ps qs given proof i start o last same is h =
+    subst (λ x. IfOk r (λ n. (id discharged : List ℕ) → new_step n id discharged ≡ step_in_place qs given proof i start x id discharged)) is
+    (subst (λ x. IfOk r (λ n. (id discharged : List ℕ) → new_step n id discharged ≡ step_in_place x given proof i start o id discharged)) same h)
 
 -- the first item of a list, and an item by its place
 pub first_is : (xs : List ℕ) (x : ℕ) → 0 < length xs → x ≡ slice_index_or xs 0 x → slice_index xs 0 ≡ x

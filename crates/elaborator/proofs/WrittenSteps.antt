@@ -15,7 +15,7 @@ use Rattle.elaborator.proofs.WritingCalls.{front_few_now, opened_is}
 -- the step is the one that is written in the place of a command, where the steps of its block begin at a new index
 abbrev pub IsStepInPlace : Job → ℕ → State → ℕ → NewStep → Type 0
 IsStepInPlace job i s start n =
-    (id discharged : List ℕ) → new_step n id discharged ≡ step_in_place s.places job.proof i start (last_of (block_at job.blocks i)) id discharged
+    (id discharged : List ℕ) → new_step n id discharged ≡ step_in_place s.places job.given job.proof i start (last_of (block_at job.blocks i)) id discharged
 
 -- of a command that closes nothing
 pub record IsStanding (job : Job) (i : ℕ) (t : State) (start : ℕ) : Type 0 where
@@ -36,7 +36,7 @@ standing_now job is i s t at_line none step added start same extended begins =
       in_place = subst (λ n. IsInPlace t.places job.proof i n last) (sym begins) stood.in_place;
       few = few;
       stood = λ n id is_step named. subst (IsStood job i t)
-          (sym (is_step id [] ∙ (ap (λ k. step_in_place t.places job.proof i k last id []) begins ∙ ap (λ x. step_in_place t.places job.proof i (next_index s.builder) last x []) named)))
+          (sym (is_step id [] ∙ (ap (λ k. step_in_place t.places job.given job.proof i k last id []) begins ∙ ap (λ x. step_in_place t.places job.given job.proof i (next_index s.builder) last x []) named)))
           stood.stood;
     }
 
@@ -60,6 +60,6 @@ closing_now job is i k s at_line closes o e =
       discharged = closed.discharged;
       few = room_to_close job is i s h;
       stood = λ n id ds is_step named listed. subst (IsStood job i s)
-          (sym (is_step id ds ∙ (ap (λ x. step_in_place s.places job.proof i o.start last x ds) named ∙ ap (step_in_place s.places job.proof i o.start last (name_of o.name)) listed)))
+          (sym (is_step id ds ∙ (ap (λ x. step_in_place s.places job.given job.proof i o.start last x ds) named ∙ ap (step_in_place s.places job.given job.proof i o.start last (name_of o.name)) listed)))
           (record { may = closed.may; reached = closed.reached });
     }

@@ -5,12 +5,13 @@ use Rattle.std.specs.List.{AllZip}
 use Rattle.std.specs.Option.{option_map_or}
 use Rattle.proof_store.specs.AddedSteps.{AddedStep}
 use Rattle.proof_store.specs.declared.added.Link.{Link}
+use Rattle.rule_model.specs.declared.index_arg.IndexArg.{IndexArg}
 use Rattle.rule_model.specs.declared.rules.Rule.{Rule}
 use Rattle.rule_model.specs.Commands.{Line, lines_in, lines_to, own_scope, closed_scope}
 use Rattle.rule_model.specs.Judged.{open_anchors, anchors_at}
 use Rattle.rule_model.specs.Elaboration.{Adds, Keeps}
 use Rattle.rule_model.specs.Proofs.{ProofItems}
-use Rattle.rule_model.specs.Reading.{rule_of, clause_of, premises_of, pivots_of, ratios_of, discharged_of}
+use Rattle.rule_model.specs.Reading.{rule_of, clause_of, premises_of, pivots_of, ratios_of, index_arg_of, discharged_of}
 use Rattle.rule_model.specs.Reading.{clause_at, discharged_at, scope_at, closes_at, bindings_at, last_inside_at, is_assume}
 use Rattle.rule_model.specs.RuleNames.{kind_of, IsJudged}
 use Rattle.rule_model.specs.Scopes.{Anchor, Nesting, outermost, inside, Scope, subproofs_in, scope_number, own_bindings, last_index, next_index, next_scope}
@@ -25,7 +26,7 @@ use Rattle.elaborator.specs.Blocks.{IsAddedAssume, AreBlocksOf, commands_needed}
 use Rattle.elaborator.specs.Closers.{AreClosers}
 use Rattle.elaborator.specs.Links.{IsWithin, target}
 use Rattle.elaborator.specs.Names.{name_of, number_of}
-use Rattle.elaborator.specs.Sources.{Looked, looked_at, looked_of, own_anchors, IsAt, AreAt, AreInOrder}
+use Rattle.elaborator.specs.Sources.{Looked, AreIndicesFor, looked_with, looked_of, own_anchors, IsAt, AreAt, AreInOrder}
 use Rattle.elaborator.specs.Steps.{added_step, front, block_at, blocks_in}
 
 -- What is written: the scope, the new indices of the proof's commands, for each scope where its moved steps begin and the
@@ -114,6 +115,7 @@ pub record IsAddedLine (s : State) (start : ℕ) (a : AddedStep) (line : Line �
   pub premises : premises_of line.command ≡ map (target s.places start) a.premises
   pub pivots : pivots_of line.command ≡ a.pivots
   pub ratios : ratios_of line.command ≡ None
+  pub index : index_arg_of line.command ≡ IndexArg.Free
 
 -- some steps were added to what was written before
 pub record IsExtended (added : List AddedStep) (s t : State) : Type 0 where
@@ -139,9 +141,10 @@ pub record Job : Type 0 where
   pub proof : ProofItems ℕ ℕ
   pub blocks : List (List AddedStep)
   pub closers : List ℕ
+  pub given : List IndexArg
 
 abbrev pub job_of : Parts → Job
-job_of parts = record { proof = parts.proof.now; blocks = blocks_in parts.blocks.now; closers = parts.closers.now }
+job_of parts = record { proof = parts.proof.now; blocks = blocks_in parts.blocks.now; closers = parts.closers.now; given = parts.given.now }
 
 pub record IsJob (job : Job) : Type 0 where
   pub formed : IsWellFormed job.proof
@@ -149,6 +152,7 @@ pub record IsJob (job : Job) : Type 0 where
   pub closers : AreClosers job.proof job.closers
   pub few : commands_needed job.blocks < 2 ^ 32 - 1
   pub few_scopes : subproofs_in job.proof < 2 ^ 32 - 2
+  pub given : AreIndicesFor job.proof job.given
 
 -- a new index is that of a command with this clause
 pub record IsTold (lines : List (Line ℕ ℕ)) (place : ℕ) (clause : List ℕ) : Type 0 where
@@ -163,6 +167,7 @@ pub record LooksAs (lines : List (Line ℕ ℕ)) (line : Line ℕ ℕ) (x : Look
   pub premises : AllZip (IsTold lines) (premises_of line.command) x.premises
   pub pivots : pivots_of line.command ≡ x.pivots
   pub ratios : ratios_of line.command ≡ x.ratios
+  pub index : index_arg_of line.command ≡ x.index
   pub anchors : open_anchors line.scope.nesting ≡ x.anchors
 
 -- it looks at this, in the scope of this number, and closes that scope, or none
@@ -181,7 +186,7 @@ pub record IsLineInPlace (proof : ProofItems ℕ ℕ) (places : List ℕ) (i p :
 -- where the command of the line of an index comes from
 pub data LineSource (job : Job) (places : List ℕ) (lines : List (Line ℕ ℕ)) (p : ℕ) (line : Line ℕ ℕ) : Type 0 where
   line_of_proof : (i : ℕ) → slice_get job.blocks i ≡ Some [] → IsLineInPlace job.proof places i p line →
-      IsLineFrom lines line (looked_at job.proof i) (scope_at job.proof i) (closes_at job.proof i) → LineSource job places lines p line
+      IsLineFrom lines line (looked_with job.given job.proof i) (scope_at job.proof i) (closes_at job.proof i) → LineSource job places lines p line
   line_of_block : (i number : ℕ) (block : List AddedStep) (a : AddedStep) → slice_get job.blocks i ≡ Some block →
       slice_get block number ≡ Some a → number + 1 < length block →
       IsLineFrom lines line (looked_of job.proof block (own_anchors job.proof i) a) (scope_at job.proof i) None →

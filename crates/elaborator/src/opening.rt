@@ -9,14 +9,16 @@ use crate::naming::id_of;
 use crate::putting::{Opened, Written, add_all, new_name};
 use crate::steps::front;
 use pair_pool::Memory;
-use proof_store::{Added, Proof};
+use proof_store::{Added, IndexArg, Proof};
 
-/// What is assembled: the proof, the steps that are added for each command, and the index of the step that closes each scope.
+/// What is assembled: the proof, the steps that are added for each command, the index of the step that closes each scope, and the index
+/// arguments that are given to commands.
 #[derive(Clone, Copy)]
 pub(crate) struct Parts<'a> {
     pub(crate) proof: &'a Proof,
     pub(crate) blocks: &'a [&'a Vec<Added>],
     pub(crate) closers: &'a [u32],
+    pub(crate) given: &'a [IndexArg],
 }
 
 /// The steps that are added for command `i`.

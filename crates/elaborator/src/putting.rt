@@ -65,6 +65,7 @@ pub(crate) fn put(
         discharged,
         step.pivots,
         step.ratios,
+        step.index,
     )?;
     written.count += 1;
     Ok(index)

@@ -3,13 +3,14 @@
 ghost use Rattle.std.specs.Prelude.{◌≡◌, ◌<◌, ℕ, List, length, All, IfOk};
 ghost use Rattle.std.specs.Option.{option_map};
 ghost use Rattle.elaborator.specs.Links.{IsWithin};
+ghost use Rattle.elaborator.specs.Sources.{index_for};
 ghost use Rattle.elaborator.specs.Steps.{added_step, front, kept_step, last_of, new_step};
 ghost use Rattle.rule_model.specs.Reading.{premises_at};
 ghost use Rattle.rule_model.specs.Scopes.{commands_in};
 
 use crate::placing::{places_of, targets_of};
 use pair_pool::{Memory, Ref};
-use proof_store::{Added, Proof, Ratio, word};
+use proof_store::{Added, IndexArg, Proof, Ratio, word};
 use rule_model::Rule;
 use std::alloc::Global;
 
@@ -22,6 +23,7 @@ pub(crate) struct NewStep<'a> {
     pub(crate) premises: Vec<u32>,
     pub(crate) pivots: &'a [(Ref, bool)],
     pub(crate) ratios: Option<&'a [Ratio]>,
+    pub(crate) index: IndexArg,
 }
 
 /// An added step, where those of its block begin at `start`.
@@ -42,19 +44,32 @@ pub(crate) fn step_of_added<'a>(
         premises,
         pivots: &added.pivots,
         ratios: None,
+        index: IndexArg::Free,
     })
 }
 
-/// A step of the proof.
+/// The index argument that a command gets: the one that is given for it, and else its own.
+fn index_for(given: &[IndexArg], proof: &Proof, i: u32) -> IndexArg
+    requires { i < commands_in proof.now }
+    ensures { result ≡ index_for given.now proof.now i }
+{
+    match given.get(i as usize) {
+        Some(index) => *index,
+        None => proof.index(i),
+    }
+}
+
+/// A step of the proof, with the index argument that it gets.
 pub(crate) fn step_of_kept<'a>(
     alloc: Global,
     places: &[u32],
+    given: &[IndexArg],
     proof: &'a Proof,
     i: u32,
 ) -> Result<NewStep<'a>, Memory>
     requires within { i < commands_in proof.now }
     requires premises { All (λ j. j < length places.now) (premises_at proof.now i) }
-    ensures { IfOk result (λ n. (id discharged : List ℕ) → new_step n id discharged ≡ kept_step places.now proof.now i id discharged) }
+    ensures { IfOk result (λ n. (id discharged : List ℕ) → new_step n id discharged ≡ kept_step places.now given.now proof.now i id discharged) }
 {
     let premises = places_of(alloc, places, proof.premises(i))?;
     Ok(NewStep {
@@ -64,6 +79,7 @@ pub(crate) fn step_of_kept<'a>(
         premises,
         pivots: proof.pivots(i),
         ratios: proof.ratios(i),
+        index: index_for(given, proof, i),
     })
 }
 

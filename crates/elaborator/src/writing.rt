@@ -26,10 +26,10 @@ fn in_place<'a>(
     requires block { i < length (job_of parts.now).blocks }
     requires may { IsInPlace written.now.places.items parts.now.proof.now i start (last_of (block_at (job_of parts.now).blocks i)) }
     ensures { IfOk result (λ n. (id discharged : List ℕ) → new_step n id discharged ≡
-        step_in_place written.now.places.items parts.now.proof.now i start (last_of (block_at (job_of parts.now).blocks i)) id discharged) }
+        step_in_place written.now.places.items parts.now.given.now parts.now.proof.now i start (last_of (block_at (job_of parts.now).blocks i)) id discharged) }
 {
     match last(block(parts, i)) {
-        None => step_of_kept(written.alloc, &written.places, parts.proof, i),
+        None => step_of_kept(written.alloc, &written.places, parts.given, parts.proof, i),
         Some(added) => step_of_added(written.alloc, &written.places, start, added),
     }
 }

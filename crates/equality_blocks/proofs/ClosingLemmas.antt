@@ -11,6 +11,7 @@ use Rattle.term_pool.specs.Views.{TermsView, ReferToAll}
 use Rattle.proof_store.specs.AddedSteps.{AddedStep}
 use Rattle.proof_store.specs.declared.added.Link.{Link}
 use Rattle.proof_store.specs.Meaning.{StandForItems}
+use Rattle.rule_model.specs.declared.index_arg.IndexArg.{IndexArg}
 use Rattle.rule_model.specs.declared.rules.Rule.{Rule}
 use Rattle.rule_model.specs.Commands.{IndexedCommand, assume, step, closing, Line, lines_in}
 use Rattle.rule_model.specs.Judged.{Judged, anchors_at}
@@ -74,6 +75,7 @@ looked_same p before more number a anchors less all =
       premises = clauses;
       pivots = a.pivots;
       ratios = None;
+      index = IndexArg.Free;
       anchors = anchors;
     })
     (sym (same_links p.proof.now _ before more number less a.premises all))

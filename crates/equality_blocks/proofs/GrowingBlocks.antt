@@ -41,6 +41,7 @@ module _ (p : Site) (v w : TermsView) (more : Grows v.pass w.pass) where
     pivots = zip_weaken (IsPivotOf p.symbols.now v) (IsPivotOf p.symbols.now w)
         (λ a b q. record { term = refers_more p.symbols.now v w more a.0 b.0 q.term; truth = q.truth }) x.pivots j.pivots h.pivots;
     ratios = h.ratios;
+    index = h.index;
     anchors = anchors_more p.symbols.now v w more x.anchors j.anchors h.anchors;
   }
 

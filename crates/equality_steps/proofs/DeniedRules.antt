@@ -71,6 +71,7 @@ module _ (p : Site) (w : TermsView) (steps : List AddedStep) (h : IsBlockAt p w 
       (record {
         judged = record { family = Family.Congruence; is = refl };
         pivots = inr refl;
+        no_index = refl;
         narrow = λ wide. wide;
         met = record {
           sides = neighbors first others;
@@ -103,6 +104,7 @@ module _ (p : Site) (w : TermsView) (steps : List AddedStep) (h : IsBlockAt p w 
         (record {
           judged = record { family = Family.Congruence; is = refl };
           pivots = inr refl;
+          no_index = refl;
           narrow = λ wide. wide;
           met = record {
             sides = zip given.ts given.us;
@@ -133,6 +135,7 @@ module _ (p : Site) (w : TermsView) (steps : List AddedStep) (h : IsBlockAt p w 
         (record {
           judged = record { family = Family.Congruence; is = refl };
           pivots = inr refl;
+          no_index = refl;
           narrow = λ wide. wide;
           met = record {
             sides = zip given.ts given.us;
@@ -170,6 +173,7 @@ module _ (p : Site) (w : TermsView) (steps : List AddedStep) (h : IsBlockAt p w 
         (record {
           judged = record { family = Family.Congruence; is = refl };
           pivots = inr refl;
+          no_index = refl;
           narrow = λ wide. wide;
           met = record {
             sides = zip given.ts given.us;

@@ -149,6 +149,7 @@ module _ (p : Site) (v : TermsView) where
                 premises = one.stands.premises;
                 pivots = one.stands.pivots;
                 ratios = one.stands.ratios;
+                index = one.stands.index;
                 anchors = one.stands.anchors;
               };
               mode = one.strict;

@@ -154,6 +154,7 @@ module _ (p : Site) (v : TermsView) (one : AreOne p.symbols.now v) (steps : List
       (record {
         judged = record { family = Family.Resolution; is = refl };
         pivots = inl refl;
+        no_index = refl;
         narrow = λ wide. wide;
         met = (found.terms, found.resolvent, refl);
       })

@@ -109,7 +109,7 @@ pub assume_step : (p : Site) (w : TermsView) (steps : List AddedStep) (h : IsBlo
 assume_step p w steps h r outer has literals = record {
   links = All-nil (IsLinkAt p (length steps));
   judged = record_of p w Rule.Assume literals.clause [] [] h.site.anchors;
-  stands = record { rule = refl; clause = literals.refer; premises = tt; pivots = tt; ratios = refl; anchors = h.site.anchors_stand };
+  stands = record { rule = refl; clause = literals.refer; premises = tt; pivots = tt; ratios = refl; index = refl; anchors = h.site.anchors_stand };
   strict = refl;
   literals = literals.fit;
   done = inr (record { rule = refl; outer = outer; term = r; asserted = has; clause = refl; premises = refl; pivots = refl });
@@ -158,6 +158,7 @@ module _ (p : Site) (w : TermsView) (table : IsTable p.symbols.now) (known : IsO
       (record {
         judged = record { family = Family.Congruence; is = refl };
         pivots = inr refl;
+        no_index = refl;
         narrow = λ wide. wide;
         met = record { left = given.left; right = given.right; premise = refl; turned = refl };
       })
@@ -174,6 +175,7 @@ module _ (p : Site) (w : TermsView) (table : IsTable p.symbols.now) (known : IsO
       (record {
         judged = record { family = Family.Congruence; is = refl };
         pivots = inr refl;
+        no_index = refl;
         narrow = λ wide. wide;
         met = record { left = given.left; right = given.right; none = refl; literal = refl };
       })
@@ -187,6 +189,7 @@ module _ (p : Site) (w : TermsView) (table : IsTable p.symbols.now) (known : IsO
       (record {
         judged = record { family = Family.Congruence; is = refl };
         pivots = inr refl;
+        no_index = refl;
         narrow = λ wide. wide;
         met = record { side = given.term; none = refl; literal = refl };
       })
@@ -223,6 +226,7 @@ module _ (p : Site) (w : TermsView) (table : IsTable p.symbols.now) (known : IsO
       (record {
         judged = record { family = Family.Congruence; is = refl };
         pivots = inr refl;
+        no_index = refl;
         narrow = λ wide. wide;
         met = record { left = given.left; right = given.right; literal = refl; given = (given.some, given.chain) };
       })
@@ -244,6 +248,7 @@ module _ (p : Site) (w : TermsView) (table : IsTable p.symbols.now) (known : IsO
       (record {
         judged = record { family = Family.Congruence; is = refl };
         pivots = inr refl;
+        no_index = refl;
         narrow = λ wide. wide;
         met = record {
           left = left;
@@ -269,6 +274,7 @@ module _ (p : Site) (w : TermsView) (table : IsTable p.symbols.now) (known : IsO
       (record {
         judged = record { family = Family.Refl; is = refl };
         pivots = inr refl;
+        no_index = refl;
         narrow = λ wide. wide;
         met = record { left = given.left; right = given.right; none = refl; literal = refl; same = given.same };
       })
@@ -296,6 +302,7 @@ module _ (p : Site) (w : TermsView) (table : IsTable p.symbols.now) (known : IsO
       (record {
         judged = record { family = Family.Clausal; is = refl };
         pivots = inr refl;
+        no_index = refl;
         narrow = λ wide. wide;
         met = record { terms = letters t u; units = refl; literals = refl };
       })
@@ -310,6 +317,7 @@ module _ (p : Site) (w : TermsView) (table : IsTable p.symbols.now) (known : IsO
       (record {
         judged = record { family = Family.Clausal; is = refl };
         pivots = inr refl;
+        no_index = refl;
         narrow = λ wide. wide;
         met = record { premise = given.given; one = refl; changed = given.each };
       })

@@ -13,6 +13,7 @@ use Rattle.term_pool.specs.Views.{TermsView, KeepsTerms, RefersTo, ReferToAll}
 use Rattle.proof_store.specs.AddedSteps.{AddedStep}
 use Rattle.proof_store.specs.Meaning.{IsPivotOf}
 use Rattle.proof_store.specs.declared.added.Link.{Link}
+use Rattle.rule_model.specs.declared.index_arg.IndexArg.{IndexArg}
 use Rattle.rule_model.specs.declared.rules.Mode.{Mode}
 use Rattle.rule_model.specs.declared.rules.Rule.{Rule}
 use Rattle.rule_model.specs.Judged.{Judged}
@@ -89,6 +90,7 @@ module _ (p : Site) (v w : TermsView) (keeps : KeepsTerms v w) where
     pivots = zip_weaken (IsPivotOf p.symbols.now v) (IsPivotOf p.symbols.now w)
         (λ a b q. record { term = refers_later a.0 b.0 q.term; truth = q.truth }) x.pivots j.pivots h.pivots;
     ratios = h.ratios;
+    index = h.index;
     anchors = anchors_later x.anchors j.anchors h.anchors;
   }
 
@@ -143,6 +145,7 @@ module _ (p : Site) (v : TermsView) where
           h.stands.premises;
       pivots = h.stands.pivots;
       ratios = h.stands.ratios;
+      index = h.stands.index;
       anchors = h.stands.anchors;
     };
     strict = h.strict;
@@ -201,6 +204,7 @@ module _ (p : Site) (v : TermsView) where
     premises = premises;
     pivots = pivots;
     ratios = None;
+    index = IndexArg.Free;
     anchors = anchors;
   }
 
@@ -217,6 +221,7 @@ module _ (p : Site) (v : TermsView) where
       premises = linked_stand steps a.premises premises say;
       pivots = pivots_stand;
       ratios = refl;
+      index = refl;
       anchors = anchors_stand;
     };
     strict = refl;

@@ -10,7 +10,7 @@ use Rattle.rule_model.specs.Conditions.{IsTooWide, Met}
 use Rattle.rule_model.specs.Judged.{Judged}
 use Rattle.rule_model.specs.Reading.{scope_at}
 use Rattle.rule_model.specs.Resolution.{IsResolvent}
-use Rattle.rule_model.specs.RuleNames.{kind_of, IsJudged}
+use Rattle.rule_model.specs.RuleNames.{kind_of, takes_index, IsJudged}
 use Rattle.elaborator.specs.Sources.{Looked, looked_of, own_anchors}
 use Rattle.elaboration_laws.specs.StrictBlocks.{StandsForJudged}
 use Rattle.equality_steps.specs.Links.{IsLinkAt, LinkSays}
@@ -21,10 +21,12 @@ use Rattle.equality_steps.specs.Sites.{IsLiteralAt, IsSite}
 abbrev pub looked_in : Site → List AddedStep → AddedStep → Looked
 looked_in p steps a = looked_of p.proof.now steps (own_anchors p.proof.now p.command) a
 
--- The step is by a rule that has a condition, which it meets, with numbers that are not too wide. Only a resolution has pivots.
+-- The step is by a rule that has a condition, which it meets, with numbers that are not too wide. Only a resolution has pivots, and the rule
+-- speaks of no one argument, so an index is not asked for.
 pub record IsMetStep (a : AddedStep) (j : Judged) : Type 0 where
   pub judged : IsJudged (kind_of a.rule)
   pub pivots : (a.rule ≡ Rule.Resolution) ⊎ (a.pivots ≡ [])
+  pub no_index : takes_index a.rule ≡ false
   pub narrow : ¬ IsTooWide j
   pub met : Met j
 

@@ -10,7 +10,7 @@ use Rattle.filled_texts.specs.declared.asking.Stop.{Stop}
 
 -- a check without options
 abbrev pub plain : Options
-plain = record { replaces_lets = false; ignores_unknown_rules = false; is_strict = false }
+plain = record { replaces_lets = false; ignores_unknown_rules = false; is_strict = false; is_profile_two = false }
 
 -- A reply fills a question where, without options, it is checked to be a valid proof of it. Neither may be longer than a text may be.
 pub record Fills (question reply : List ℕ) : Type 0 where

@@ -1,6 +1,7 @@
 -- Public. A proof with one hole that is spelled out, and fillers that are asked about it.
 use Rattle.std.specs.Prelude.{ℕ, Bool, true, false, List, [], ◌∷◌, Option, Some, None, codes}
 use Rattle.term_model.specs.Terms.{Var, Term, not_of}
+use Rattle.rule_model.specs.declared.index_arg.IndexArg.{IndexArg}
 use Rattle.rule_model.specs.declared.rules.Rule.{Rule}
 use Rattle.rule_model.specs.declared.statuses.Status.{Status}
 use Rattle.rule_model.specs.Proofs.{ProofItems, no_items, with_assume, with_step}
@@ -21,6 +22,7 @@ with_hole =
       discharged = [];
       pivots = [];
       ratios = None;
+      index = IndexArg.Free;
     })
 
 abbrev pub with_hole_statuses : List Status

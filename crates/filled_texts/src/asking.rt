@@ -26,6 +26,7 @@ const PLAIN: Options = Options {
     replaces_lets: false,
     ignores_unknown_rules: false,
     is_strict: false,
+    is_profile_two: false,
 };
 
 /// Why it ended before its end.

@@ -39,7 +39,7 @@ pub record IsSummary (problem : List ℕ) (options : Options) (proof : List ℕ)
 
 -- no lets are replaced, unknown rules are no holes, and conditions are not strict
 abbrev pub no_options : Options
-no_options = record { replaces_lets = false; ignores_unknown_rules = false; is_strict = false }
+no_options = record { replaces_lets = false; ignores_unknown_rules = false; is_strict = false; is_profile_two = false }
 
 -- the same of the two texts of n links, checked without options
 abbrev pub IsSummaryOfLinks : ℕ → Summary → Type 0

@@ -169,6 +169,7 @@ pub fn generate<R: Threads + Sync, G: Gate>(
             replaces_lets: false,
             ignores_unknown_rules: false,
             is_strict: false,
+            is_profile_two: false,
         },
     };
     come(workers, alloc, &texts, most_bits)

@@ -27,7 +27,7 @@ checking_of options assertions = record {
 
 -- how the proof is read: its lets are replaced where the problem's are, and pivots are read where conditions are strict
 abbrev pub settings_of : Options → ProofSettings
-settings_of options = limited_proof options.replaces_lets options.is_strict
+settings_of options = limited_proof options.replaces_lets options.is_strict options.is_profile_two
 
 -- The term counts as read of the proof's text, behind the script for which the problem's text stands.
 pub record IsReadOfProof (problem : List ℕ) (options : Options) (proof : List ℕ) (t : Term) : Type 0 where

@@ -23,6 +23,7 @@ flags_of options = record {
   expand_lets = options.replaces_lets;
   strict = options.is_strict;
   ignore_unknown = options.ignores_unknown_rules;
+  profile_two = options.is_profile_two;
 }
 
 -- what was read of the two texts, in a table and a pool: the references of the assertions, and the proof over references

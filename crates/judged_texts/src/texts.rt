@@ -53,6 +53,7 @@ pub fn flags_of(options: Options) -> Flags
         expand_lets: options.replaces_lets,
         strict: options.is_strict,
         ignore_unknown: options.ignores_unknown_rules,
+        profile_two: options.is_profile_two,
     }
 }
 

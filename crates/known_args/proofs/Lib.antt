@@ -1,3 +1,5 @@
 pub mod TableLemmas
+pub mod FewArguments
+mod FirstPlaces
 mod RowLemmas
 mod ApplicationLemmas

@@ -1,8 +1,9 @@
 //! The arguments of one application.
 
-ghost use Rattle.std.specs.Prelude.{◌≡◌, ◌↔◌, ◌<◌, ℕ, [], None, Some, IsTrue, IfOk, OnOk, Contains, length};
+ghost use Rattle.std.specs.Prelude.{◌≡◌, ◌↔◌, ◌<◌, ℕ, [], None, Some, IsTrue, IfOk, IfNone, IfSome, OnOk, Contains, length, slice_get};
 ghost use Rattle.pair_pool.specs.Views.{IsKnown};
 ghost use Rattle.known_args.specs.Rows.{IsRowOf};
+ghost use Rattle.rule_model.specs.LeastIndices.{IsLeastFor};
 ghost use Rattle.rule_model.specs.Resolution.{IsFirstsOf};
 ghost use Rattle.known_args.specs.Tables.{AddsItem, HasTable};
 
@@ -77,6 +78,27 @@ fn is_among(items: &[Ref], x: Ref) -> bool
     ensures { IsTrue result ↔ Contains items.now x }
 {
     items.contains(&x)
+}
+
+/// The number that a table has for a reference.
+fn number_in(table: &IndexSet<Ref>, x: Ref) -> Option<usize>
+    ensures number { IfSome result (λ k. slice_get table.now.keys k ≡ Some x) }
+    ensures none { IfNone result (¬ Contains table.now.keys x) }
+{
+    table.get_index_of(&x)
+}
+
+/// The first place of a reference in a list, which is not one of so many first places.
+fn first_from(items: &[Ref], from: usize, x: Ref) -> Option<usize>
+    requires { (k : ℕ) → k < from → ¬ (slice_get items.now k ≡ Some x) }
+    ensures { IsLeastFor (λ k. slice_get items.now k ≡ Some x) result }
+{
+    'places: for place in from..items.len() {
+        if items[place] == x {
+            return Some(place);
+        }
+    }
+    None
 }
 
 /// Adds a reference to a list that lacks it.
@@ -175,6 +197,17 @@ impl Row {
             return is_in(&self.table, x);
         }
         is_among(&self.items, x)
+    }
+
+    /// The first place at which a term stands among them. Of many, as many are looked at as are repeats of earlier ones.
+    pub fn first_place(&self, x: Ref) -> Option<usize>
+        ensures { IsLeastFor (λ k. slice_get self.now.1 k ≡ Some x) result }
+    {
+        if self.items.len() <= FEW {
+            return first_from(&self.items, 0, x);
+        }
+        let number = number_in(&self.table, x)?;
+        first_from(&self.items, number, x)
     }
 
     /// The arguments without later repeats, in order. Those of many are copied from the table.

@@ -1,5 +1,5 @@
 -- Public. A proof that is printed behind a problem with names for closed terms that stand more than once.
-use Rattle.std.specs.Prelude.{◌≡◌, ℕ, false, List, Contains}
+use Rattle.std.specs.Prelude.{◌≡◌, ℕ, Bool, false, List, Contains}
 use Rattle.sym_table.specs.Table.{Table}
 use Rattle.term_model.specs.Terms.{Var, Term}
 use Rattle.term_pool.specs.Views.{TermsView}
@@ -18,13 +18,13 @@ use Rattle.readable_proofs.specs.ProofsOver.{printed_settings}
 use Rattle.alethe_printer.specs.Printed.{proof_text}
 use Rattle.term_sharing.specs.Naming.{HasNoLeaf}
 
--- Behind a script, the bytes stand for the proof with its ids numbered: they are read as a strict proof, lets are kept, and no height
+-- In this profile and behind a script, the bytes stand for the proof with its ids numbered: they are read as a strict proof, lets are kept, and no height
 -- is judged. The script behind them is that of the proof printed with some names: no terms are read but those of the proof, terms in
 -- them, and the images of the variables of its anchors.
-pub record IsReadAs (bytes : List ℕ) (script : Script) (proof : ProofItems Var Term) : Type 0 where
+pub record IsReadAs (is_profile_two : Bool) (bytes : List ℕ) (script : Script) (proof : ProofItems Var Term) : Type 0 where
   pub plan : Plan
   pub after : Script
-  pub stands : StandsForProof bytes printed_settings script (numbered_proof proof) after
+  pub stands : StandsForProof bytes (printed_settings is_profile_two) script (numbered_proof proof) after
   pub behind : after ≡ behind_items plan script outermost proof
 
 -- names that are free behind a script: no leaf of the table has one

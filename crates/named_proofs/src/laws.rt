@@ -13,7 +13,7 @@ ghost use Rattle.alethe_text.specs.ProofTexts.{StandsForProof};
 ghost use Rattle.alethe_text.specs.States.{ProofSettings};
 ghost use Rattle.printed_proofs.specs.Shared.{Plan};
 ghost use Rattle.readable_proofs.specs.Names.{vocabulary_of};
-ghost use Rattle.readable_proofs.specs.ProofsOver.{HaveRatios, IsProofOver};
+ghost use Rattle.readable_proofs.specs.ProofsOver.{HaveArguments, IsProofOver};
 ghost use Rattle.alethe_printer.specs.Printed.{HaveSorts, proof_text};
 ghost use Rattle.named_proofs.specs.Named.{IsFreePlan, IsReadAs};
 
@@ -28,11 +28,11 @@ use term_sharing::terms_are_apart;
 /// leaf of the table has. Where no variable that a let or an anchor of the two texts binds has the name of a declared function, the
 /// printed text stands for the proof with its ids numbered.
 pub fn named_proofs_are_read_back()
-    ensures { (problem : List ℕ) (replaces : Bool) (before : Script) (source : List ℕ) (settings : ProofSettings)
+    ensures { (is_profile_two : Bool) (problem : List ℕ) (replaces : Bool) (before : Script) (source : List ℕ) (settings : ProofSettings)
         (proof : ProofItems Var Term) (after : Script) (s : Table) (v : TermsView) (refs : ProofItems ℕ ℕ) (other : ProofItems Var Term)
         (plan : Plan) → StandsForProblem problem replaces before → StandsForProof source settings before proof after →
-        StandForItems s v refs other → IsProofOver (vocabulary_of before after.let_names) other → HaveRatios other → IsWellFormed other →
-        commands_in other ≤ 2 ^ 32 → IsFreePlan s before plan → HasNamesApart after → IsReadAs (proof_text plan before other) before other }
+        StandForItems s v refs other → IsProofOver (vocabulary_of before after.let_names) other → HaveArguments is_profile_two other → IsWellFormed other →
+        commands_in other ≤ 2 ^ 32 → IsFreePlan s before plan → HasNamesApart after → IsReadAs is_profile_two (proof_text plan before other) before other }
 {
     terms_are_apart();
     scripts_are_well_named();

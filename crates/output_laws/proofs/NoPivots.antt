@@ -15,7 +15,7 @@ use Rattle.problem_text.specs.Limits.{is_low}
 use Rattle.problem_text.specs.Scripts.{Script, with_let_name}
 use Rattle.problem_text.specs.Words.{is_among, is_built_in}
 use Rattle.alethe_text.specs.Anchors.{bound_names, sort_given, image_of, argument_read, arguments_read, anchor_read}
-use Rattle.alethe_text.specs.Arguments.{takes_coefficients, takes_pivots, named_among, pivots_from, arguments_from}
+use Rattle.alethe_text.specs.Arguments.{takes_coefficients, takes_pivots, reads_index, index_given, named_among, pivots_from, arguments_from}
 use Rattle.alethe_text.specs.Coefficients.{coefficients_from}
 use Rattle.alethe_text.specs.Commands.{Attribute, rule, premises, arguments, discharge, Argument, variable_alone, assigned}
 use Rattle.alethe_text.specs.Commands.{Command, assume, step, anchor, command_of}
@@ -71,7 +71,8 @@ module _ (settings : ProofSettings) (check : settings.is_strict ≡ false) where
       go : (a b : Bool) → b ≡ false → Ends StepIsPlain
           ((if a then (given (coefficients_from items) >>= λ qs. give (record x { ratios = qs }))
           else if b then (pivots_from settings nesting items >>= λ pivots. give (record x { pivots = unwrap_or pivots [] }))
-          else (named_among settings nesting items >>= λ _. give x)) s)
+          else (named_among settings nesting items >>= λ _.
+          give (record x { index = if reads_index settings x.rule then index_given items else x.index }))) s)
       go true b e = given_next (λ _. ⊤) StepIsPlain (coefficients_from items) _ s (always (coefficients_from items)) (λ qs _. h)
       go false true e = absurd (let f : true ≡ false = e in cc)
       go false false e =
@@ -110,8 +111,8 @@ module _ (settings : ProofSettings) (check : settings.is_strict ≡ false) where
   step_plain n literals others s h =
       and_next IsPlain IsPlain (standing_of n) _ s (standing_plain n s h)
       (λ p t k. and_next IsPlain IsPlain (formulas_in settings p.nesting literals) _ t (formulas_stay ScopeHasNone settings p.nesting literals t k)
-      (λ clause u l. and_next StepIsPlain IsPlain (attributes_read settings p others (bare_step n.name (rule_word others) clause)) _ u
-      (attributes_plain p others (bare_step n.name (rule_word others) clause) u (refl, l))
+      (λ clause u l. and_next StepIsPlain IsPlain (attributes_read settings p others (bare_step settings n.name (rule_word others) clause)) _ u
+      (attributes_plain p others (bare_step settings n.name (rule_word others) clause) u (refl, l))
       (λ x w m. taken_plain w.scope x m.1 m.0)))
 
   assume_plain : (n : Name) (i : Item) (s : ProofState) → ScopeHasNone s.scope → Ends IsPlain (assume_read settings n i s)

@@ -24,7 +24,7 @@ use problem_text::laws::texts_have_one_reading;
 use pruned_proofs::laws::pruned_proofs_are_well_formed;
 use readable_proofs::laws::{
     printed_terms_are_low, proofs_are_over_their_names, proofs_are_readable,
-    proofs_that_pass_have_coefficients,
+    proofs_that_pass_have_arguments,
 };
 use reread_laws::laws::{
     low_proofs_are_printed_low, numbered_proofs_are_the_same,
@@ -73,17 +73,17 @@ pub fn elaborations_are_read_low()
 pub fn pruned_texts_are_read_in_both_modes()
     ensures both { (problem : List ℕ) (options : Options) (proof bytes : List ℕ) (out : IsPrunedText problem options proof bytes)
         (apart : HasNamesApart out.refutation.checked.after) (is_strict : Bool) → options.is_strict ≡ false →
-        StandsForProof bytes (record printed_settings { is_strict = is_strict }) out.refutation.checked.script
+        StandsForProof bytes (record (printed_settings options.is_profile_two) { is_strict = is_strict }) out.refutation.checked.script
         (numbered_proof (left_of problem options proof out.refutation)) (out.read_back apart).after }
     // So it is read within the limit of heights: each term of it stood in the proof that was read.
     ensures limited { (problem : List ℕ) (options : Options) (proof bytes : List ℕ) (out : IsPrunedText problem options proof bytes)
         (apart : HasNamesApart out.refutation.checked.after) (is_strict : Bool) →
-        options.is_strict ≡ false → StandsForProof bytes (limited_proof false is_strict)
+        options.is_strict ≡ false → StandsForProof bytes (limited_proof false is_strict options.is_profile_two)
         out.refutation.checked.script (numbered_proof (left_of problem options proof out.refutation)) (out.read_back apart).after }
     // Where lets were replaced, no term of it has one, and it is read the same with lets replaced.
     ensures replaced { (problem : List ℕ) (options : Options) (proof bytes : List ℕ) (out : IsPrunedText problem options proof bytes)
         (apart : HasNamesApart out.refutation.checked.after) (is_strict : Bool) →
-        options.is_strict ≡ false → options.replaces_lets ≡ true → StandsForProof bytes (limited_proof true is_strict)
+        options.is_strict ≡ false → options.replaces_lets ≡ true → StandsForProof bytes (limited_proof true is_strict options.is_profile_two)
         out.refutation.checked.script (numbered_proof (left_of problem options proof out.refutation)) (out.read_back apart).after }
 {
     readable_proofs_are_spelled();
@@ -91,7 +91,8 @@ pub fn pruned_texts_are_read_in_both_modes()
     proofs_are_well_formed();
     pruned_proofs_are_well_formed();
     proofs_are_over_their_names();
-    proofs_that_pass_have_coefficients();
+    indices_are_those_of_the_profile();
+    proofs_that_pass_have_arguments();
     proofs_are_readable();
     proofs_are_read_alike_within_limits();
     pruned_proofs_are_printed_low();

@@ -3,6 +3,7 @@ mod NumberedScopes
 mod NumberedCommands
 mod PrintedArguments
 mod PrintedCoefficients
+mod PrintedIndices
 mod SharedStates
 mod SharedTerms
 mod ReadableParts

@@ -13,7 +13,7 @@ use Rattle.problem_text.specs.Words.{is_among}
 use Rattle.alethe_text.specs.PrintedCommands.{symbol_items, with_list}
 use Rattle.alethe_text.specs.Anchors.{image_of}
 use Rattle.printed_proofs.specs.Arguments.{pivot_items}
-use Rattle.printed_proofs.specs.Coefficients.{coefficient_items}
+use Rattle.printed_proofs.specs.Coefficients.{coefficient_items, numbers_of}
 use Rattle.printed_proofs.specs.Numbered.{printed_id}
 use Rattle.printed_proofs.specs.Parts.{Part, whole, arguments, pairs, body, close, bracket, naming, literals, pivots, truth, discharged, variables}
 use Rattle.printed_proofs.specs.Parts.{parts_text, parts_behind, listed_text, rule_text, IsApplied, GoesOn}
@@ -167,8 +167,8 @@ module _ (plan : Plan) (s : Script) (ps : List Part) (step : Step Term) where
       (a ∙ ap (λ x. listed_text (codes ":premises") (symbol_items (map printed_id step.premises)) ++ x) b)
       ∙ simp append_assoc
 
-  -- the step by its coefficients
-  with_ratios : (o : Option (List Fraction)) → step.ratios ≡ o → (args : Items) (behind : Script)
+  -- the step by its numbers
+  with_ratios : (o : Option (List Fraction)) → numbers_of step.ratios step.index ≡ o → (args : Items) (behind : Script)
       → elim o [ Some qs ↦ coefficient_items qs | None ↦ pivot_items (shared_pivots plan s step.pivots) ] ≡ args
       → elim o [ Some qs ↦ s | None ↦ behind_pivots plan s step.pivots ] ≡ behind
       → GoesOn plan s (literals step [] ∷ ps) (rule_text step ++ listed_text (codes ":args") args) behind (discharged step ∷ ps)
@@ -187,16 +187,16 @@ module _ (plan : Plan) (s : Script) (ps : List Part) (step : Step Term) where
         behind = ap (λ u. parts_behind plan u ps) last_state;
       }
 
-  pub coefficients_next : (qs : List Fraction) → step.ratios ≡ Some qs
+  pub coefficients_next : (qs : List Fraction) → numbers_of step.ratios step.index ≡ Some qs
       → GoesOn plan s (literals step [] ∷ ps) (rule_text step ++ listed_text (codes ":args") (coefficient_items qs)) s (discharged step ∷ ps)
   coefficients_next qs is = with_ratios (Some qs) is (coefficient_items qs) s refl refl
 
-  pub no_arguments_next : step.ratios ≡ None → step.pivots ≡ []
+  pub no_arguments_next : numbers_of step.ratios step.index ≡ None → step.pivots ≡ []
       → GoesOn plan s (literals step [] ∷ ps) (rule_text step ++ []) s (discharged step ∷ ps)
   no_arguments_next none e =
       with_ratios None none no_items s (ap (λ qs. pivot_items (shared_pivots plan s qs)) e) (ap (λ qs. behind_pivots plan s qs) e)
 
-  pub pivots_begin : (p : Term × Bool) (qs : List (Term × Bool)) → step.ratios ≡ None → step.pivots ≡ p ∷ qs
+  pub pivots_begin : (p : Term × Bool) (qs : List (Term × Bool)) → numbers_of step.ratios step.index ≡ None → step.pivots ≡ p ∷ qs
       → GoesOn plan s (literals step [] ∷ ps) (rule_text step ++ codes " :args (") s (pivots [] (p ∷ qs) ∷ discharged step ∷ ps)
   pivots_begin p qs none e =
       let h = with_ratios None none (pivot_items (shared_pivots plan s (p ∷ qs))) (behind_pivots plan s (p ∷ qs))

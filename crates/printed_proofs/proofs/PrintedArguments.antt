@@ -2,12 +2,14 @@
 use Rattle.std.proofs.Common.{◌≡◌, ℕ, ◌+◌, length, Bool, true, false, ◌&&◌, if◌then◌else◌, Some, None, Result, Ok, Err, List, [], ◌∷◌, map}
 use Rattle.std.proofs.Common.{refl, sym, ap, ◌∙◌, subst}
 use Rattle.std.specs.Prelude.{unwrap_or}
+use Rattle.std.proofs.Math.Bool.{and-false}
 use Rattle.sexpr.specs.declared.causes.Refusal.{Refusal}
 use Rattle.sexpr.specs.Items.{Item, word, Items, no_items}
 use Rattle.sexpr.specs.Printed.{placed, placed_all, printed}
 use Rattle.term_model.specs.declared.symbols.Sort.{Sort}
 use Rattle.term_model.specs.Terms.{Var, Term}
 use Rattle.term_model.proofs.Tests.{sort_eq_decides}
+use Rattle.rule_model.specs.declared.index_arg.IndexArg.{IndexArg}
 use Rattle.rule_model.specs.declared.rules.Rule.{Rule}
 use Rattle.rule_model.specs.Proofs.{Step}
 use Rattle.rule_model.specs.RuleNames.{rule_named}
@@ -22,7 +24,7 @@ use Rattle.alethe_text.specs.Coefficients.{coefficients_from}
 use Rattle.alethe_text.specs.PrintedCommands.{ArgumentItems, AreFormulaItems, ArgumentsLead, IsArgumentItem}
 use Rattle.alethe_text.specs.ProofTerms.{place_in, term_in}
 use Rattle.alethe_text.specs.States.{ProofSettings, ProofState, Reading, ◌>>=◌, give, given}
-use Rattle.alethe_text.specs.Steps.{bare_step}
+use Rattle.alethe_text.specs.Steps.{bare_step, unread_index}
 use Rattle.printed_proofs.specs.Arguments.{PivotItem, truth_word, pivot_items, ArePivotItems, BindsAs}
 use Rattle.printed_proofs.specs.Numbered.{printed_id, numbered_step}
 use Rattle.printed_proofs.specs.Printing.{HasParts}
@@ -91,47 +93,61 @@ pivots_lead settings nesting (q ∷ ps) x s u strict takes_some no_ratios none h
     λ at p. given_pivots settings nesting (q ∷ ps) x p s u strict takes_some no_ratios h at
 
 -- a step is what its bare step comes to
-abbrev whole_of : ℕ → Step Term → List (Term × Bool) → Step Term
-whole_of index s ps = record (bare_step (printed_id index) s.rule_name s.clause) { premises = s.premises; pivots = ps }
+abbrev whole_of : ProofSettings → ℕ → Step Term → List (Term × Bool) → Step Term
+whole_of settings index s ps = record (bare_step settings (printed_id index) s.rule_name s.clause) { premises = s.premises; pivots = ps }
 
-bare_is : (index : ℕ) (s : Step Term) (ps : List (Term × Bool)) → s.rule ≡ rule_named s.rule_name
-    → s.ratios ≡ (if takes_coefficients s.rule then Some [] else None) → ps ≡ s.pivots
-    → whole_of index s ps ≡ record (numbered_step index s) { discharged = [] }
-bare_is index s ps named ratios pivots =
+bare_is : (settings : ProofSettings) (index : ℕ) (s : Step Term) (ps : List (Term × Bool)) → s.rule ≡ rule_named s.rule_name
+    → s.ratios ≡ (if takes_coefficients s.rule then Some [] else None) → ps ≡ s.pivots → s.index ≡ unread_index settings s.rule
+    → whole_of settings index s ps ≡ record (numbered_step index s) { discharged = [] }
+bare_is settings index s ps named ratios pivots unread =
     ap (λ r. record (numbered_step index s) {
       rule = r;
       ratios = if takes_coefficients r then Some [] else None;
       pivots = ps;
       discharged = [];
+      index = unread_index settings r;
     }) (sym named)
-    ∙ (ap (λ qs. record (numbered_step index s) { ratios = qs; pivots = ps; discharged = [] }) (sym ratios)
-    ∙ ap (λ qs. record (numbered_step index s) { pivots = qs; discharged = [] }) pivots)
+    ∙ (ap (λ qs. record (numbered_step index s) {
+      ratios = qs;
+      pivots = ps;
+      discharged = [];
+      index = unread_index settings s.rule;
+    }) (sym ratios)
+    ∙ (ap (λ qs. record (numbered_step index s) { pivots = qs; discharged = []; index = unread_index settings s.rule }) pivots
+    ∙ ap (λ k. record (numbered_step index s) { discharged = []; index = k }) (sym unread)))
 
 pub plain_parts : (settings : ProofSettings) (nesting : Nesting Var Term) (index : ℕ) (s : Step Term) (literals : Items) (before after : Script)
     → s.rule ≡ rule_named s.rule_name → s.ratios ≡ (if takes_coefficients s.rule then Some [] else None) → s.pivots ≡ []
-    → AreFormulaItems settings nesting literals before s.clause after → HasParts settings nesting index s literals no_items before after
-plain_parts settings nesting index s literals before after named ratios pivots clause = record {
+    → s.index ≡ unread_index settings s.rule → AreFormulaItems settings nesting literals before s.clause after → HasParts settings nesting index s literals no_items before after
+plain_parts settings nesting index s literals before after named ratios pivots unread clause = record {
   behind_clause = after;
   clause = clause;
-  argued = (bare_is index s [] named ratios (sym pivots), refl);
+  argued = (bare_is settings index s [] named ratios (sym pivots) unread, refl);
 }
 
 pub resolution_parts : (settings : ProofSettings) (nesting : Nesting Var Term) (index : ℕ) (s : Step Term) (literals : Items) (ps : List PivotItem)
     (before middle after : Script) → settings.is_strict ≡ true → takes_pivots s.rule ≡ true → s.rule ≡ rule_named s.rule_name → s.ratios ≡ None
-    → map (λ p. p.pivot) ps ≡ s.pivots → AreFormulaItems settings nesting literals before s.clause middle
+    → map (λ p. p.pivot) ps ≡ s.pivots → s.index ≡ IndexArg.Free → AreFormulaItems settings nesting literals before s.clause middle
     → ArePivotItems settings nesting ps middle after → HasParts settings nesting index s literals (pivot_items ps) before after
-resolution_parts settings nesting index s literals ps before middle after strict takes_some named ratios pivots clause read =
-    let bare : Step Term = whole_of index s [] in
+resolution_parts settings nesting index s literals ps before middle after strict takes_some named ratios pivots free clause read =
+    let bare : Step Term = whole_of settings index s [] in
     let takes : takes_pivots bare.rule ≡ true = ap takes_pivots (sym named) ∙ takes_some in
     let no_ratios : takes_coefficients s.rule ≡ false = without s.rule takes_some in
     let lead = pivots_lead settings nesting ps bare middle after strict takes (ap takes_coefficients (sym named) ∙ no_ratios) refl read in
-    let same = bare_is index s (map (λ p. p.pivot) ps) named (ratios ∙ sym (ap (λ b. if b then Some [] else None) no_ratios)) pivots in
+    let same =
+    bare_is settings index s (map (λ p. p.pivot) ps) named (ratios ∙ sym (ap (λ b. if b then Some [] else None) no_ratios)) pivots
+    (free ∙ sym (no_index s.rule takes_some)) in
     record {
       behind_clause = middle;
       clause = clause;
       argued = subst (λ (made : Step Term). ArgumentsLead settings nesting (pivot_items ps) bare middle made after) same lead;
     }
   where
+    no_index : (r : Rule) → takes_pivots r ≡ true → unread_index settings r ≡ IndexArg.Free
+    no_index Rule.Resolution e = ap (λ b. if b then IndexArg.Missing else IndexArg.Free) (and-false settings.is_profile_two)
+    no_index Rule.ThResolution e = ap (λ b. if b then IndexArg.Missing else IndexArg.Free) (and-false settings.is_profile_two)
+    no_index _ e = absurd (let f : false ≡ true = e in cc)
+
     without : (r : Rule) → takes_pivots r ≡ true → takes_coefficients r ≡ false
     without Rule.LaGeneric e = absurd (let f : false ≡ true = e in cc)
     without _ e = refl

@@ -9,6 +9,7 @@ use Rattle.std.specs.List.{AllByRecursion, after_first, prefix_len, list_all}
 use Rattle.std.proofs.lemmas.List.{drop_all}
 use Rattle.std.proofs.Math.Nat.{div-mul_cancel, mul_comm, div-one}
 use Rattle.std.proofs.Math.IntN.{pos-*ℤ-negsuc}
+use Rattle.std.proofs.Math.Bool.{and-false}
 use Rattle.std.proofs.lemmas.Bool.{and_parts}
 use Rattle.std.proofs.lemmas.Bool.Decides.{nat_tests}
 use Rattle.std.proofs.lemmas.List.Elements.{All-head, All-tail}
@@ -19,6 +20,8 @@ use Rattle.sexpr.specs.Items.{Item, word, list, Items, no_items, item}
 use Rattle.sexpr.specs.Printed.{placed, placed_all, printed, IsSpelledItem, AreSpelledItems}
 use Rattle.sexpr.specs.Words.{is_ratio}
 use Rattle.sexpr.proofs.PrintedNumerals.{decimal_is, decimal_is_word}
+use Rattle.rule_model.specs.declared.index_arg.IndexArg.{IndexArg}
+use Rattle.rule_model.specs.declared.rules.Rule.{Rule}
 use Rattle.rule_model.specs.Proofs.{Fraction, Step}
 use Rattle.rule_model.specs.RuleNames.{rule_named}
 use Rattle.rule_model.specs.Scopes.{Nesting}
@@ -31,7 +34,7 @@ use Rattle.alethe_text.specs.Coefficients.{coefficient_of, common_divisor}
 use Rattle.alethe_text.specs.Coefficients.{lowest, is_wide, is_negative, fraction_parts, width_fault, signed, coefficient_read, coefficients_from}
 use Rattle.alethe_text.specs.PrintedCommands.{AreFormulaItems, ArgumentsLead}
 use Rattle.alethe_text.specs.States.{ProofSettings, ◌>>=◌}
-use Rattle.alethe_text.specs.Steps.{bare_step}
+use Rattle.alethe_text.specs.Steps.{bare_step, unread_index}
 use Rattle.alethe_text.proofs.LowestTerms.{divisor_is}
 use Rattle.printed_proofs.specs.Coefficients.{numeral_item, quotient_item, amount_item, opposite_item, coefficient_item, coefficient_items}
 use Rattle.printed_proofs.specs.Numbered.{printed_id, numbered_step}
@@ -237,18 +240,35 @@ lead settings nesting [] x s takes none h = (ap (λ r. record x { ratios = r }) 
 lead settings nesting (q ∷ qs) x s takes none h =
     λ at p. let read = coefficients_are_read (q ∷ qs) at [] h in rw (takes, read) refl
 
+-- a step with coefficients has no index
+no_index : (settings : ProofSettings) (r : Rule) → takes_coefficients r ≡ true → unread_index settings r ≡ IndexArg.Free
+no_index settings Rule.LaGeneric e = ap (λ b. if b then IndexArg.Missing else IndexArg.Free) (and-false settings.is_profile_two)
+no_index settings _ e = absurd (let f : false ≡ true = e in cc)
+
 pub coefficient_parts : (settings : ProofSettings) (nesting : Nesting Var Term) (index : ℕ) (s : Step Term) (literals : Items)
     (qs : List Fraction) (before after : Script) → s.rule ≡ rule_named s.rule_name → takes_coefficients s.rule ≡ true → s.pivots ≡ []
-    → s.ratios ≡ Some qs → All IsLowest qs → AreFormulaItems settings nesting literals before s.clause after
+    → s.ratios ≡ Some qs → s.index ≡ IndexArg.Free → All IsLowest qs → AreFormulaItems settings nesting literals before s.clause after
     → HasParts settings nesting index s literals (coefficient_items qs) before after
-coefficient_parts settings nesting index s literals qs before after named takes pivots ratios lowest clause =
-    let bare : Step Term = record (bare_step (printed_id index) s.rule_name s.clause) { premises = s.premises } in
+coefficient_parts settings nesting index s literals qs before after named takes pivots ratios free lowest clause =
+    let bare : Step Term = record (bare_step settings (printed_id index) s.rule_name s.clause) { premises = s.premises } in
     let takes_too : takes_coefficients bare.rule ≡ true = ap takes_coefficients (sym named) ∙ takes in
     let none : bare.ratios ≡ Some [] = ap (λ b. if b then Some [] else None) takes_too in
     let same : record bare { ratios = Some qs } ≡ record (numbered_step index s) { discharged = [] } =
-    ap (λ r. record (numbered_step index s) { rule = r; ratios = Some qs; pivots = []; discharged = [] }) (sym named)
-    ∙ (ap (λ rs. record (numbered_step index s) { ratios = rs; pivots = []; discharged = [] }) (sym ratios)
-    ∙ ap (λ ps. record (numbered_step index s) { pivots = ps; discharged = [] }) (sym pivots)) in
+    ap (λ r. record (numbered_step index s) {
+      rule = r;
+      ratios = Some qs;
+      pivots = [];
+      discharged = [];
+      index = unread_index settings r;
+    }) (sym named)
+    ∙ (ap (λ rs. record (numbered_step index s) {
+      ratios = rs;
+      pivots = [];
+      discharged = [];
+      index = unread_index settings s.rule;
+    }) (sym ratios)
+    ∙ (ap (λ ps. record (numbered_step index s) { pivots = ps; discharged = []; index = unread_index settings s.rule }) (sym pivots)
+    ∙ ap (λ k. record (numbered_step index s) { discharged = []; index = k }) (no_index settings s.rule takes ∙ sym free))) in
     record {
       behind_clause = after;
       clause = clause;

@@ -1,12 +1,15 @@
 -- The parts of printed commands are read back in their scopes.
+use Rattle.std.proofs.Math.Bool.{and-false}
 use Rattle.std.proofs.Common.{◌≡◌, ◌⊎◌, inl, inr, ℕ, Bool, true, false, ◌||◌, if◌then◌else◌, Option, Some, None, List, [], ◌∷◌, ◌++◌, map, reverse, All}
-use Rattle.std.proofs.Common.{refl, sym, ap, ◌∙◌, subst}
+use Rattle.std.proofs.Common.{refl, sym, ap, ◌∙◌, subst, pos, ◌<◌, ◌^◌}
 use Rattle.std.specs.Prelude.{IfSome, Ok}
 use Rattle.std.specs.List.{AllByRecursion}
 use Rattle.sexpr.specs.Items.{Items}
 use Rattle.sexpr.specs.Printed.{placed}
 use Rattle.term_model.specs.declared.symbols.Sort.{Sort}
 use Rattle.term_model.specs.Terms.{Var, Term}
+use Rattle.rule_model.specs.RuleNames.{takes_index}
+use Rattle.rule_model.specs.declared.index_arg.IndexArg.{IndexArg}
 use Rattle.rule_model.specs.declared.rules.Rule.{Rule}
 use Rattle.rule_model.specs.Contexts.{images}
 use Rattle.rule_model.specs.Judged.{open_anchors}
@@ -21,19 +24,21 @@ use Rattle.problem_text.specs.Scripts.{Script, with_let_name, with_term}
 use Rattle.problem_text.specs.Sorts.{sort_from}
 use Rattle.problem_text.specs.Terms.{read_term}
 use Rattle.problem_text.specs.Words.{is_among}
+use Rattle.alethe_text.specs.Steps.{unread_index}
 use Rattle.alethe_text.specs.Anchors.{image_of}
-use Rattle.alethe_text.specs.Arguments.{takes_coefficients, takes_pivots}
+use Rattle.alethe_text.specs.Arguments.{takes_coefficients, takes_pivots, reads_index}
 use Rattle.alethe_text.specs.PrintedCommands.{IsFormulaItem, AreFormulaItems, ArgumentItems, IsArgumentItem, AreArgumentItems}
 use Rattle.alethe_text.specs.ProofTerms.{place_in, term_settings}
 use Rattle.alethe_text.specs.States.{ProofSettings}
+use Rattle.printed_proofs.proofs.PrintedIndices.{index_parts}
 use Rattle.printed_proofs.specs.Arguments.{IsTermItem, pivot_items, ArePivotItems, BindsAs}
-use Rattle.printed_proofs.specs.Coefficients.{coefficient_items}
+use Rattle.printed_proofs.specs.Coefficients.{coefficient_items, numbers_of}
 use Rattle.printed_proofs.specs.Numbered.{numbered_nesting, numbered_scope}
 use Rattle.printed_proofs.specs.Printing.{HasParts}
 use Rattle.printed_proofs.specs.Naming.{IsPlan, IsReady, IsPlaceApart}
 use Rattle.printed_proofs.specs.PrintedProof.{literal_items, behind_literals, shared_pivots, behind_pivots, step_arguments, behind_arguments, behind_step}
 use Rattle.printed_proofs.specs.PrintedProof.{sort_item, behind_binding, shared_bindings, behind_bindings}
-use Rattle.printed_proofs.specs.Readable.{IsTermReadable, IsPivotReadable, IsStepReadable, AreBindingsReadable}
+use Rattle.printed_proofs.specs.Readable.{IsTermReadable, IsPivotReadable, IsStepReadable, AreBindingsReadable, IsIndexReadable}
 use Rattle.printed_proofs.specs.Shared.{Plan, shared_item, behind_term}
 use Rattle.printed_proofs.proofs.PrintedArguments.{plain_parts, resolution_parts, argument_printed}
 use Rattle.printed_proofs.proofs.PrintedCoefficients.{coefficient_parts}
@@ -136,7 +141,7 @@ same_pivots plan s (p ∷ ps) = ap (λ qs. p ∷ qs) (same_pivots plan (behind_t
 
 -- steps
 arguments_follow : (plan : Plan) (step : Step Term) (s : Script) → IsPlan plan → Follows plan s (behind_arguments plan s step)
-arguments_follow plan step s sound = go step.ratios
+arguments_follow plan step s sound = go (numbers_of step.ratios step.index)
   where
     go : (o : Option (List Fraction)) → Follows plan s (elim o [ Some qs ↦ s | None ↦ behind_pivots plan s step.pivots ])
     go (Some qs) = same_follow plan s s refl
@@ -154,6 +159,10 @@ pivots_taken r (inr e) = ap takes_pivots e
 no_both : (r : Rule) → r ≡ Rule.LaGeneric → (r ≡ Rule.Resolution) ⊎ (r ≡ Rule.ThResolution) → ⊥
 no_both r e (inl f) = let g : true ≡ false = ap takes_coefficients (sym e ∙ f) in cc
 no_both r e (inr f) = let g : true ≡ false = ap takes_coefficients (sym e ∙ f) in cc
+
+no_index : (settings : ProofSettings) (r : Rule) → (r ≡ Rule.Resolution) ⊎ (r ≡ Rule.ThResolution) → reads_index settings r ≡ true → ⊥
+no_index settings r (inl e) h = let f : false ≡ true = sym (and-false settings.is_profile_two) ∙ (ap (reads_index settings) (sym e) ∙ h) in cc
+no_index settings r (inr e) h = let f : false ≡ true = sym (and-false settings.is_profile_two) ∙ (ap (reads_index settings) (sym e) ∙ h) in cc
 
 no_coefficients : (b : Bool) → (b ≡ true → ⊥) → b ≡ false
 no_coefficients true h = absurd (h refl)
@@ -181,7 +190,7 @@ module _ (settings : ProofSettings) (plan : Plan) (base s : Script) (closings : 
       → HasParts settings (numbered_nesting closings nesting) index step literals (coefficient_items qs) s behind
   with_coefficients qs is =
       coefficient_parts settings (numbered_nesting closings nesting) index step literals qs s behind rule.named (ap takes_coefficients generic)
-      none is lowest clause
+      none is free lowest clause
     where
       generic_of : (step.rule ≡ Rule.LaGeneric) ⊎ (step.ratios ≡ None) → step.rule ≡ Rule.LaGeneric
       generic_of (inl e) = e
@@ -197,14 +206,59 @@ module _ (settings : ProofSettings) (plan : Plan) (base s : Script) (closings : 
       none : step.pivots ≡ []
       none = none_of rule.pivots
 
+      free_of : (takes_index step.rule ≡ true) ⊎ (step.index ≡ IndexArg.Free) → step.index ≡ IndexArg.Free
+      free_of (inl e) = absurd (let f : false ≡ true = ap takes_index (sym generic) ∙ e in cc)
+      free_of (inr e) = e
+
+      free : step.index ≡ IndexArg.Free
+      free = free_of rule.index
+
       lowest : All IsLowest qs
       lowest = subst (λ (o : Option (List Fraction)). IfSome o (λ qs. All IsLowest qs)) is rule.lowest
 
-  with_pivots : step.ratios ≡ None
+  with_index : (j : ℕ) → step.ratios ≡ None → step.index ≡ IndexArg.At j
+      → HasParts settings (numbered_nesting closings nesting) index step literals (coefficient_items (record { num = pos j; den = pos 1 } ∷ [])) s behind
+  with_index j none is =
+      index_parts settings (numbered_nesting closings nesting) index step literals j s behind rule.named here.0 (no_pivots rule.pivots) none is here.1
+      clause
+    where
+      there : (b : Bool) → reads_index settings step.rule ≡ b → IsIndexReadable b (IndexArg.At j)
+          → (reads_index settings step.rule ≡ true) × (j < 2 ^ 32)
+      there true e low = (e, low)
+      there false e low = absurd low
+
+      here : (reads_index settings step.rule ≡ true) × (j < 2 ^ 32)
+      here = there (reads_index settings step.rule) refl (subst (IsIndexReadable (reads_index settings step.rule)) is readable.index)
+
+      no_pivots : ((step.rule ≡ Rule.Resolution) ⊎ (step.rule ≡ Rule.ThResolution)) ⊎ (step.pivots ≡ []) → step.pivots ≡ []
+      no_pivots (inl e) = absurd (no_index settings step.rule e here.0)
+      no_pivots (inr e) = e
+
+  with_pivots : step.ratios ≡ None → numbers_of None step.index ≡ None
       → HasParts settings (numbered_nesting closings nesting) index step literals (pivot_items (shared_pivots plan behind step.pivots)) s
       (behind_pivots plan behind step.pivots)
-  with_pivots none = go rule.pivots
+  with_pivots none unprinted = go rule.pivots
     where
+      unread_of : (b : Bool) (k : IndexArg) → IsIndexReadable b k → numbers_of None k ≡ None
+          → k ≡ (if b then IndexArg.Missing else IndexArg.Free)
+      unread_of true IndexArg.Missing h e = refl
+      unread_of true (IndexArg.At j) h e = absurd cc
+      unread_of true IndexArg.Free h e = absurd h
+      unread_of true IndexArg.Bad h e = absurd h
+      unread_of false IndexArg.Free h e = refl
+      unread_of false IndexArg.Missing h e = absurd h
+      unread_of false (IndexArg.At j) h e = absurd h
+      unread_of false IndexArg.Bad h e = absurd h
+
+      unread : step.index ≡ unread_index settings step.rule
+      unread = unread_of (reads_index settings step.rule) step.index readable.index unprinted
+
+      free_of : (step.rule ≡ Rule.Resolution) ⊎ (step.rule ≡ Rule.ThResolution) → (takes_index step.rule ≡ true) ⊎ (step.index ≡ IndexArg.Free)
+          → step.index ≡ IndexArg.Free
+      free_of (inl e) (inl f) = absurd (let g : false ≡ true = ap takes_index (sym e) ∙ f in cc)
+      free_of (inr e) (inl f) = absurd (let g : false ≡ true = ap takes_index (sym e) ∙ f in cc)
+      free_of e (inr f) = f
+
       no_ratios : takes_coefficients step.rule ≡ false
       no_ratios = no_coefficients (takes_coefficients step.rule) (λ e. readable.coefficients e none)
 
@@ -213,24 +267,27 @@ module _ (settings : ProofSettings) (plan : Plan) (base s : Script) (closings : 
           (behind_pivots plan behind step.pivots)
       go (inl e) =
           resolution_parts settings (numbered_nesting closings nesting) index step literals (shared_pivots plan behind step.pivots) s behind
-          (behind_pivots plan behind step.pivots) back.strict (pivots_taken step.rule e) rule.named none (same_pivots plan behind step.pivots) clause
-          pivots
+          (behind_pivots plan behind step.pivots) back.strict (pivots_taken step.rule e) rule.named none (same_pivots plan behind step.pivots)
+          (free_of e rule.index) clause pivots
       go (inr e) =
           subst
           (λ ps. HasParts settings (numbered_nesting closings nesting) index step literals (pivot_items (shared_pivots plan behind ps)) s
           (behind_pivots plan behind ps)) (sym e)
           (plain_parts settings (numbered_nesting closings nesting) index step literals s behind rule.named
-          (none ∙ sym (ap (λ b. if b then Some [] else None) no_ratios)) e clause)
+          (none ∙ sym (ap (λ b. if b then Some [] else None) no_ratios)) e unread clause)
 
   pub step_parts : HasParts settings (numbered_nesting closings nesting) index step literals (step_arguments plan behind step) s (behind_step plan s step)
-  step_parts = go step.ratios refl
+  step_parts = go step.ratios step.index refl refl
     where
-      go : (o : Option (List Fraction)) → step.ratios ≡ o
+      go : (o : Option (List Fraction)) (k : IndexArg) → step.ratios ≡ o → step.index ≡ k
           → HasParts settings (numbered_nesting closings nesting) index step literals
-          (elim o [ Some qs ↦ coefficient_items qs | None ↦ pivot_items (shared_pivots plan behind step.pivots) ]) s
-          (elim o [ Some qs ↦ behind | None ↦ behind_pivots plan behind step.pivots ])
-      go (Some qs) is = with_coefficients qs is
-      go None is = with_pivots is
+          (elim (numbers_of o k) [ Some qs ↦ coefficient_items qs | None ↦ pivot_items (shared_pivots plan behind step.pivots) ]) s
+          (elim (numbers_of o k) [ Some qs ↦ behind | None ↦ behind_pivots plan behind step.pivots ])
+      go (Some qs) k is at = with_coefficients qs is
+      go None (IndexArg.At j) is at = with_index j is at
+      go None IndexArg.Free is at = with_pivots is (ap (numbers_of None) at)
+      go None IndexArg.Missing is at = with_pivots is (ap (numbers_of None) at)
+      go None IndexArg.Bad is at = with_pivots is (ap (numbers_of None) at)
 
 -- the variables of anchors
 pub binding_follow : (plan : Plan) (nesting : Nesting Var Term) (s : Script) (b : Var × Term) → IsPlan plan

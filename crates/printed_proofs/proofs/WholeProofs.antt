@@ -1,35 +1,41 @@
 -- A whole proof is read back from what is printed of it.
-use Rattle.std.proofs.Common.{◌≡◌, ℕ, ◌+◌, ◌<◌, ◌≤◌, ◌^◌, Bool, true, false, Option, Some, None, List, [], ◌∷◌, map, codes, All}
-use Rattle.std.proofs.Common.{refl, sym, ◌∙◌, subst, arith}
-use Rattle.std.specs.Prelude.{IfSome}
+use Rattle.std.proofs.Common.{◌≡◌, ℕ, pos, ◌+◌, ◌<◌, ◌≤◌, ◌^◌, Bool, true, false, Option, Some, None, List, [], ◌∷◌, map, codes, All}
+use Rattle.std.proofs.Common.{refl, sym, ap, ◌∙◌, subst, arith}
+use Rattle.std.specs.Int.{◌∣◌}
+use Rattle.std.specs.Prelude.{IfSome, unsigned_abs}
 use Rattle.std.specs.Char.{is_ascii_digit}
 use Rattle.std.specs.List.{AllByRecursion, list_all}
+use Rattle.std.proofs.lemmas.Int.{unsigned_abs-mul}
+use Rattle.std.proofs.lemmas.List.Elements.{All-nil, All-cons}
 use Rattle.std.proofs.lemmas.List.Sums.{AllPass-from_list_all}
+use Rattle.std.proofs.Math.Nat.{dvd-mul_right, eq-one_of_dvd-one}
 use Rattle.sexpr.specs.Characters.{is_word_byte, is_mark}
 use Rattle.sexpr.specs.Grammar.{IsWord}
 use Rattle.sexpr.specs.Items.{Items, no_items, item}
 use Rattle.sexpr.specs.Printed.{IsSymbolItem, IsSpelledItem, AreSpelledItems, printed_lines}
 use Rattle.term_model.specs.declared.symbols.Sort.{Sort}
 use Rattle.term_model.specs.Terms.{Var, Term}
+use Rattle.rule_model.specs.declared.index_arg.IndexArg.{IndexArg}
 use Rattle.rule_model.specs.Proofs.{Fraction, Step, ProofItems, with_assume, with_step, with_subproof}
 use Rattle.rule_model.specs.Proofs as proof
 use Rattle.rule_model.specs.Scopes.{Nesting, outermost, inner, at, first_index, commands_in}
 use Rattle.rule_model.specs.Visibility.{direct_assumes, seen, visible, assumes_in}
 use Rattle.rule_model.specs.WellFormed.{HasRule, IsLowest, AreWellFormed, IsWellFormed}
 use Rattle.problem_text.specs.Scripts.{Script, with_let_name}
+use Rattle.alethe_text.specs.Arguments.{reads_index}
 use Rattle.alethe_text.specs.ProofTerms.{place_in}
 use Rattle.alethe_text.specs.ProofTexts.{StandsForProof}
 use Rattle.alethe_text.specs.PrintedCommands.{symbol_items, with_list, step_item, anchor_item, ArgumentItems, printed_arguments, StepItems}
 use Rattle.alethe_text.specs.PrintedCommands.{Written, LeadAll, BeginsAsProof}
 use Rattle.alethe_text.specs.States.{ProofSettings}
 use Rattle.printed_proofs.specs.Arguments.{pivot_items, truth_word}
-use Rattle.printed_proofs.specs.Coefficients.{coefficient_items}
+use Rattle.printed_proofs.specs.Coefficients.{coefficient_items, numbers_of}
 use Rattle.printed_proofs.specs.Naming.{IsPlan, IsReady, IsPlaceApart}
 use Rattle.printed_proofs.specs.Numbered.{printed_id, numbered, numbered_proof, numbered_nesting, numbered_scope, CloseEach, AreBehind}
 use Rattle.printed_proofs.specs.PrintedProof.{joined, literal_items, behind_literals, shared_pivots, step_arguments, shared_step, behind_step}
 use Rattle.printed_proofs.specs.PrintedProof.{sort_item, shared_bindings, behind_binding, behind_bindings, scope_items, behind_items, proof_items}
 use Rattle.printed_proofs.specs.Printing.{written, printed_step}
-use Rattle.printed_proofs.specs.Readable.{IsTermReadable, IsPivotReadable, IsStepReadable, AreBindingsReadable, AreReadable}
+use Rattle.printed_proofs.specs.Readable.{IsTermReadable, IsPivotReadable, IsIndexReadable, IsStepReadable, AreBindingsReadable, AreReadable}
 use Rattle.printed_proofs.specs.Shared.{Plan, shared_item, behind_term}
 use Rattle.printed_proofs.proofs.NumberedCommands.{assume_printed, step_printed, closing_printed, anchor_printed, text_printed}
 use Rattle.printed_proofs.proofs.NumberedCommands.{rule_symbol, found_at, none_found}
@@ -229,10 +235,38 @@ pivots_spelled settings plan base nesting (p ∷ ps) s sound h = (
   (truth_spelled p.1, pivots_spelled settings plan base nesting ps (behind_term plan s p.0) sound h.1),
 )
 
+-- a place of 32 bits is a number in lowest terms
+place_lowest : (j : ℕ) → j < 2 ^ 32 → IsLowest (record { num = pos j; den = pos 1 })
+place_lowest j low = record {
+  over_zero = grind arith;
+  lowest = λ k m n e f. eq-one_of_dvd-one (subst (λ x. k ∣ x) (sym (ap unsigned_abs f ∙ unsigned_abs-mul (pos k) n)) (dvd-mul_right k (unsigned_abs n)));
+  narrow_num = (grind arith, grind (arith, low));
+  narrow_den = (grind arith, grind arith);
+}
+
+numbers_lowest : (o : Option (List Fraction)) (k : IndexArg) → IfSome o (λ qs. All IsLowest qs) → ((j : ℕ) → k ≡ IndexArg.At j → j < 2 ^ 32)
+    → IfSome (numbers_of o k) (λ qs. All IsLowest qs)
+numbers_lowest (Some qs) k h low = h
+numbers_lowest None (IndexArg.At j) h low = All-cons IsLowest (record { num = pos j; den = pos 1 }) [] (place_lowest j (low j refl)) (All-nil IsLowest)
+numbers_lowest None IndexArg.Free h low = tt
+numbers_lowest None IndexArg.Missing h low = tt
+numbers_lowest None IndexArg.Bad h low = tt
+
 arguments_spelled : (settings : ProofSettings) (plan : Plan) (base : Script) (nesting : Nesting Var Term) (step : Step Term) (s : Script) → IsPlan plan
     → HasRule step → IsStepReadable settings plan base nesting step → AreSpelledItems (step_arguments plan s step)
-arguments_spelled settings plan base nesting step s sound rule readable = go step.ratios rule.lowest
+arguments_spelled settings plan base nesting step s sound rule readable =
+    go (numbers_of step.ratios step.index) (numbers_lowest step.ratios step.index rule.lowest (low (reads_index settings step.rule) step.index readable.index))
   where
+    low : (b : Bool) (k : IndexArg) → IsIndexReadable b k → (j : ℕ) → k ≡ IndexArg.At j → j < 2 ^ 32
+    low true (IndexArg.At i) h j e = let same : i ≡ j = cc in subst (λ n. n < 2 ^ 32) same h
+    low true IndexArg.Missing h j e = absurd cc
+    low true IndexArg.Free h j e = absurd h
+    low true IndexArg.Bad h j e = absurd h
+    low false IndexArg.Free h j e = absurd cc
+    low false IndexArg.Missing h j e = absurd h
+    low false (IndexArg.At i) h j e = absurd h
+    low false IndexArg.Bad h j e = absurd h
+
     go : (o : Option (List Fraction)) → IfSome o (λ qs. All IsLowest qs)
         → AreSpelledItems (elim o [ Some qs ↦ coefficient_items qs | None ↦ pivot_items (shared_pivots plan s step.pivots) ])
     go (Some qs) lowest = coefficients_spelled qs lowest

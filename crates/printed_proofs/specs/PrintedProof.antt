@@ -11,7 +11,7 @@ use Rattle.problem_text.specs.Scripts.{Script, with_let_name, with_term}
 use Rattle.alethe_text.specs.Anchors.{image_of}
 use Rattle.alethe_text.specs.PrintedCommands.{assume_item, step_item, anchor_item, ArgumentItems, printed_arguments}
 use Rattle.printed_proofs.specs.Arguments.{PivotItem, pivot_items}
-use Rattle.printed_proofs.specs.Coefficients.{coefficient_items}
+use Rattle.printed_proofs.specs.Coefficients.{coefficient_items, numbers_of}
 use Rattle.printed_proofs.specs.Numbered.{printed_id}
 use Rattle.printed_proofs.specs.Printing.{printed_step}
 use Rattle.printed_proofs.specs.Shared.{Plan, shared_item, behind_term}
@@ -42,9 +42,9 @@ abbrev pub behind_pivots : Plan → Script → List (Term × Bool) → Script
 behind_pivots plan s [] = s
 behind_pivots plan s (p ∷ ps) = behind_pivots plan (behind_term plan s p.0) ps
 
--- The arguments of a step are its coefficients, where it has a list of them, and else its pivots.
+-- The arguments of a step are its numbers, where it has a list of them, and else its pivots.
 abbrev pub step_arguments : Plan → Script → Step Term → Items
-step_arguments plan s step = elim step.ratios [ Some qs ↦ coefficient_items qs | None ↦ pivot_items (shared_pivots plan s step.pivots) ]
+step_arguments plan s step = elim (numbers_of step.ratios step.index) [ Some qs ↦ coefficient_items qs | None ↦ pivot_items (shared_pivots plan s step.pivots) ]
 
 -- the step of an index, and the state behind it
 abbrev pub shared_step : Plan → Script → ℕ → Step Term → Item
@@ -52,7 +52,7 @@ shared_step plan s index step =
     step_item (printed_step index step (literal_items plan s step.clause) (step_arguments plan (behind_literals plan s step.clause) step))
 
 abbrev pub behind_arguments : Plan → Script → Step Term → Script
-behind_arguments plan s step = elim step.ratios [ Some qs ↦ s | None ↦ behind_pivots plan s step.pivots ]
+behind_arguments plan s step = elim (numbers_of step.ratios step.index) [ Some qs ↦ s | None ↦ behind_pivots plan s step.pivots ]
 
 abbrev pub behind_step : Plan → Script → Step Term → Script
 behind_step plan s step = behind_arguments plan (behind_literals plan s step.clause) step

@@ -30,5 +30,5 @@ pub record HasParts (settings : ProofSettings) (nesting : Nesting Var Term) (ind
     (before after : Script) : Type 0 where
   pub behind_clause : Script
   pub clause : AreFormulaItems settings nesting literals before s.clause behind_clause
-  pub argued : ArgumentsLead settings nesting arguments (record (bare_step (printed_id index) s.rule_name s.clause) { premises = s.premises })
+  pub argued : ArgumentsLead settings nesting arguments (record (bare_step settings (printed_id index) s.rule_name s.clause) { premises = s.premises })
       behind_clause (record (numbered_step index s) { discharged = [] }) after

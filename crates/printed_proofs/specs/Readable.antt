@@ -1,10 +1,11 @@
 -- Public. When a proof that is printed behind a script is read back: what has to hold of each term, pivot and variable in its place.
-use Rattle.std.specs.Prelude.{◌≡◌, ◌||◌, ℕ, true, false, List, [], ◌∷◌, None, Ok, ⊤}
+use Rattle.std.specs.Prelude.{◌≡◌, ◌<◌, ◌^◌, ◌||◌, ℕ, Bool, true, false, List, [], ◌∷◌, None, Ok, ⊤}
 use Rattle.std.specs.List.{AllByRecursion}
 use Rattle.sexpr.specs.Printed.{IsSymbolItem, IsSpelledItem, placed}
 use Rattle.term_model.specs.declared.symbols.Sort.{Sort}
 use Rattle.term_model.specs.Sorts.{IsOf}
 use Rattle.term_model.specs.Terms.{Var, Term}
+use Rattle.rule_model.specs.declared.index_arg.IndexArg.{IndexArg}
 use Rattle.rule_model.specs.Proofs.{Step, ProofItems, no_items, with_assume, with_step, with_subproof}
 use Rattle.rule_model.specs.Scopes.{Nesting, inner}
 use Rattle.problem_text.specs.PrintedTerms.{IsPrintable}
@@ -12,7 +13,7 @@ use Rattle.problem_text.specs.Scripts.{Script}
 use Rattle.problem_text.specs.Sorts.{sort_from}
 use Rattle.problem_text.specs.Words.{is_among, is_built_in}
 use Rattle.alethe_text.specs.Anchors.{bound_names}
-use Rattle.alethe_text.specs.Arguments.{takes_coefficients}
+use Rattle.alethe_text.specs.Arguments.{takes_coefficients, reads_index}
 use Rattle.alethe_text.specs.ProofTerms.{place_in}
 use Rattle.alethe_text.specs.States.{ProofSettings}
 use Rattle.printed_proofs.specs.Naming.{IsApart, IsPlaceApart}
@@ -29,11 +30,23 @@ pub record IsPivotReadable (settings : ProofSettings) (plan : Plan) (s : Script)
   pub sort : Sort
   pub readable : IsTermReadable settings plan s nesting t sort
 
+-- Where the step is read with an index, it is missing or a place of 32 bits; and else it is free.
+abbrev pub IsIndexReadable : Bool → IndexArg → Type 0
+IsIndexReadable true IndexArg.Missing = ⊤
+IsIndexReadable true (IndexArg.At j) = j < 2 ^ 32
+IsIndexReadable true IndexArg.Free = ⊥
+IsIndexReadable true IndexArg.Bad = ⊥
+IsIndexReadable false IndexArg.Free = ⊤
+IsIndexReadable false IndexArg.Missing = ⊥
+IsIndexReadable false (IndexArg.At j) = ⊥
+IsIndexReadable false IndexArg.Bad = ⊥
+
 -- A step by la_generic has a list of coefficients.
 pub record IsStepReadable (settings : ProofSettings) (plan : Plan) (s : Script) (nesting : Nesting Var Term) (step : Step Term) : Type 0 where
   pub clause : AllByRecursion (λ t. IsTermReadable settings plan s nesting t Sort.Bool) step.clause
   pub pivots : AllByRecursion (λ p. IsPivotReadable settings plan s nesting p.0) step.pivots
   pub coefficients : takes_coefficients step.rule ≡ true → step.ratios ≡ None → ⊥
+  pub index : IsIndexReadable (reads_index settings step.rule) step.index
 
 -- the sort is read from what is printed
 pub record IsSortReadable (s : Script) (sort : Sort) : Type 0 where

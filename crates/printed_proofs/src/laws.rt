@@ -1,11 +1,12 @@
 //! Laws of the definitions. The functions do nothing: their contracts are the laws.
-ghost use Rattle.std.specs.Prelude.{◌≡◌, ◌<◌, ◌≤◌, ◌^◌, ℕ, true, false, List, [], ◌∷◌, map, All, Some, None, if◌then◌else◌};
+ghost use Rattle.std.specs.Prelude.{◌≡◌, ◌<◌, ◌≤◌, ◌^◌, ℕ, pos, true, false, List, [], ◌∷◌, map, All, Some, None, if◌then◌else◌};
 ghost use Rattle.std.specs.List.{AllByRecursion};
 ghost use Rattle.sexpr.specs.Items.{Item, Items, no_items};
 ghost use Rattle.sexpr.specs.Printed.{IsSymbolItem, IsSpelledItem, AreSpelledItems, printed_lines, placed};
 ghost use Rattle.term_model.specs.declared.symbols.Sort.{Sort};
 ghost use Rattle.term_model.specs.Sorts.{IsOf};
 ghost use Rattle.term_model.specs.Terms.{Var, Term};
+ghost use Rattle.rule_model.specs.declared.index_arg.IndexArg.{IndexArg};
 ghost use Rattle.rule_model.specs.Proofs.{Fraction, Step, ProofItems, with_subproof};
 ghost use Rattle.rule_model.specs.Commands.{lines_in};
 ghost use Rattle.rule_model.specs.RuleNames.{rule_named};
@@ -18,12 +19,13 @@ ghost use Rattle.problem_text.specs.PrintedTerms.{IsPrintable};
 ghost use Rattle.problem_text.specs.Scripts.{Script, with_term};
 ghost use Rattle.problem_text.specs.Terms.{read_term};
 ghost use Rattle.alethe_text.specs.Anchors.{image_of};
-ghost use Rattle.alethe_text.specs.Arguments.{takes_coefficients, takes_pivots};
+ghost use Rattle.alethe_text.specs.Arguments.{takes_coefficients, takes_pivots, reads_index};
 ghost use Rattle.alethe_text.specs.PrintedCommands.{assume_item, step_item, anchor_item, ArgumentItems, printed_arguments};
 ghost use Rattle.alethe_text.specs.PrintedCommands.{IsFormulaItem, AreFormulaItems, IsArgumentItem, AreArgumentItems, BeginsAsProof};
 ghost use Rattle.alethe_text.specs.PrintedCommands.{ItemLeads, LeadAll};
 ghost use Rattle.alethe_text.specs.ProofTexts.{StandsForProof};
 ghost use Rattle.alethe_text.specs.States.{ProofSettings};
+ghost use Rattle.alethe_text.specs.Steps.{unread_index};
 ghost use Rattle.printed_proofs.specs.Numbered.{printed_id, numbered_proof, numbered_nesting, numbered_scope, CloseEach, AreBehind};
 ghost use Rattle.printed_proofs.specs.Coefficients.{coefficient_items};
 ghost use Rattle.printed_proofs.specs.Arguments.{PivotItem, pivot_items, ArePivotItems, BindsAs};
@@ -76,21 +78,26 @@ pub fn numbered_texts_are_read_back()
 {}
 
 /// The parts of a step: one without arguments is known by its clause and its premises; the arguments of a strict resolution are its
-/// pivots, and those of a step by la_generic its coefficients. So are those of an anchor: each variable is read with its sort and its term.
+/// pivots, those of a step by la_generic its coefficients, and that of a step with an index is its place. So are those of an anchor: each
+/// variable is read with its sort and its term.
 pub fn parts_are_read_back()
     ensures plain { (settings : ProofSettings) (nesting : Nesting Var Term) (index : ℕ) (s : Step Term) (literals : Items)
         (before after : Script) → s.rule ≡ rule_named s.rule_name →
-        s.ratios ≡ (if takes_coefficients s.rule then Some [] else None) → s.pivots ≡ [] →
+        s.ratios ≡ (if takes_coefficients s.rule then Some [] else None) → s.pivots ≡ [] → s.index ≡ unread_index settings s.rule →
         AreFormulaItems settings nesting literals before s.clause after → HasParts settings nesting index s literals no_items before after }
     ensures resolution { (settings : ProofSettings) (nesting : Nesting Var Term) (index : ℕ) (s : Step Term) (literals : Items)
         (ps : List PivotItem) (before middle after : Script) → settings.is_strict ≡ true → takes_pivots s.rule ≡ true →
-        s.rule ≡ rule_named s.rule_name → s.ratios ≡ None → map (λ p. p.pivot) ps ≡ s.pivots →
+        s.rule ≡ rule_named s.rule_name → s.ratios ≡ None → map (λ p. p.pivot) ps ≡ s.pivots → s.index ≡ IndexArg.Free →
         AreFormulaItems settings nesting literals before s.clause middle → ArePivotItems settings nesting ps middle after →
         HasParts settings nesting index s literals (pivot_items ps) before after }
     ensures coefficients { (settings : ProofSettings) (nesting : Nesting Var Term) (index : ℕ) (s : Step Term) (literals : Items)
         (qs : List Fraction) (before after : Script) → s.rule ≡ rule_named s.rule_name → takes_coefficients s.rule ≡ true →
-        s.pivots ≡ [] → s.ratios ≡ Some qs → All IsLowest qs → AreFormulaItems settings nesting literals before s.clause after →
+        s.pivots ≡ [] → s.ratios ≡ Some qs → s.index ≡ IndexArg.Free → All IsLowest qs → AreFormulaItems settings nesting literals before s.clause after →
         HasParts settings nesting index s literals (coefficient_items qs) before after }
+    ensures indices { (settings : ProofSettings) (nesting : Nesting Var Term) (index : ℕ) (s : Step Term) (literals : Items) (j : ℕ)
+        (before after : Script) → s.rule ≡ rule_named s.rule_name → reads_index settings s.rule ≡ true → s.pivots ≡ [] → s.ratios ≡ None →
+        s.index ≡ IndexArg.At j → j < 2 ^ 32 → AreFormulaItems settings nesting literals before s.clause after →
+        HasParts settings nesting index s literals (coefficient_items (record { num = pos j; den = pos 1 } ∷ [])) before after }
     ensures spelled_coefficients { (qs : List Fraction) → All IsLowest qs → AreSpelledItems (coefficient_items qs) }
     ensures variables { (settings : ProofSettings) (scope : Scope Var Term) (earlier : List (List ℕ)) (x : ArgumentItems) (s : Script)
         (b : Var × Term) (u : Script) → settings.limit ≡ None → BindsAs settings scope earlier x s b u →

@@ -47,6 +47,7 @@ module _ (s : Table) (v : TermsView) (marks : List Bool) where
     discharged = ap (map (new_index marks)) h.discharged;
     pivots = h.pivots;
     ratios = h.ratios;
+    index = h.index;
   }
 
   pub stand_left : (first : ℕ) (is : ProofItems ℕ ℕ) (ps : ProofItems Var Term) → StandForItems s v is ps → StandForItems s v (kept_items marks first is) (kept_items marks first ps)

@@ -5,7 +5,7 @@ use Rattle.term_model.proofs.Lists.{contains_head, contains_later, slice_get-lef
 use Rattle.std.proofs.lemmas.List.{length-append}
 use Rattle.rule_model.specs.Commands.{IndexedCommand, assume, step, closing, Line, lines_in}
 use Rattle.rule_model.specs.Proofs.{Step, ProofItems}
-use Rattle.rule_model.specs.Reading.{step_of, is_assume, id_at, rule_at, rule_name_at, clause_at, premises_at, discharged_at, pivots_at, ratios_at}
+use Rattle.rule_model.specs.Reading.{step_of, is_assume, id_at, rule_at, rule_name_at, clause_at, premises_at, discharged_at, pivots_at, ratios_at, index_arg_at}
 use Rattle.rule_model.specs.RuleNames.{rule_named}
 use Rattle.rule_model.specs.Scopes.{Anchor, Nesting, outermost, inside, Scope, at, commands_in, scope_number, first_index, next_index}
 use Rattle.rule_model.specs.WellFormed.{IsNewId, HasRule}
@@ -19,7 +19,7 @@ use Rattle.pruned_proofs.specs.Reached.{is_kept, on_premise}
 use Rattle.pruned_proofs.proofs.Counting.{kept_or_not, after_kept, after_dropped}
 use Rattle.pruned_proofs.proofs.Discharging.{discharged_before}
 use Rattle.pruned_proofs.proofs.KeptLines.{items_count, first_kept}
-use Rattle.pruned_proofs.proofs.KeptReading.{line_nested, pivots_are, ratios_are}
+use Rattle.pruned_proofs.proofs.KeptReading.{line_nested, pivots_are, ratios_are, index_arg_is}
 use Rattle.pruned_proofs.proofs.Nested.{all_if}
 use Rattle.pruned_proofs.proofs.Resting.{line_within, rests_before}
 use Rattle.proof_prune.specs.Order.{written_to}
@@ -264,7 +264,7 @@ module _ (job : Job) (is : IsJob job) (i : ℕ) (s : State) (at_line : IsAtLine 
       -- the step with its new indices
       module _ (st : Step ℕ) (id : st.id ≡ id_at job.proof i) (rule : st.rule ≡ rule_at job.proof i) (rule_name : st.rule_name ≡ rule_name_at job.proof i) (clause : st.clause ≡ clause_at job.proof i)
           (premises : st.premises ≡ map (slice_index s.places) (premises_at job.proof i)) (discharged : st.discharged ≡ map (slice_index s.places) (discharged_at job.proof i))
-          (pivots : st.pivots ≡ pivots_at job.proof i) (ratios : st.ratios ≡ ratios_at job.proof i) where
+          (pivots : st.pivots ≡ pivots_at job.proof i) (ratios : st.ratios ≡ ratios_at job.proof i) (index : st.index ≡ index_arg_at job.proof i) where
         is_new : st ≡ renumbered job.marks step_now.old
         is_new =
             let there = at_line.there in
@@ -278,7 +278,8 @@ module _ (job : Job) (is : IsJob job) (i : ℕ) (s : State) (at_line : IsAtLine 
             let f = discharged ∙ (places_same (discharged_at job.proof i) discharged_earlier ∙ (ap (map (new_index job.marks)) (discharged_are job.proof i l there) ∙ ap (λ (x : Step ℕ). map (new_index job.marks) x.discharged) old)) in
             let g = pivots ∙ (pivots_are job.proof i l there ∙ ap (λ (x : Step ℕ). x.pivots) old) in
             let h = ratios ∙ (ratios_are job.proof i l there ∙ ap (λ (x : Step ℕ). x.ratios) old) in
-            λ t. record { id = a t; rule = b t; rule_name = c t; clause = d t; premises = e t; discharged = f t; pivots = g t; ratios = h t }
+            let k = index ∙ (index_arg_is job.proof i l there ∙ ap (λ (x : Step ℕ). x.index) old) in
+            λ t. record { id = a t; rule = b t; rule_name = c t; clause = d t; premises = e t; discharged = f t; pivots = g t; ratios = h t; index = k t }
 
         pub step_may : MayTake s.builder st
         step_may = subst (MayTake s.builder) (sym is_new) step_now.may_take

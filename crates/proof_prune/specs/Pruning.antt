@@ -2,7 +2,7 @@
 use Rattle.std.specs.Prelude.{◌≡◌, ◌<◌, ◌≤◌, ◌+◌, ◌-◌, ◌^◌, ℕ, Bool, true, List, map, length, slice_get, slice_index, Some, if◌then◌else◌}
 use Rattle.rule_model.specs.Commands.{Line, lines_in}
 use Rattle.rule_model.specs.Proofs.{Step, ProofItems}
-use Rattle.rule_model.specs.Reading.{id_at, rule_at, rule_name_at, clause_at, premises_at, discharged_at, pivots_at, ratios_at, scope_at, bindings_at}
+use Rattle.rule_model.specs.Reading.{id_at, rule_at, rule_name_at, clause_at, premises_at, discharged_at, pivots_at, ratios_at, index_arg_at, scope_at, bindings_at}
 use Rattle.rule_model.specs.Scopes.{Nesting, outermost, inside, Scope, at, commands_in, subproofs_in, scope_number, next_index, next_scope}
 use Rattle.rule_model.specs.WellFormed.{IsWellFormed, MayOpen}
 use Rattle.rule_model.specs.Writing.{open_anchor}
@@ -105,6 +105,7 @@ new_step marks proof i = record {
   discharged = map (new_index marks) (discharged_at proof i);
   pivots = pivots_at proof i;
   ratios = ratios_at proof i;
+  index = index_arg_at proof i;
 }
 
 -- one more command is written, or none

@@ -137,6 +137,7 @@ fn put_step(parts: &Parts<'_>, written: &mut Written, i: u32) -> Result<(), Memo
         &discharged,
         parts.proof.pivots(i),
         parts.proof.ratios(i),
+        parts.proof.index(i),
     )?;
     Ok(())
 }

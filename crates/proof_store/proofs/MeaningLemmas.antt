@@ -9,7 +9,7 @@ use Rattle.term_pool.specs.Views.{TermsView, RefersTo}
 use Rattle.rule_model.specs.Proofs.{Step, ProofItems}
 use Rattle.rule_model.specs.Scopes.{Nesting, outermost, inner, commands_in, subproofs_in, scope_number, first_index, parent_number, last_index}
 use Rattle.rule_model.specs.Commands.{IndexedCommand, assume, step, closing, Entry, entry_of, around_number, lines_in, ScopeEntry, scopes_in, scopes}
-use Rattle.rule_model.specs.Reading.{id_of, rule_of, rule_name_of, clause_of, premises_of, discharged_of, pivots_of, ratios_of}
+use Rattle.rule_model.specs.Reading.{id_of, rule_of, rule_name_of, clause_of, premises_of, discharged_of, pivots_of, ratios_of, index_arg_of}
 use Rattle.term_pool.specs.Bindings.{IsBindingOf}
 use Rattle.proof_store.specs.Meaning.{IsPivotOf, IsProofStepOf, StandForItems, no_items_stand, assume_stands, step_stands, subproof_stands}
 
@@ -136,6 +136,7 @@ step_stays s z v w stay step' of h = record {
   discharged = h.discharged;
   pivots = zip_weaken (IsPivotOf s v) (IsPivotOf z w) (λ p q k. record { term = stay p.0 q.0 k.term; truth = k.truth }) step'.pivots of.pivots h.pivots;
   ratios = h.ratios;
+  index = h.index;
 }
 
 pub items_stay : (s z : Table) (v w : TermsView) → Keeps s z → ((r : ℕ) (t : Term) → RefersTo s v r t → RefersTo z w r t) → (is : ProofItems ℕ ℕ) (ps : ProofItems Var Term) → StandForItems s v is ps → StandForItems z w is ps
@@ -196,6 +197,14 @@ module _ (s : Table) (v : TermsView) where
       go _ _ (assume_is id r t k) = refl
       go _ _ (step_is a b k) = k.ratios
       go _ _ (closing_is a b k) = k.ratios
+
+  pub same_index : (e : Entry ℕ) (f : Entry Term) → IsEntryOf s v e f → index_arg_of e.command ≡ index_arg_of f.command
+  same_index e f h = go e.command f.command h.command
+    where
+      go : (c : IndexedCommand ℕ) (d : IndexedCommand Term) → IsCommandOf s v c d → index_arg_of c ≡ index_arg_of d
+      go _ _ (assume_is id r t k) = refl
+      go _ _ (step_is a b k) = k.index
+      go _ _ (closing_is a b k) = k.index
 
   pub same_clause : (e : Entry ℕ) (f : Entry Term) → IsEntryOf s v e f → AllZip (RefersTo s v) (clause_of e.command) (clause_of f.command)
   same_clause e f h = go e.command f.command h.command

@@ -66,6 +66,7 @@ module _ (s : Table) (v : TermsView) (known : IsOneToOne v.pass) (one_term : (a 
       let discharged = sym h.discharged ∙ k.discharged in
       let pivots = zip_one (IsPivotOf s v) one_pivot a.pivots b.pivots c.pivots h.pivots k.pivots in
       let ratios = sym h.ratios ∙ k.ratios in
+      let index = sym h.index ∙ k.index in
       λ i. record {
         id = id i;
         rule = rule i;
@@ -75,6 +76,7 @@ module _ (s : Table) (v : TermsView) (known : IsOneToOne v.pass) (one_term : (a 
         discharged = discharged i;
         pivots = pivots i;
         ratios = ratios i;
+        index = index i;
       }
 
   pub one_proof : (refs : ProofItems ℕ ℕ) (p q : ProofItems Var Term) → StandForItems s v refs p → StandForItems s v refs q → p ≡ q
@@ -121,6 +123,7 @@ module _ (s : Table) (v : TermsView) where
           discharged = a.discharged;
           pivots = pivots.list;
           ratios = a.ratios;
+          index = a.index;
         };
         related = record {
           id = refl;
@@ -131,6 +134,7 @@ module _ (s : Table) (v : TermsView) where
           discharged = refl;
           pivots = pivots.zip;
           ratios = refl;
+          index = refl;
         };
       }
 

@@ -3,11 +3,13 @@ use Rattle.std.proofs.Common.{◌≡◌, ℕ, Bool, List, [], map, length, slice
 use Rattle.std.specs.Borrow.{Bor}
 use Rattle.std.specs.Option.{option_map, option_map_or}
 use Rattle.std.proofs.lemmas.Option.{slice_get-map}
+use Rattle.rule_model.specs.declared.index_arg.IndexArg.{IndexArg}
 use Rattle.rule_model.specs.declared.rules.Rule.{Rule}
 use Rattle.rule_model.specs.Proofs.{Step, ProofItems}
 use Rattle.rule_model.specs.Scopes.{outermost, at, commands_in}
 use Rattle.rule_model.specs.Commands.{IndexedCommand, assume, step, closing, Line, entry_of, lines_in}
 use Rattle.rule_model.specs.Reading.{rule_of, rule_at, rule_name_of, rule_name_at, clause_of, clause_at, premises_of, premises_at, discharged_of, discharged_at, pivots_of, pivots_at, ratios_of, ratios_at}
+use Rattle.rule_model.specs.Reading.{index_arg_of, index_arg_at}
 use Rattle.proof_store.specs.declared.answers.Ratio.{Ratio}
 use Rattle.proof_store.specs.declared.drafts.Draft.{Draft}
 use Rattle.proof_store.specs.Ratios.{fraction_of_ratio, fractions}
@@ -88,6 +90,14 @@ module _ (d : Draft) (proof : ProofItems ℕ ℕ) (i : ℕ) (h : IsDraft d (at o
   read_pivots x at = read_step (λ s. s.pivots) pivots_of same d proof i x [] h at
     where
       same : (c : IndexedCommand ℕ) → pivots_of c ≡ (kept_step c).pivots
+      same (assume id t) = refl
+      same (step s) = refl
+      same (closing s) = refl
+
+  pub read_index : (x : IndexArg) → option_map (λ s. s.index) (slice_get d.commands i) ≡ Some x → x ≡ index_arg_at proof i
+  read_index x at = read_step (λ s. s.index) index_arg_of same d proof i x IndexArg.Free h at
+    where
+      same : (c : IndexedCommand ℕ) → index_arg_of c ≡ (kept_step c).index
       same (assume id t) = refl
       same (step s) = refl
       same (closing s) = refl

@@ -11,7 +11,8 @@ use Rattle.proof_store.specs.declared.answers.Ratio.{Ratio}
 use Rattle.proof_store.specs.declared.commands.Row.{Row}
 use Rattle.proof_store.specs.declared.commands.Columns.{Columns}
 use Rattle.proof_store.specs.declared.commands.NewCommand.{NewCommand}
-use Rattle.proof_store.specs.Stored.{Stored, named, name_in, KeepsNames, HasName, stored_at, stored_from, stored, IsLong, AgreesTo, HasAt, AreInStep}
+use Rattle.proof_store.specs.Stored.{Stored, named, name_in, KeepsNames, HasName, index_kind, index_with, stored_at, stored_from, stored}
+use Rattle.proof_store.specs.Stored.{IsLong, AgreesTo, HasAt, AreInStep}
 use Rattle.proof_store.proofs.ListLemmas.{get_agreed, get_from_slice_get}
 
 pub stored_count : (columns : Columns) (names : List (List ℕ)) (k : ℕ) (rows : List Row) → length (stored_from columns names k rows) ≡ length rows
@@ -64,20 +65,24 @@ module _ (columns : Columns) (names : List (List ℕ)) (rows : List Row) (i : �
   pub row_closes : (row : Row) → slice_get rows i ≡ Some row → option_map (λ s. s.closes) (slice_get (stored_from columns names 0 rows) i) ≡ Some row.closes
   row_closes row at = row_has (λ s. s.closes) columns names rows i row at
 
+  pub row_index : (row : Row) → slice_get rows i ≡ Some row
+      → option_map (λ s. s.index) (slice_get (stored_from columns names 0 rows) i) ≡ Some (index_with row.index row.number)
+  row_index row at = row_has (λ s. s.index) columns names rows i row at
+
   pub some_ratios : (row : Row) (x : List Ratio) → slice_get rows i ≡ Some row → row.has_ratios ≡ true → slice_index_or columns.ratios i [] ≡ x → option_map (λ s. s.ratios) (slice_get (stored_from columns names 0 rows) i) ≡ Some (Some x)
   some_ratios row x at has is = row_has (λ s. s.ratios) columns names rows i row at ∙ ap Some (rw has (ap Some is))
 
   pub no_ratios : (row : Row) → slice_get rows i ≡ Some row → row.has_ratios ≡ false → option_map (λ s. s.ratios) (slice_get (stored_from columns names 0 rows) i) ≡ Some None
   no_ratios row at has = row_has (λ s. s.ratios) columns names rows i row at ∙ ap Some (rw has refl)
 
-  pub unknown_name : (row : Row) (x : List ℕ) → slice_get rows i ≡ Some row → row.rule ≡ Rule.Unknown → slice_get names row.name ≡ Some x → option_map (λ s. s.rule_name) (slice_get (stored_from columns names 0 rows) i) ≡ Some x
-  unknown_name row x at is named = row_has (λ s. s.rule_name) columns names rows i row at ∙ ap Some (rw is (get_from_slice_get names row.name x [] named))
+  pub unknown_name : (row : Row) (x : List ℕ) → slice_get rows i ≡ Some row → row.rule ≡ Rule.Unknown → slice_get names row.number ≡ Some x → option_map (λ s. s.rule_name) (slice_get (stored_from columns names 0 rows) i) ≡ Some x
+  unknown_name row x at is named = row_has (λ s. s.rule_name) columns names rows i row at ∙ ap Some (rw is (get_from_slice_get names row.number x [] named))
 
   pub known_name : (row : Row) → slice_get rows i ≡ Some row → is_unknown row.rule ≡ false → option_map (λ s. s.rule_name) (slice_get (stored_from columns names 0 rows) i) ≡ Some (word_of row.rule)
   known_name row at is = row_has (λ s. s.rule_name) columns names rows i row at ∙ ap Some (rw is refl)
 
 -- a row's name has a number
-pub has_name : (names : List (List ℕ)) (rows : List Row) (i : ℕ) (row : Row) → AllByRecursion (HasName names) rows → slice_get rows i ≡ Some row → row.rule ≡ Rule.Unknown → row.name < length names
+pub has_name : (names : List (List ℕ)) (rows : List Row) (i : ℕ) (row : Row) → AllByRecursion (HasName names) rows → slice_get rows i ≡ Some row → row.rule ≡ Rule.Unknown → row.number < length names
 has_name names [] i row h at is = cc
 has_name names (first ∷ rows) zero row h at is = let same : first ≡ row = cc in subst (HasName names) same h.0 (rw is refl)
 has_name names (first ∷ rows) (suc i) row h at is = has_name names rows i row h.1 at is
@@ -86,12 +91,12 @@ has_name names (first ∷ rows) (suc i) row h at is = has_name names rows i row 
 kept_within : (old new : List (List ℕ)) (k : ℕ) → KeepsNames old new → k < length old → k < length new
 kept_within old new k keeps h = slice_get_within new k (get_or old k []) (keeps k (get_or old k []) (slice_get-get_or old k [] h))
 
-kept_name_in : (old new : List (List ℕ)) (row : Row) → KeepsNames old new → HasName old row → name_in new row.rule row.name ≡ name_in old row.rule row.name
+kept_name_in : (old new : List (List ℕ)) (row : Row) → KeepsNames old new → HasName old row → name_in new row.rule row.number ≡ name_in old row.rule row.number
 kept_name_in old new row keeps has = go (is_unknown row.rule) refl
   where
-    go : (b : Bool) → is_unknown row.rule ≡ b → (if b then slice_index_or new row.name [] else word_of row.rule) ≡ (if b then slice_index_or old row.name [] else word_of row.rule)
+    go : (b : Bool) → is_unknown row.rule ≡ b → (if b then slice_index_or new row.number [] else word_of row.rule) ≡ (if b then slice_index_or old row.number [] else word_of row.rule)
     go true e =
-        get_from_slice_get new row.name (get_or old row.name []) [] (keeps row.name (get_or old row.name []) (slice_get-get_or old row.name [] (has e)))
+        get_from_slice_get new row.number (get_or old row.number []) [] (keeps row.number (get_or old row.number []) (slice_get-get_or old row.number [] (has e)))
     go false e = refl
 
 -- what is kept of a row stays, where its lists do
@@ -118,12 +123,22 @@ stored_append columns names k (first ∷ rows) row j e = ap (λ l. stored_at col
 
 -- the row of a new command
 abbrev pub row_of : NewCommand → ℕ → Row
-row_of c name = record { rule = c.rule; has_ratios = is_some c.ratios; closes = c.closes; name = name; inner = c.inner; fresh = c.fresh }
+row_of c number = record {
+  rule = c.rule;
+  has_ratios = is_some c.ratios;
+  closes = c.closes;
+  index = index_kind c.index;
+  number = number;
+  inner = c.inner;
+  fresh = c.fresh;
+}
 
-stored_new : (columns : Columns) (names : List (List ℕ)) (n name : ℕ) (c : NewCommand) → HasAt n columns c → name_in names c.rule name ≡ named c.rule c.rule_name.now → stored_at columns names n (row_of c name) ≡ stored c
-stored_new columns names n name c has is =
+stored_new : (columns : Columns) (names : List (List ℕ)) (n name : ℕ) (c : NewCommand) → HasAt n columns c → name_in names c.rule name ≡ named c.rule c.rule_name.now
+    → index_with (index_kind c.index) name ≡ c.index → stored_at columns names n (row_of c name) ≡ stored c
+stored_new columns names n name c has is index =
     rw (
       is,
+      index,
       get_from_slice_get columns.ids n c.id.now [] has.ids,
       get_from_slice_get columns.clauses n c.clause.now [] has.clauses,
       get_from_slice_get columns.premises n c.premises.now [] has.premises,
@@ -138,10 +153,12 @@ stored_new columns names n name c has is =
     ratios (Some q) = refl
 
 -- a command is pushed
-pub stored_push : (columns next : Columns) (names more : List (List ℕ)) (rows : List Row) (c : NewCommand) (name : ℕ) → AgreesTo (length rows) columns next → HasAt (length rows) next c → KeepsNames names more → name_in more c.rule name ≡ named c.rule c.rule_name.now → AllByRecursion (HasName names) rows → stored_from next more 0 (rows ++ row_of c name ∷ []) ≡ stored_from columns names 0 rows ++ stored c ∷ []
-stored_push columns next names more rows c name a has keeps is named =
+pub stored_push : (columns next : Columns) (names more : List (List ℕ)) (rows : List Row) (c : NewCommand) (name : ℕ) → AgreesTo (length rows) columns next → HasAt (length rows) next c → KeepsNames names more → name_in more c.rule name ≡ named c.rule c.rule_name.now
+    → index_with (index_kind c.index) name ≡ c.index → AllByRecursion (HasName names) rows
+    → stored_from next more 0 (rows ++ row_of c name ∷ []) ≡ stored_from columns names 0 rows ++ stored c ∷ []
+stored_push columns next names more rows c name a has keeps is index named =
     stored_append next more 0 rows (row_of c name) (length rows) (omega arith)
-    ∙ rw (stored_same (length rows) columns next names more 0 rows a keeps named (omega arith), stored_new next more (length rows) name c has is) refl
+    ∙ rw (stored_same (length rows) columns next names more 0 rows a keeps named (omega arith), stored_new next more (length rows) name c has is index) refl
 
 -- or refused
 pub stored_refused : (columns next : Columns) (names : List (List ℕ)) (rows : List Row) → AgreesTo (length rows) columns next → AllByRecursion (HasName names) rows → stored_from next names 0 rows ≡ stored_from columns names 0 rows
@@ -156,7 +173,7 @@ long_push columns rows row c has = rw (length-append rows (row ∷ [])) (record 
 
 pub named_push : (names more : List (List ℕ)) (rows : List Row) (c : NewCommand) (name : ℕ) → KeepsNames names more → (is_unknown c.rule ≡ true → name < length more) → AllByRecursion (HasName names) rows → AllByRecursion (HasName more) (rows ++ row_of c name ∷ [])
 named_push names more [] c name keeps within h = (within, tt)
-named_push names more (row ∷ rows) c name keeps within h = ((λ e. kept_within names more row.name keeps (h.0 e)), named_push names more rows c name keeps within h.1)
+named_push names more (row ∷ rows) c name keeps within h = ((λ e. kept_within names more row.number keeps (h.0 e)), named_push names more rows c name keeps within h.1)
 
 pub in_step_push : (columns next : Columns) (names more : List (List ℕ)) (rows : List Row) (c : NewCommand) (name : ℕ) → AreInStep rows columns names → length rows < 2 ^ 32 - 1 → HasAt (length rows) next c → KeepsNames names more → (is_unknown c.rule ≡ true → name < length more) → length more ≤ length names + 1 → AreInStep (rows ++ row_of c name ∷ []) next more
 in_step_push columns next names more rows c name h few has keeps within count =

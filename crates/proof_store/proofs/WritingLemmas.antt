@@ -1,15 +1,17 @@
 -- What each call of a draft writes.
-use Rattle.std.proofs.Common.{◌≡◌, ◌<◌, ◌-◌, ◌^◌, ℕ, suc, Bool, true, false, List, map, length, Option, Some, None, refl, sym, ◌∙◌, ap, subst, arith, if◌then◌else◌}
+use Rattle.std.proofs.Common.{◌≡◌, ◌⊎◌, inl, inr, ◌<◌, ◌-◌, ◌^◌, ℕ, suc, Bool, true, false, List, map, length, Option, Some, None, refl, sym, ◌∙◌, ap, subst, arith, if◌then◌else◌}
 use Rattle.std.specs.Borrow.{Bor}
 use Rattle.std.specs.Option.{option_map}
 use Rattle.std.proofs.lemmas.List.{length-map}
-use Rattle.rule_model.specs.RuleNames.{word_of, is_unknown}
+use Rattle.rule_model.specs.declared.index_arg.IndexArg.{IndexArg}
+use Rattle.rule_model.specs.declared.rules.Rule.{Rule}
+use Rattle.rule_model.specs.RuleNames.{word_of, is_unknown, takes_index}
 use Rattle.rule_model.specs.Reading.{is_assume}
-use Rattle.rule_model.specs.Proofs.{Step}
-use Rattle.rule_model.specs.Scopes.{Scope, next_index, next_scope}
+use Rattle.rule_model.specs.Proofs.{Step, ProofItems}
+use Rattle.rule_model.specs.Scopes.{Nesting, outermost, inside, Scope, next_index, next_scope}
 use Rattle.rule_model.specs.Commands.{assume, step, scopes_to}
 use Rattle.rule_model.specs.WellFormed.{IsNewId, HasRule}
-use Rattle.rule_model.specs.Writing.{is_open_id, add_assume, add_step, take_step, MayTake}
+use Rattle.rule_model.specs.Writing.{is_open_id, add_assume, add_step, take_step, MayCloseHere, MayTake}
 use Rattle.rule_model.proofs.Numbers.{scopes_count}
 use Rattle.rule_model.proofs.RuleWords.{named_has_word, named_no_assume}
 use Rattle.rule_model.proofs.Writing.{entry_last, lines_assume, lines_step, scopes_assume, scopes_step}
@@ -17,7 +19,7 @@ use Rattle.proof_store.specs.declared.answers.Ratio.{Ratio}
 use Rattle.proof_store.specs.declared.commands.NewCommand.{NewCommand}
 use Rattle.proof_store.specs.declared.drafts.Draft.{Draft}
 use Rattle.proof_store.specs.Ratios.{fraction_of_ratio, fractions}
-use Rattle.proof_store.specs.Stored.{Stored, named}
+use Rattle.proof_store.specs.Stored.{Stored, named, HasRoomForIndex}
 use Rattle.proof_store.specs.Events.{stepped, apply}
 use Rattle.proof_store.specs.Drafts.{step_of, event_of, proof_of, assume_step, stored_assume, IsDraft, with_command, step_of_new, Writes}
 use Rattle.proof_store.proofs.DraftLemmas.{command_count, proof_more, draft_more}
@@ -62,6 +64,26 @@ name_same s h = go (is_unknown s.rule) refl
 no_assume : (s : Step ℕ) → HasRule s → is_assume s.rule ≡ false
 no_assume s h = ap is_assume h.named ∙ named_no_assume s.rule_name
 
+-- a step by an unknown rule has no index argument
+unknown_takes_none : (rule : Rule) → is_unknown rule ≡ true → takes_index rule ≡ true → ⊥
+unknown_takes_none Rule.Unknown unknown takes = cc
+unknown_takes_none rule unknown takes = cc
+
+free_of_rule : {T : Type 0} (s : Step T) → HasRule s → is_unknown s.rule ≡ true → s.index ≡ IndexArg.Free
+free_of_rule s h unknown =
+    elim h.index [ inl takes ↦ absurd (unknown_takes_none s.rule unknown takes) | inr free ↦ free ]
+
+rule_closing : {V T : Type 0} (nesting : Nesting V T) (items : ProofItems V T) (s : Step T) → MayCloseHere nesting items s → HasRule s
+rule_closing outermost items s h = absurd h
+rule_closing (inside around before anchor) items s h = h.rule
+
+pub has_room : (scope : Scope ℕ ℕ) (c : NewCommand) → MayTake scope (step_of_new c) → HasRoomForIndex c
+has_room scope c may unknown = free_of_rule (step_of_new c) (go (is_open_id scope.nesting c.id.now) refl) unknown
+  where
+    go : (b : Bool) → is_open_id scope.nesting c.id.now ≡ b → HasRule (step_of_new c)
+    go true is = rule_closing scope.nesting scope.items (step_of_new c) (may.closing is)
+    go false is = (may.standing is).rule
+
 -- the coefficients that are kept are those that were handed in
 same_ratios : (qs : Option (Bor (List Ratio))) → option_map (map fraction_of_ratio) (option_map (λ (q : Bor (List Ratio)). q.now) qs) ≡ fractions qs
 same_ratios None = refl
@@ -78,6 +100,7 @@ stored_in c id here pending closes = record {
   discharged = c.discharged.now;
   pivots = c.pivots.now;
   ratios = option_map (λ (qs : Bor (List Ratio)). qs.now) c.ratios;
+  index = c.index;
   inner = here;
   closes = closes;
   fresh = pending;

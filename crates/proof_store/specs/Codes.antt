@@ -1,6 +1,7 @@
 -- Private. How the logic stores proofs: as the list of their events, each as one tuple.
 use Rattle.std.proofs.Common.{◌≡◌, ◌⊎◌, inl, inr, ap, ℕ, zero, suc, ℤ, List, [], ◌∷◌, Bool, Option, refl}
 use Rattle.std.specs.Coded.{Coded, code_by, coded×, coded⊎, coded_ℕ, coded_ℤ, coded_bool, coded_list, coded_option}
+use Rattle.rule_model.specs.declared.index_arg.IndexArg.{IndexArg}
 use Rattle.rule_model.specs.declared.rules.Rule.{Rule}
 use Rattle.rule_model.specs.Proofs.{Fraction, Step, ProofItems}
 use Rattle.rule_model.specs.Scopes.{Anchor, outermost, Scope}
@@ -209,6 +210,28 @@ rule_code = code_by ℕ coded_ℕ rule_number (rule_of_code rules) rule_back
 abbrev pub fraction_code : Coded Fraction
 fraction_code = code_by (ℤ × ℤ) (coded× coded_ℤ coded_ℤ) (λ q. (q.num, q.den)) (λ p. record { num = p.0; den = p.1 }) (λ _. refl)
 
+-- an index argument as a number
+abbrev pub index_number : IndexArg → ℕ
+index_number IndexArg.Free = zero
+index_number IndexArg.Missing = suc zero
+index_number IndexArg.Bad = suc (suc zero)
+index_number (IndexArg.At place) = suc (suc (suc place))
+
+abbrev pub index_of_number : ℕ → IndexArg
+index_of_number zero = IndexArg.Free
+index_of_number (suc zero) = IndexArg.Missing
+index_of_number (suc (suc zero)) = IndexArg.Bad
+index_of_number (suc (suc (suc place))) = IndexArg.At place
+
+pub index_back : (index : IndexArg) → index_of_number (index_number index) ≡ index
+index_back IndexArg.Free = refl
+index_back IndexArg.Missing = refl
+index_back IndexArg.Bad = refl
+index_back (IndexArg.At place) = refl
+
+abbrev pub index_code : Coded IndexArg
+index_code = code_by ℕ coded_ℕ index_number index_of_number index_back
+
 -- a list of numbers
 abbrev numbers_code : Coded (List ℕ)
 numbers_code = coded_list coded_ℕ
@@ -216,10 +239,10 @@ numbers_code = coded_list coded_ℕ
 -- a step as the tuple of its fields
 abbrev pub StepTuple : Type 0
 StepTuple =
-    Rule × (List ℕ × (List ℕ × (List ℕ × (List ℕ × (List ℕ × (List (ℕ × Bool) × Option (List Fraction)))))))
+    Rule × (List ℕ × (List ℕ × (List ℕ × (List ℕ × (List ℕ × (List (ℕ × Bool) × (Option (List Fraction) × IndexArg)))))))
 
 abbrev step_to : Step ℕ → StepTuple
-step_to s = (s.rule, (s.id, (s.rule_name, (s.clause, (s.premises, (s.discharged, (s.pivots, s.ratios)))))))
+step_to s = (s.rule, (s.id, (s.rule_name, (s.clause, (s.premises, (s.discharged, (s.pivots, (s.ratios, s.index))))))))
 
 abbrev step_from : StepTuple → Step ℕ
 step_from p = record {
@@ -230,14 +253,15 @@ step_from p = record {
   premises = p.1.1.1.1.0;
   discharged = p.1.1.1.1.1.0;
   pivots = p.1.1.1.1.1.1.0;
-  ratios = p.1.1.1.1.1.1.1;
+  ratios = p.1.1.1.1.1.1.1.0;
+  index = p.1.1.1.1.1.1.1.1;
 }
 
 abbrev pub step_code : Coded (Step ℕ)
 step_code =
     code_by StepTuple
     (coded× rule_code (coded× numbers_code (coded× numbers_code (coded× numbers_code (coded× numbers_code
-    (coded× numbers_code (coded× (coded_list (coded× coded_ℕ coded_bool)) (coded_option (coded_list fraction_code)))))))))
+    (coded× numbers_code (coded× (coded_list (coded× coded_ℕ coded_bool)) (coded× (coded_option (coded_list fraction_code)) index_code))))))))
     step_to step_from (λ _. refl)
 
 abbrev pub anchor_code : Coded (Anchor ℕ ℕ)

@@ -3,6 +3,7 @@ use Rattle.std.specs.Prelude.{◌≡◌, ◌<◌, ◌+◌, ◌-◌, ◌^◌, ℕ
 use Rattle.std.specs.Prelude.{if◌then◌else◌, Some, None, ⊤}
 use Rattle.std.specs.List.{AllByRecursion}
 use Rattle.std.specs.Option.{option_map}
+use Rattle.rule_model.specs.declared.index_arg.IndexArg.{IndexArg}
 use Rattle.rule_model.specs.declared.rules.Rule.{Rule}
 use Rattle.rule_model.specs.Reading.{is_assume}
 use Rattle.rule_model.specs.Proofs.{Step}
@@ -28,6 +29,7 @@ step_of c = record {
   discharged = c.discharged;
   pivots = c.pivots;
   ratios = option_map (map fraction_of_ratio) c.ratios;
+  index = c.index;
 }
 
 abbrev pub event_of : Stored → Event
@@ -77,6 +79,7 @@ assume_step id t = record {
   discharged = [];
   pivots = [];
   ratios = None;
+  index = IndexArg.Free;
 }
 
 abbrev pub kept_step : IndexedCommand ℕ → Step ℕ
@@ -132,7 +135,7 @@ with_command d c owner = record {
 -- a new command as a step
 abbrev pub step_of_new : NewCommand → Step ℕ
 step_of_new c =
-    step_with c.id.now c.rule c.rule_name.now c.clause.now c.premises.now c.discharged.now c.pivots.now c.ratios
+    step_with c.id.now c.rule c.rule_name.now c.clause.now c.premises.now c.discharged.now c.pivots.now c.ratios c.index
 
 -- the arrays stand for this proof
 pub record Writes (d : Draft) (scope : Scope ℕ ℕ) : Type 0 where
@@ -150,6 +153,7 @@ stored_assume id t here pending = record {
   discharged = [];
   pivots = [];
   ratios = None;
+  index = IndexArg.Free;
   inner = here;
   closes = false;
   fresh = pending;

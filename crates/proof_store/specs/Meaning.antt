@@ -23,6 +23,7 @@ pub record IsProofStepOf (s : Table) (v : TermsView) (step : Step ℕ) (of : Ste
   pub discharged : step.discharged ≡ of.discharged
   pub pivots : AllZip (IsPivotOf s v) step.pivots of.pivots
   pub ratios : step.ratios ≡ of.ratios
+  pub index : step.index ≡ of.index
 
 -- the items over references stand for those over terms, each in its place
 pub data StandForItems (s : Table) (v : TermsView) : ProofItems ℕ ℕ → ProofItems Var Term → Type 0 where

@@ -3,10 +3,12 @@ use Rattle.std.specs.Prelude.{◌≡◌, ◌<◌, ◌≤◌, ◌^◌, ℕ, suc, 
 use Rattle.std.specs.Borrow.{Bor}
 use Rattle.std.specs.List.{AllByRecursion}
 use Rattle.std.specs.Option.{option_map, unwrap_or}
+use Rattle.rule_model.specs.declared.index_arg.IndexArg.{IndexArg}
 use Rattle.rule_model.specs.declared.rules.Rule.{Rule}
 use Rattle.rule_model.specs.RuleNames.{word_of, is_unknown}
 use Rattle.proof_store.specs.Lists.{SameBelow}
 use Rattle.proof_store.specs.declared.answers.Ratio.{Ratio}
+use Rattle.proof_store.specs.declared.commands.IndexKind.{IndexKind}
 use Rattle.proof_store.specs.declared.commands.Row.{Row}
 use Rattle.proof_store.specs.declared.commands.Columns.{Columns}
 use Rattle.proof_store.specs.declared.commands.NewCommand.{NewCommand}
@@ -22,6 +24,7 @@ pub record Stored : Type 0 where
   pub discharged : List ℕ
   pub pivots : List (ℕ × Bool)
   pub ratios : Option (List Ratio)
+  pub index : IndexArg
   pub inner : ℕ
   pub closes : Bool
   pub fresh : ℕ
@@ -39,19 +42,37 @@ KeepsNames old new = (k : ℕ) (x : List ℕ) → slice_get old k ≡ Some x →
 
 -- the row's name has a number
 abbrev pub HasName : List (List ℕ) → Row → Type 0
-HasName names row = is_unknown row.rule ≡ true → row.name < length names
+HasName names row = is_unknown row.rule ≡ true → row.number < length names
+
+-- what an index argument is, but for the place that it names, and the one of a kind that names a place
+abbrev pub index_kind : IndexArg → IndexKind
+index_kind IndexArg.Free = IndexKind.Free
+index_kind IndexArg.Missing = IndexKind.Missing
+index_kind (IndexArg.At place) = IndexKind.At
+index_kind IndexArg.Bad = IndexKind.Bad
+
+abbrev pub index_with : IndexKind → ℕ → IndexArg
+index_with IndexKind.Free place = IndexArg.Free
+index_with IndexKind.Missing place = IndexArg.Missing
+index_with IndexKind.At place = IndexArg.At place
+index_with IndexKind.Bad place = IndexArg.Bad
+
+-- a step by an unknown rule, whose row has the number of its name, names no place
+abbrev pub HasRoomForIndex : NewCommand → Type 0
+HasRoomForIndex c = is_unknown c.rule ≡ true → c.index ≡ IndexArg.Free
 
 -- what is kept at a row's place
 abbrev pub stored_at : Columns → List (List ℕ) → ℕ → Row → Stored
 stored_at columns names k row = record {
   rule = row.rule;
-  rule_name = name_in names row.rule row.name;
+  rule_name = name_in names row.rule row.number;
   id = slice_index_or columns.ids k [];
   clause = slice_index_or columns.clauses k [];
   premises = slice_index_or columns.premises k [];
   discharged = slice_index_or columns.discharged k [];
   pivots = slice_index_or columns.pivots k [];
   ratios = if row.has_ratios then Some (slice_index_or columns.ratios k []) else None;
+  index = index_with row.index row.number;
   inner = row.inner;
   closes = row.closes;
   fresh = row.fresh;
@@ -72,6 +93,7 @@ stored c = record {
   discharged = c.discharged.now;
   pivots = c.pivots.now;
   ratios = option_map (λ (qs : Bor (List Ratio)). qs.now) c.ratios;
+  index = c.index;
   inner = c.inner;
   closes = c.closes;
   fresh = c.fresh;

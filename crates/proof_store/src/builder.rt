@@ -11,7 +11,7 @@ use crate::commands::{NewCommand, Room};
 use crate::drafts::{self, Draft};
 use crate::proof::Proof;
 use pair_pool::{Memory, Ref};
-use rule_model::Rule;
+use rule_model::{IndexArg, Rule};
 use std::alloc::Global;
 use std::marker::Model;
 
@@ -89,8 +89,8 @@ impl ProofBuilder {
     /// Adds a step, and returns its index. A step whose id is that of the innermost open anchor closes its scope, and
     /// belongs to the scope around it. Its premises are indices of visible commands; the assumes that it discharges are
     /// indices of assumes directly in the scope that it closes; its rule is the one that its name spells, and its name
-    /// none of the rules for quantifiers. Only resolution has pivots, and only la_generic has coefficients. Refuses only
-    /// when out of memory.
+    /// none of the rules for quantifiers. Only resolution has pivots, only la_generic has coefficients, and only and, not_or,
+    /// and_pos and or_neg have an index argument that is not free. Refuses only when out of memory.
     #[tactic(auto, using(crate::proofs::WritingLemmas::writes_draft))]
     pub fn step<'a>(
         &mut self,
@@ -102,12 +102,13 @@ impl ProofBuilder {
         discharged: &'a [u32],
         pivots: &'a [(Ref, bool)],
         ratios: Option<&'a [Ratio]>,
+        index: IndexArg,
     ) -> Result<u32, Memory>
-        requires may { MayTake self.old (step_with id.now rule rule_name.now clause.now premises.now discharged.now pivots.now ratios) }
+        requires may { MayTake self.old (step_with id.now rule rule_name.now clause.now premises.now discharged.now pivots.now ratios index) }
         requires few { next_index self.old + 1 < 2 ^ 32 - 1 }
         ensures index { IfOk result (λ i. i ≡ next_index self.old) }
         ensures written { OnOk result (self.new ≡ take_step self.old
-            (step_with id.now rule rule_name.now clause.now premises.now discharged.now pivots.now ratios.entry)) }
+            (step_with id.now rule rule_name.now clause.now premises.now discharged.now pivots.now ratios.entry index)) }
         ensures refused { OnErr result (self.new ≡ self.old) }
     {
         let step = NewCommand {
@@ -119,6 +120,7 @@ impl ProofBuilder {
             discharged,
             pivots,
             ratios,
+            index,
             inner: 0,
             closes: false,
             fresh: 0,

@@ -5,16 +5,26 @@ ghost use Rattle.std.specs.Borrow.{Bor};
 ghost use Rattle.std.specs.Option.{option_map};
 ghost use Rattle.proof_store.specs.declared.answers.Ratio.{Ratio};
 ghost use Rattle.rule_model.specs.RuleNames.{is_unknown};
-ghost use Rattle.proof_store.specs.Stored.{named, name_in, KeepsNames, IsLong, AgreesTo, HasAt, stored};
+ghost use Rattle.rule_model.specs.declared.index_arg.IndexArg.{IndexArg};
+ghost use Rattle.proof_store.specs.Stored.{named, name_in, KeepsNames, IsLong, AgreesTo, HasAt, stored, index_kind, index_with, HasRoomForIndex};
 
 use crate::answers::Ratio;
 use crate::lists::Lists;
 use crate::names::Names;
 use crate::words::word;
 use pair_pool::{Memory, Ref};
-use rule_model::Rule;
+use rule_model::{IndexArg, Rule};
 use std::alloc::Global;
 use std::marker::Model;
+
+/// What an index argument is, but for the place that it names.
+#[derive(Clone, Copy)]
+enum IndexKind {
+    Free,
+    Missing,
+    At,
+    Bad,
+}
 
 /// What is kept of a command beside its lists: 16 bytes.
 #[derive(Clone, Copy)]
@@ -24,8 +34,11 @@ struct Row {
     has_ratios: bool,
     /// Whether it closes the scope in which it is reached.
     closes: bool,
-    /// The number of the rule's name, where the rule is unknown.
-    name: u32,
+    /// What its index argument is.
+    index: IndexKind,
+    /// The number of the rule's name, where the rule is unknown. A known rule has no number, so that of a step with an index
+    /// argument is the place that this names: it takes no bytes of its own.
+    number: u32,
     /// The number of the scope in which it is reached.
     inner: u32,
     /// How many anchors stand between it and the command before it.
@@ -78,6 +91,7 @@ pub(crate) struct NewCommand<'a> {
     pub(crate) discharged: &'a [u32],
     pub(crate) pivots: &'a [(Ref, bool)],
     pub(crate) ratios: Option<&'a [Ratio]>,
+    pub(crate) index: IndexArg,
     pub(crate) inner: u32,
     pub(crate) closes: bool,
     pub(crate) fresh: u32,
@@ -92,18 +106,54 @@ pub struct Room {
     pub premises: usize,
 }
 
-/// The number of a rule's name, where the rule is unknown, and 0 where it is not.
-fn name_number(names: &mut Names, rule: Rule, name: &[u8]) -> Result<u32, Memory>
+/// What an index argument is.
+fn kind_of(index: IndexArg) -> IndexKind
+    ensures { result ≡ index_kind index }
+{
+    match index {
+        IndexArg::Free => IndexKind::Free,
+        IndexArg::Missing => IndexKind::Missing,
+        IndexArg::At(_) => IndexKind::At,
+        IndexArg::Bad => IndexKind::Bad,
+    }
+}
+
+/// The place that it names, and 0 where it names none.
+fn place_in(index: IndexArg) -> u32
+    ensures { index_with (index_kind index) result ≡ index }
+{
+    match index {
+        IndexArg::At(place) => place,
+        _ => 0,
+    }
+}
+
+/// The index argument of a kind, which names this place where it names one.
+fn index_of(kind: IndexKind, place: u32) -> IndexArg
+    ensures { result ≡ index_with kind place }
+{
+    match kind {
+        IndexKind::Free => IndexArg::Free,
+        IndexKind::Missing => IndexArg::Missing,
+        IndexKind::At => IndexArg::At(place),
+        IndexKind::Bad => IndexArg::Bad,
+    }
+}
+
+/// The number of a rule's name, where the rule is unknown, and the place that the index argument names, where it is not.
+fn number_of(names: &mut Names, rule: Rule, name: &[u8], index: IndexArg) -> Result<u32, Memory>
     requires few { length names.old < 2 ^ 32 - 1 }
+    requires index { is_unknown rule ≡ true → index ≡ IndexArg.Free }
     ensures named { IfOk result (λ k. name_in names.new rule k ≡ named rule name.now) }
     ensures numbered { IfOk result (λ k. is_unknown rule ≡ true → k < length names.new) }
+    ensures index { IfOk result (λ k. index_with (index_kind index) k ≡ index) }
     ensures keeps { KeepsNames names.old names.new }
     ensures count { length names.new ≤ length names.old + 1 }
     ensures refused { OnErr result (names.new ≡ names.old) }
 {
     match rule {
         Rule::Unknown => Ok(names.number(name)? as u32),
-        _ => Ok(0),
+        _ => Ok(place_in(index)),
     }
 }
 
@@ -185,19 +235,26 @@ impl Commands {
     /// Adds a command.
     #[tactic(auto, using(crate::proofs::StoredLemmas::command_pushed))]
     pub(crate) fn push(&mut self, command: NewCommand<'_>) -> Result<(), Memory>
-        requires { length self.old < 2 ^ 32 - 1 }
+        requires few { length self.old < 2 ^ 32 - 1 }
+        requires index { HasRoomForIndex command }
         ensures pushed { OnOk result (self.new ≡ self.old ++ stored command.entry ∷ []) }
         ensures refused { OnErr result (self.new ≡ self.old) }
     {
         let n = self.rows.len();
         self.rows.reserve(1)?;
         put(&mut self.columns, n, &command)?;
-        let name = name_number(&mut self.names, command.rule, command.rule_name)?;
+        let number = number_of(
+            &mut self.names,
+            command.rule,
+            command.rule_name,
+            command.index,
+        )?;
         let row = Row {
             rule: command.rule,
             has_ratios: command.ratios.is_some(),
             closes: command.closes,
-            name,
+            index: kind_of(command.index),
+            number,
             inner: command.inner,
             fresh: command.fresh,
         };
@@ -222,7 +279,7 @@ impl Commands {
     {
         let row = row_at(&self.rows, i);
         match row.rule {
-            Rule::Unknown => self.names.name(row.name as usize),
+            Rule::Unknown => self.names.name(row.number as usize),
             rule => word(rule),
         }
     }
@@ -283,6 +340,16 @@ impl Commands {
         } else {
             None
         }
+    }
+
+    /// Its index argument.
+    #[tactic(auto, using(crate::proofs::StoredLemmas::stored_count, crate::proofs::StoredLemmas::row_index))]
+    pub(crate) fn index(&self, i: usize) -> IndexArg
+        requires { i < length self.now }
+        ensures { option_map (λ s. s.index) (slice_get self.now i) ≡ Some result }
+    {
+        let row = row_at(&self.rows, i);
+        index_of(row.index, row.number)
     }
 
     /// The scope in which it is reached.

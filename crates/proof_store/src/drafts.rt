@@ -5,13 +5,13 @@ ghost use Rattle.rule_model.specs.Scopes.{next_index, next_scope};
 ghost use Rattle.rule_model.specs.WellFormed.{IsNewId, MayOpen};
 ghost use Rattle.rule_model.specs.Writing.{is_open_id, add_assume, open_anchor, take_step, MayTake, unwritten};
 ghost use Rattle.proof_store.specs.Steps.{anchor_with};
-ghost use Rattle.proof_store.specs.Stored.{stored};
+ghost use Rattle.proof_store.specs.Stored.{stored, HasRoomForIndex};
 ghost use Rattle.proof_store.specs.Drafts.{proof_of, IsDraft, with_command, step_of_new, stored_assume, Writes};
 
 use crate::commands::{Commands, NewCommand, Room};
 use crate::scopes::Scopes;
 use pair_pool::{Memory, Ref};
-use rule_model::Rule;
+use rule_model::{IndexArg, Rule};
 use std::alloc::Global;
 
 /// A proof as far as it is written.
@@ -56,6 +56,7 @@ pub(crate) fn empty_with(alloc: Global, room: Room) -> Result<Draft, Memory>
 fn add(draft: &mut Draft, command: NewCommand<'_>, owner: u32) -> Result<u32, Memory>
     requires few { length draft.old.commands < 2 ^ 32 - 1 }
     requires owner { owner < length draft.old.scopes }
+    requires index { HasRoomForIndex command }
     ensures index { IfOk result (λ i. i ≡ length draft.old.commands) }
     ensures added { OnOk result (draft.new ≡ with_command draft.old (stored command.entry) owner) }
     ensures refused { OnErr result (draft.new ≡ draft.old) }
@@ -69,7 +70,8 @@ fn add(draft: &mut Draft, command: NewCommand<'_>, owner: u32) -> Result<u32, Me
 
 /// An assume as a command, whose clause is its term.
 fn assumed<'a>(id: &'a [u8], clause: &'a [Ref], inner: u32, fresh: u32) -> NewCommand<'a>
-    ensures { (t : ℕ) → clause.now ≡ t ∷ [] → stored result ≡ stored_assume id.now t inner fresh }
+    ensures stored { (t : ℕ) → clause.now ≡ t ∷ [] → stored result ≡ stored_assume id.now t inner fresh }
+    ensures index { HasRoomForIndex result }
 {
     NewCommand {
         rule: Rule::Assume,
@@ -80,6 +82,7 @@ fn assumed<'a>(id: &'a [u8], clause: &'a [Ref], inner: u32, fresh: u32) -> NewCo
         discharged: &[],
         pivots: &[],
         ratios: None,
+        index: IndexArg::Free,
         inner,
         closes: false,
         fresh,
@@ -116,7 +119,7 @@ fn is_open(draft: &Draft, id: &[u8]) -> bool
 }
 
 /// Adds a step that closes nothing.
-#[tactic(auto, using(crate::proofs::WritingLemmas::draft_index, crate::proofs::WritingLemmas::here_within))]
+#[tactic(auto, using(crate::proofs::WritingLemmas::has_room, crate::proofs::WritingLemmas::draft_index, crate::proofs::WritingLemmas::here_within))]
 fn stand(draft: &mut Draft, step: NewCommand<'_>) -> Result<u32, Memory>
     requires draft { IsDraft draft.old (proof_of draft.old) }
     requires shut { is_open_id (proof_of draft.old).nesting step.id.now ≡ false }
@@ -137,7 +140,7 @@ fn stand(draft: &mut Draft, step: NewCommand<'_>) -> Result<u32, Memory>
 }
 
 /// Adds the step that closes the innermost open scope.
-#[tactic(auto, using(crate::proofs::ScopeWriting::scope_closed, crate::proofs::WritingLemmas::draft_index, crate::proofs::WritingLemmas::here_within))]
+#[tactic(auto, using(crate::proofs::WritingLemmas::has_room, crate::proofs::ScopeWriting::scope_closed, crate::proofs::WritingLemmas::draft_index, crate::proofs::WritingLemmas::here_within))]
 fn close(draft: &mut Draft, step: NewCommand<'_>) -> Result<u32, Memory>
     requires draft { IsDraft draft.old (proof_of draft.old) }
     requires open_anchor { is_open_id (proof_of draft.old).nesting step.id.now ≡ true }

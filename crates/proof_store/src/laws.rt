@@ -4,8 +4,8 @@ ghost use Rattle.std.specs.Prelude.{◌≡◌, ℕ, All};
 ghost use Rattle.std.specs.List.{AllZip};
 ghost use Rattle.pair_pool.specs.Views.{IsOneToOne};
 ghost use Rattle.rule_model.specs.Proofs.{ProofItems};
-ghost use Rattle.rule_model.specs.Reading.{id_at, rule_at, rule_name_at, clause_at, premises_at, discharged_at, pivots_at, ratios_at, scope_at, closes_at};
-ghost use Rattle.rule_model.specs.Reading.{parent_at, bindings_at, last_inside_at};
+ghost use Rattle.rule_model.specs.Reading.{id_at, rule_at, rule_name_at, clause_at, premises_at, discharged_at, pivots_at, ratios_at, index_arg_at};
+ghost use Rattle.rule_model.specs.Reading.{scope_at, closes_at, parent_at, bindings_at, last_inside_at};
 ghost use Rattle.rule_model.specs.Scopes.{commands_in, subproofs_in};
 ghost use Rattle.sym_table.specs.Table.{Table, IsTable, Keeps};
 ghost use Rattle.term_model.specs.Terms.{Var, Term};
@@ -36,7 +36,7 @@ pub fn proofs_stay()
 }
 
 /// A law: a proof over references has as many commands and subproofs as the proof for which it stands, each with the
-/// same id, rule, premises, discharged assumes, coefficients and scopes. The call does nothing; its contract is the law.
+/// same id, rule, premises, discharged assumes, coefficients, index argument and scopes. The call does nothing; its contract is the law.
 pub fn commands_correspond()
     ensures commands { (s : Table) (v : TermsView) (refs : ProofItems ℕ ℕ) (proof : ProofItems Var Term) → StandForItems s v refs proof →
         commands_in refs ≡ commands_in proof }
@@ -54,6 +54,8 @@ pub fn commands_correspond()
         discharged_at refs i ≡ discharged_at proof i }
     ensures ratios { (s : Table) (v : TermsView) (refs : ProofItems ℕ ℕ) (proof : ProofItems Var Term) (i : ℕ) → StandForItems s v refs proof →
         ratios_at refs i ≡ ratios_at proof i }
+    ensures index { (s : Table) (v : TermsView) (refs : ProofItems ℕ ℕ) (proof : ProofItems Var Term) (i : ℕ) → StandForItems s v refs proof →
+        index_arg_at refs i ≡ index_arg_at proof i }
     ensures scope { (s : Table) (v : TermsView) (refs : ProofItems ℕ ℕ) (proof : ProofItems Var Term) (i : ℕ) → StandForItems s v refs proof →
         scope_at refs i ≡ scope_at proof i }
     ensures closes { (s : Table) (v : TermsView) (refs : ProofItems ℕ ℕ) (proof : ProofItems Var Term) (i : ℕ) → StandForItems s v refs proof →

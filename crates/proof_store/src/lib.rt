@@ -21,6 +21,6 @@ pub use commands::Room;
 pub use laws::{commands_correspond, proofs_stand_for_one, proofs_stay, terms_correspond};
 pub use premises::premise_clauses;
 pub use proof::Proof;
-pub use rule_model::Status;
+pub use rule_model::{IndexArg, Status};
 pub use term_parts::{Answer, RuleStop};
 pub use words::word;

@@ -3,15 +3,15 @@
 ghost use Rattle.std.specs.Prelude.{◌≡◌, ◌<◌, ◌≤◌, ◌-◌, ◌^◌, ℕ};
 ghost use Rattle.rule_model.specs.Scopes.{outermost, at, commands_in, subproofs_in};
 ghost use Rattle.rule_model.specs.WellFormed.{IsWellFormed};
-ghost use Rattle.rule_model.specs.Reading.{id_at, rule_at, rule_name_at, clause_at, premises_at, discharged_at, pivots_at, ratios_at, scope_at, closes_at};
-ghost use Rattle.rule_model.specs.Reading.{parent_at, bindings_at, last_inside_at};
+ghost use Rattle.rule_model.specs.Reading.{id_at, rule_at, rule_name_at, clause_at, premises_at, discharged_at, pivots_at, ratios_at, index_arg_at};
+ghost use Rattle.rule_model.specs.Reading.{scope_at, closes_at, parent_at, bindings_at, last_inside_at};
 ghost use Rattle.proof_store.specs.Ratios.{fractions};
 ghost use Rattle.proof_store.specs.Drafts.{proof_of, IsDraft};
 
 use crate::answers::Ratio;
 use crate::drafts::Draft;
 use pair_pool::Ref;
-use rule_model::Rule;
+use rule_model::{IndexArg, Rule};
 use std::marker::Model;
 
 /// A proof. Contracts see its items, over leaves of variables and references of terms.
@@ -136,6 +136,15 @@ impl Proof {
         ensures { fractions result ≡ ratios_at self.now i }
     {
         self.draft.commands.ratios(i as usize)
+    }
+
+    /// Its index argument, which is free where no index is asked for.
+    #[tactic(auto, using(crate::proofs::ReadingLemmas::count_is, crate::proofs::ReadingLemmas::read_index))]
+    pub fn index(&self, i: u32) -> IndexArg
+        requires { i < commands_in self.now }
+        ensures { result ≡ index_arg_at self.now i }
+    {
+        self.draft.commands.index(i as usize)
     }
 
     /// The number of the scope to which it belongs. 0 is the outermost one.

@@ -23,7 +23,7 @@ all_new marks P Q f list h kept =
     (all_if (λ p. Q (new_index marks p)) list (λ p has. f p (All-contains P list p h has) (All-contains (λ i. is_kept marks i ≡ true) list p kept has)))
 
 rule_kept : {T : Type 0} (marks : List Bool) (s : Step T) → HasRule s → HasRule (renumbered marks s)
-rule_kept marks s h = record { named = h.named; symbol = h.symbol; kept = h.kept; pivots = h.pivots; ratios = h.ratios; lowest = h.lowest }
+rule_kept marks s h = record { named = h.named; symbol = h.symbol; kept = h.kept; pivots = h.pivots; ratios = h.ratios; lowest = h.lowest; index = h.index }
 
 module _ {V T : Type 0} (marks : List Bool) where
   module _ (nesting : Nesting V T) (items : ProofItems V T) (around : IsNestedAround marks nesting) (nested : AreNested marks nesting items) where

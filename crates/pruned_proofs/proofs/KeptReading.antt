@@ -6,10 +6,12 @@ use Rattle.std.proofs.lemmas.Bool.{cases_lt}
 use Rattle.std.proofs.lemmas.Option.{slice_get-map}
 use Rattle.term_model.proofs.Basics.{same_some}
 use Rattle.term_model.proofs.Lists.{all_joined, contains_head, contains_later, contains_none, contains_cases, get_taken}
+use Rattle.rule_model.specs.declared.index_arg.IndexArg.{IndexArg}
 use Rattle.rule_model.specs.Commands.{IndexedCommand, assume, step, closing, Line, Entry, entry_of, entries, lines_in, lines_around, own_scope, closed_scope}
 use Rattle.rule_model.specs.Judged.{anchors_at}
 use Rattle.rule_model.specs.Proofs.{ProofItems, no_items, with_assume, with_step, with_subproof}
 use Rattle.rule_model.specs.Reading.{rule_of, clause_of, premises_of, discharged_of, pivots_of, ratios_of, rule_at, clause_at, premises_at, discharged_at, pivots_at, ratios_at, scope_at, closes_at, bindings_at, last_inside_at, is_assume}
+use Rattle.rule_model.specs.Reading.{index_arg_of, index_arg_at}
 use Rattle.rule_model.specs.Scopes.{Nesting, outermost, inside, inner, commands_in, scope_number, own_bindings, first_index, last_index}
 use Rattle.rule_model.specs.Subproof.{IsAssumeIn}
 use Rattle.rule_model.specs.WellFormed.{IsWellFormed}
@@ -37,6 +39,9 @@ module _ {V T : Type 0} (proof : ProofItems V T) (i : ℕ) (l : Line V T) (here 
   pub ratios_are : ratios_at proof i ≡ ratios_of l.command
   ratios_are = ap (λ e. option_map_or (λ (e : Entry T). ratios_of e.command) e None) entry_here
 
+  pub index_arg_is : index_arg_at proof i ≡ index_arg_of l.command
+  index_arg_is = ap (λ e. option_map_or (λ (e : Entry T). index_arg_of e.command) e IndexArg.Free) entry_here
+
 -- what a command has with its new indices
 module _ {T : Type 0} (marks : List Bool) where
   rule_stays : (c : IndexedCommand T) → rule_of (kept_command marks c) ≡ rule_of c
@@ -58,6 +63,11 @@ module _ {T : Type 0} (marks : List Bool) where
   ratios_stay (assume id t) = refl
   ratios_stay (step s) = refl
   ratios_stay (closing s) = refl
+
+  index_arg_stays : (c : IndexedCommand T) → index_arg_of (kept_command marks c) ≡ index_arg_of c
+  index_arg_stays (assume id t) = refl
+  index_arg_stays (step s) = refl
+  index_arg_stays (closing s) = refl
 
   premises_new : (c : IndexedCommand T) → premises_of (kept_command marks c) ≡ map (new_index marks) (premises_of c)
   premises_new (assume id t) = refl
@@ -185,6 +195,9 @@ module _ {V T : Type 0} (proof : ProofItems V T) (formed : IsWellFormed proof) (
 
     pub same_ratios : ratios_at new (new_index marks i) ≡ ratios_at proof i
     same_ratios = ratios_are new _ _ there ∙ (ratios_stay marks l.command ∙ sym (ratios_are proof i l here))
+
+    pub same_index : index_arg_at new (new_index marks i) ≡ index_arg_at proof i
+    same_index = index_arg_is new _ _ there ∙ (index_arg_stays marks l.command ∙ sym (index_arg_is proof i l here))
 
     pub same_anchors : anchors_at new (new_index marks i) ≡ anchors_at proof i
     same_anchors = anchors_are new _ _ there ∙ (open_anchors_kept marks l.scope.nesting ∙ sym (anchors_are proof i l here))

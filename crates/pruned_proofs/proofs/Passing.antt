@@ -27,7 +27,7 @@ use Rattle.pruned_proofs.specs.Reached.{is_kept, on_last, IsReached, AreReachedM
 use Rattle.pruned_proofs.specs.Pruned.{new_index, pruned}
 use Rattle.pruned_proofs.proofs.Counting.{after_kept, none_between, kept_or_not}
 use Rattle.pruned_proofs.proofs.KeptLines.{new_count, new_below, old_of}
-use Rattle.pruned_proofs.proofs.KeptReading.{nested, kept_within, same_rule, same_clause, same_pivots, same_ratios, same_anchors, new_premises, new_discharged, still_closes_none, clause_there, premises_there, new_scope, still_closes, same_bindings, new_last, assume_back, still_reached, scope_there, scope_forth, clauses_joined, contains_mapped}
+use Rattle.pruned_proofs.proofs.KeptReading.{nested, kept_within, same_rule, same_clause, same_pivots, same_ratios, same_index, same_anchors, new_premises, new_discharged, still_closes_none, clause_there, premises_there, new_scope, still_closes, same_bindings, new_last, assume_back, still_reached, scope_there, scope_forth, clauses_joined, contains_mapped}
 use Rattle.pruned_proofs.proofs.Nested.{rests_kept, all_if}
 use Rattle.pruned_proofs.proofs.Discharging.{discharged_is_kept}
 use Rattle.pruned_proofs.proofs.Resting.{line_at, rests_before}
@@ -92,7 +92,17 @@ module _ (c : Checking) (proof : ProofItems Var Term) (formed : IsWellFormed pro
         let pivots = same_pivots proof formed from within outer marks are i l here kept in
         let ratios = same_ratios proof formed from within outer marks are i l here kept in
         let anchors = same_anchors proof formed from within outer marks are i l here kept in
-        λ t. record { mode = c.mode; rule = rule t; clause = clause t; premises = premises t; pivots = pivots t; ratios = ratios t; anchors = anchors t }
+        let index = same_index proof formed from within outer marks are i l here kept in
+        λ t. record {
+          mode = c.mode;
+          rule = rule t;
+          clause = clause t;
+          premises = premises t;
+          pivots = pivots t;
+          ratios = ratios t;
+          index = index t;
+          anchors = anchors t;
+        }
 
     -- a step that closes a scope
     module _ (k : ℕ) (closes : closes_at proof i ≡ Some k) where

@@ -1,4 +1,4 @@
--- What is left of a proof is over the vocabulary that the proof is over, and has the coefficients that it has.
+-- What is left of a proof is over the vocabulary that the proof is over, and has the coefficients and the indices that it has.
 use Rattle.std.proofs.Common.{◌≡◌, ◌+◌, ◌||◌, ℕ, Bool, true, false, List, [], ◌∷◌, map, refl, sym, ap, subst}
 use Rattle.std.specs.List.{AllByRecursion}
 use Rattle.term_model.specs.declared.symbols.Sort.{Sort}
@@ -12,7 +12,7 @@ use Rattle.pruned_proofs.specs.Pruned.{kept_items}
 use Rattle.pruned_proofs.specs.KeptScopes.{kept_nesting}
 use Rattle.pruned_proofs.proofs.KeptSights.{open_bindings_kept, open_anchors_kept}
 use Rattle.readable_proofs.specs.Names.{Vocabulary}
-use Rattle.readable_proofs.specs.ProofsOver.{IsTermIn, IsPivotIn, IsStepIn, AreVariablesIn, AreIn, HaveRatios}
+use Rattle.readable_proofs.specs.ProofsOver.{IsTermIn, IsPivotIn, IsStepIn, AreVariablesIn, AreIn, HaveArguments}
 
 module _ (v : Vocabulary) (marks : List Bool) where
   term_kept : (nesting : Nesting Var Term) (t : Term) (sort : Sort) → IsTermIn v nesting t sort → IsTermIn v (kept_nesting marks nesting) t sort
@@ -78,25 +78,25 @@ module _ (v : Vocabulary) (marks : List Bool) where
           rw e (ih, variables_kept nesting [] bindings h.1, deeper, record { clause = same.clause; pivots = same.pivots })
       go false e ih deeper = rw e ih
 
-module _ (marks : List Bool) where
-  pub ratios_kept : (first : ℕ) (items : ProofItems Var Term) → HaveRatios items → HaveRatios (kept_items marks first items)
-  ratios_kept first no_items h = tt
-  ratios_kept first (with_assume items id t) h = go (is_kept marks (first + commands_in items)) refl (ratios_kept first items h)
+module _ (two : Bool) (marks : List Bool) where
+  pub arguments_kept : (first : ℕ) (items : ProofItems Var Term) → HaveArguments two items → HaveArguments two (kept_items marks first items)
+  arguments_kept first no_items h = tt
+  arguments_kept first (with_assume items id t) h = go (is_kept marks (first + commands_in items)) refl (arguments_kept first items h)
     where
-      go : (b : Bool) → is_kept marks (first + commands_in items) ≡ b → HaveRatios (kept_items marks first items)
-          → HaveRatios (kept_items marks first (with_assume items id t))
+      go : (b : Bool) → is_kept marks (first + commands_in items) ≡ b → HaveArguments two (kept_items marks first items)
+          → HaveArguments two (kept_items marks first (with_assume items id t))
       go true e ih = rw e ih
       go false e ih = rw e ih
-  ratios_kept first (with_step items s) h = go (is_kept marks (first + commands_in items)) refl (ratios_kept first items h.0)
+  arguments_kept first (with_step items s) h = go (is_kept marks (first + commands_in items)) refl (arguments_kept first items h.0)
     where
-      go : (b : Bool) → is_kept marks (first + commands_in items) ≡ b → HaveRatios (kept_items marks first items)
-          → HaveRatios (kept_items marks first (with_step items s))
-      go true e ih = rw e (ih, h.1)
+      go : (b : Bool) → is_kept marks (first + commands_in items) ≡ b → HaveArguments two (kept_items marks first items)
+          → HaveArguments two (kept_items marks first (with_step items s))
+      go true e ih = rw e (ih, record { coefficients = h.1.coefficients; index = h.1.index })
       go false e ih = rw e ih
-  ratios_kept first (with_subproof items bindings proof s) h =
-      go (is_kept marks (first + commands_in items + commands_in proof)) refl (ratios_kept first items h.0) (ratios_kept (first + commands_in items) proof h.1)
+  arguments_kept first (with_subproof items bindings proof s) h =
+      go (is_kept marks (first + commands_in items + commands_in proof)) refl (arguments_kept first items h.0) (arguments_kept (first + commands_in items) proof h.1)
     where
-      go : (b : Bool) → is_kept marks (first + commands_in items + commands_in proof) ≡ b → HaveRatios (kept_items marks first items)
-          → HaveRatios (kept_items marks (first + commands_in items) proof) → HaveRatios (kept_items marks first (with_subproof items bindings proof s))
-      go true e ih deeper = rw e (ih, deeper, h.2)
+      go : (b : Bool) → is_kept marks (first + commands_in items + commands_in proof) ≡ b → HaveArguments two (kept_items marks first items)
+          → HaveArguments two (kept_items marks (first + commands_in items) proof) → HaveArguments two (kept_items marks first (with_subproof items bindings proof s))
+      go true e ih deeper = rw e (ih, deeper, record { coefficients = h.2.coefficients; index = h.2.index })
       go false e ih deeper = rw e ih

@@ -89,7 +89,8 @@ pub record IsPrunedText (problem : List ℕ) (options : Options) (proof : List �
   pub plan : Plan
   pub names : AreFreeNames refutation.checked.script (left_of problem options proof refutation) plan
   pub printed : bytes ≡ proof_text plan refutation.checked.script (left_of problem options proof refutation)
-  pub read_back : HasNamesApart refutation.checked.after → IsReadAs bytes refutation.checked.script (left_of problem options proof refutation)
+  pub read_back : HasNamesApart refutation.checked.after →
+      IsReadAs options.is_profile_two bytes refutation.checked.script (left_of problem options proof refutation)
 
 -- the text that is printed of a valid proof
 abbrev pub IsNeededText : Part → List ℕ → Options → List ℕ → List ℕ → Type 0

@@ -20,7 +20,9 @@ ghost use Rattle.judged_texts.specs.declared.texts.Both.{Both as BothRead};
 ghost use Rattle.pruned_texts.specs.Needed.{core_text, IsCoreText, IsPrunedText};
 ghost use Rattle.pruned_texts.specs.Needing.{IsCoreOfRead, IsValidRead};
 
-use alethe_text::laws::{proof_texts_have_one_reading, proofs_are_well_formed};
+use alethe_text::laws::{
+    indices_are_those_of_the_profile, proof_texts_have_one_reading, proofs_are_well_formed,
+};
 use judged_texts::laws::proofs_have_scoped_terms;
 use named_proofs::laws::{named_proofs_are_read_back, named_proofs_have_sorts};
 use printing_laws::laws::well_sorted_proofs_are_of_sorted_terms;
@@ -31,7 +33,7 @@ use pruned_proofs::laws::{
     cores_are_unsatisfiable, pruned_proofs_are_valid, pruned_proofs_are_well_formed,
     pruned_proofs_have_nothing_else,
 };
-use readable_proofs::laws::{proofs_are_over_their_names, proofs_that_pass_have_coefficients};
+use readable_proofs::laws::{proofs_are_over_their_names, proofs_that_pass_have_arguments};
 use sexpr::tokens_are_spelled;
 use term_sharing::terms_are_apart;
 
@@ -91,7 +93,8 @@ pub(crate) fn pruned_proofs_have_texts()
     pruned_proofs_are_valid();
     pruned_proofs_have_nothing_else();
     proofs_are_over_their_names();
-    proofs_that_pass_have_coefficients();
+    indices_are_those_of_the_profile();
+    proofs_that_pass_have_arguments();
     named_proofs_are_read_back();
 }
 

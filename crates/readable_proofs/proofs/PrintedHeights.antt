@@ -13,6 +13,7 @@ use Rattle.problem_text.specs.Scripts.{Named, Script, with_named, with_term, wit
 use Rattle.problem_text.specs.Words.{is_among}
 use Rattle.alethe_text.specs.Anchors.{image_of}
 use Rattle.alethe_text.specs.Soundness.{IsFormula, HasSomeSort, HasTerms, IsBinding, AreSorted}
+use Rattle.printed_proofs.specs.Coefficients.{numbers_of}
 use Rattle.printed_proofs.specs.PrintedProof.{behind_literals, behind_pivots, behind_step, behind_binding, behind_bindings, behind_items}
 use Rattle.printed_proofs.specs.Shared.{Plan, planned, behind_as, behind_term, behind_terms, behind_pairs}
 
@@ -88,7 +89,7 @@ module _ (limit : Option ℕ) (plan : Plan) where
       pivots_low ps (behind_term plan s p.0) h.1 (term_low p.0 s (within_low limit (height p.0) h.0.read.low) low)
 
   step_low : (step : Step Term) (s : Script) → HasTerms limit step → AreLow limit s.terms → AreLow limit (behind_step plan s step).terms
-  step_low step s h low = go step.ratios
+  step_low step s h low = go (numbers_of step.ratios step.index)
     where
       inside : Script
       inside = behind_literals plan s step.clause

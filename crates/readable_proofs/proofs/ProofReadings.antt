@@ -33,7 +33,8 @@ use Rattle.problem_text.specs.Words.{is_among, is_built_in}
 use Rattle.problem_text.proofs.Readings.{let_name-sound, term-sound}
 use Rattle.problem_text.proofs.ScopedTerms.{AreOver}
 use Rattle.alethe_text.specs.Anchors.{bound_names, sort_given, image_of, argument_read, arguments_read}
-use Rattle.alethe_text.specs.Arguments.{takes_coefficients, takes_pivots, is_naming, named_in, named_among, truth_of, with_pivot, pivots_from, arguments_from}
+use Rattle.alethe_text.specs.Arguments.{takes_coefficients, takes_pivots, reads_index, index_given, is_naming, named_in, named_among}
+use Rattle.alethe_text.specs.Arguments.{truth_of, with_pivot, pivots_from, arguments_from}
 use Rattle.alethe_text.specs.Coefficients.{coefficients_from}
 use Rattle.alethe_text.specs.CommandNames.{HasNames, HaveNames}
 use Rattle.alethe_text.specs.Commands.{Argument, variable_alone, assigned, Attribute, rule, premises, arguments, discharge}
@@ -244,7 +245,8 @@ module _ (settings : ProofSettings) (nesting : Nesting Var Term) where
         go : (a b : Bool) → Ends Reads
             ((if a then (given (coefficients_from items) >>= λ qs. give (record step { ratios = qs }))
             else if b then (pivots_from settings nesting items >>= λ pivots. give (record step { pivots = unwrap_or pivots [] }))
-            else (named_among settings nesting items >>= λ _. give step)) s)
+            else (named_among settings nesting items >>= λ _.
+            give (record step { index = if reads_index settings step.rule then index_given items else step.index }))) s)
         go true b =
             given_next (λ _. ⊤) Reads (coefficients_from items) _ s (always (coefficients_from items))
             (λ qs _. (h.0, h.1, record { clause = h.2.clause; pivots = h.2.pivots }))
@@ -255,7 +257,7 @@ module _ (settings : ProofSettings) (nesting : Nesting Var Term) where
             (on.0, on.1, record { clause = on.2.clause; pivots = chosen (vocabulary u) ps k.1 }))
         go false false =
             and_next (λ _ u. Leads s u) Reads (named_among settings nesting items) _ s (all_read s items s named (stays s h.0.good))
-            (λ _ u k. step_still base s u id step h k)
+            (λ _ u k. let on = step_still base s u id step h k in (on.0, on.1, record { clause = on.2.clause; pivots = on.2.pivots }))
 
 pub attribute_reads : (settings : ProofSettings) (at : Standing) (base : ProofState) (id : List ℕ) (a : Attribute) (s : ProofState) (step : Step Term)
     → IsGoodAttribute a → IsReadStep settings at.nesting base id step s

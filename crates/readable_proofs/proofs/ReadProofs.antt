@@ -120,7 +120,7 @@ module _ (settings : ProofSettings) (before : Script) where
       and_next (λ ts u. Leads t u × AllByRecursion (λ x. IsTermIn (vocabulary u) p.nesting x Sort.Bool) ts) Written
       (formulas_in settings p.nesting literals) _ t
       (formulas_read settings p.nesting literals t named here.good)
-      (λ clause u l. let bare : Step Term = bare_step n.name (rule_word others) clause in
+      (λ clause u l. let bare : Step Term = bare_step settings n.name (rule_word others) clause in
       and_next (IsReadStep settings p.nesting t n.name) Written (attributes_read settings p others bare) _ u
       (attributes_reads settings p t n.name others u bare attributes (l.0, refl, record { clause = l.1; pivots = tt }))
       (λ read v m. let on = written_on t v here m.0 in

@@ -17,7 +17,7 @@ use Rattle.printed_proofs.specs.Naming.{IsPlan, IsApart, IsPlaceApart}
 use Rattle.printed_proofs.specs.Readable.{IsTermReadable, IsPivotReadable, IsStepReadable, IsSortReadable, AreBindingsReadable, AreReadable}
 use Rattle.printed_proofs.specs.Shared.{Plan}
 use Rattle.readable_proofs.specs.Names.{Vocabulary, vocabulary_of, AllowsNames}
-use Rattle.readable_proofs.specs.ProofsOver.{IsTermIn, IsPivotIn, IsStepIn, AreVariablesIn, AreIn, HasRatios, HaveRatios, IsPlanApart}
+use Rattle.readable_proofs.specs.ProofsOver.{IsTermIn, IsPivotIn, IsStepIn, AreVariablesIn, AreIn, HasArguments, HaveArguments, IsPlanApart}
 use Rattle.readable_proofs.proofs.ApartTerms.{has_not, binds_not}
 use Rattle.readable_proofs.proofs.Names.{found_is, found_named, none_found}
 use Rattle.readable_proofs.proofs.OpenScopes.{all_reversed, IsScopeIn, outermost_in, inside_scope}
@@ -89,11 +89,13 @@ module _ (settings : ProofSettings) (plan : Plan) (s : Script) (names : List (Li
     pivots_readable [] h = tt
     pivots_readable (p ∷ ps) h = (record { sort = h.0.sort; readable = term_readable p.0 h.0.sort h.0.is }, pivots_readable ps h.1)
 
-    step_readable : (step : Step Term) → IsStepIn v nesting step → HasRatios step → IsStepReadable settings plan s nesting step
-    step_readable step h coefficients = record {
+    step_readable : (step : Step Term) → IsStepIn v nesting step → HasArguments settings.is_profile_two step
+        → IsStepReadable settings plan s nesting step
+    step_readable step h arguments = record {
       clause = literals_readable step.clause h.clause;
       pivots = pivots_readable step.pivots h.pivots;
-      coefficients = coefficients;
+      coefficients = arguments.coefficients;
+      index = arguments.index;
     }
 
     bindings_readable : (earlier : List (List ℕ)) (bs : List (Var × Term)) → AreVariablesIn v nesting earlier bs
@@ -119,8 +121,8 @@ module _ (settings : ProofSettings) (plan : Plan) (s : Script) (names : List (Li
   place_apart : (nesting : Nesting Var Term) → IsPlaced nesting → IsPlaceApart plan (place_in settings nesting)
   place_apart nesting here = λ n inside. none_found names (variables_in nesting) n.name (scope_named nesting here) (plan_apart n inside).0
 
-  pub items_readable : (nesting : Nesting Var Term) (items : ProofItems Var Term) → IsPlaced nesting → AreIn v nesting items → HaveRatios items
-      → AreReadable settings plan s nesting items
+  pub items_readable : (nesting : Nesting Var Term) (items : ProofItems Var Term) → IsPlaced nesting → AreIn v nesting items
+      → HaveArguments settings.is_profile_two items → AreReadable settings plan s nesting items
   items_readable nesting no_items here h k = tt
   items_readable nesting (with_assume items id t) here h k =
       (items_readable nesting items here h.0 k, term_readable nesting here t Sort.Bool h.1)
@@ -138,5 +140,5 @@ module _ (settings : ProofSettings) (plan : Plan) (s : Script) (names : List (Li
         step_readable nesting here step h.3 k.2,
       )
 
-  pub proof_readable : (proof : ProofItems Var Term) → AreIn v outermost proof → HaveRatios proof → AreReadable settings plan s outermost proof
+  pub proof_readable : (proof : ProofItems Var Term) → AreIn v outermost proof → HaveArguments proof → AreReadable settings plan s outermost proof
   proof_readable proof h k = items_readable outermost proof (record { scope = outermost_in v; sorts = tt }) h k

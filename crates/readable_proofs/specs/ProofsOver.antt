@@ -1,6 +1,6 @@
 -- Public. Proofs over a vocabulary: what has to hold of the terms and the anchors of a proof, so that it can be printed; and plans of
 -- names that are apart from them.
-use Rattle.std.specs.Prelude.{◌≡◌, ◌||◌, ℕ, true, false, List, [], ◌∷◌, bytes_eq, Contains, None, ⊤}
+use Rattle.std.specs.Prelude.{◌≡◌, ◌||◌, ◌&&◌, ℕ, Bool, true, false, List, [], ◌∷◌, bytes_eq, Contains, None, ⊤}
 use Rattle.std.specs.List.{AllByRecursion}
 use Rattle.term_model.specs.declared.symbols.Sort.{Sort}
 use Rattle.term_model.specs.Sorts.{IsOf}
@@ -8,12 +8,14 @@ use Rattle.term_model.specs.Terms.{Var, Fun, Term, Terms, no_terms, term}
 use Rattle.rule_model.specs.Contexts.{IsClosedUnder}
 use Rattle.rule_model.specs.Judged.{open_anchors}
 use Rattle.rule_model.specs.Proofs.{Step, ProofItems, no_items, with_assume, with_step, with_subproof}
+use Rattle.rule_model.specs.RuleNames.{takes_index}
 use Rattle.rule_model.specs.Scopes.{Nesting, outermost, inner}
 use Rattle.problem_text.specs.Scripts.{Named}
 use Rattle.problem_text.specs.Words.{is_among}
 use Rattle.alethe_text.specs.Anchors.{bound_names}
 use Rattle.alethe_text.specs.Arguments.{takes_coefficients}
 use Rattle.alethe_text.specs.States.{ProofSettings}
+use Rattle.printed_proofs.specs.Readable.{IsIndexReadable}
 use Rattle.printed_proofs.specs.Shared.{Plan}
 use Rattle.readable_proofs.specs.Names.{Vocabulary}
 use Rattle.readable_proofs.specs.TermsOver.{IsTermOver}
@@ -60,19 +62,22 @@ AreIn v nesting (with_subproof items bindings inside step) =
 abbrev pub IsProofOver : Vocabulary → ProofItems Var Term → Type 0
 IsProofOver v proof = AreIn v outermost proof
 
--- A step by la_generic has a list of coefficients, as each has that meets its condition.
-abbrev pub HasRatios : Step Term → Type 0
-HasRatios step = takes_coefficients step.rule ≡ true → step.ratios ≡ None → ⊥
+-- A step by la_generic has a list of coefficients, as each has that meets its condition. In this profile, an index that is asked for is
+-- missing or a place, and one that is not is free.
+pub record HasArguments (is_profile_two : Bool) (step : Step Term) : Type 0 where
+  pub coefficients : takes_coefficients step.rule ≡ true → step.ratios ≡ None → ⊥
+  pub index : IsIndexReadable (is_profile_two && takes_index step.rule) step.index
 
-abbrev pub HaveRatios : ProofItems Var Term → Type 0
-HaveRatios no_items = ⊤
-HaveRatios (with_assume items id t) = HaveRatios items
-HaveRatios (with_step items step) = HaveRatios items × HasRatios step
-HaveRatios (with_subproof items bindings inside step) = HaveRatios items × HaveRatios inside × HasRatios step
+abbrev pub HaveArguments : Bool → ProofItems Var Term → Type 0
+HaveArguments is_profile_two no_items = ⊤
+HaveArguments is_profile_two (with_assume items id t) = HaveArguments is_profile_two items
+HaveArguments is_profile_two (with_step items step) = HaveArguments is_profile_two items × HasArguments is_profile_two step
+HaveArguments is_profile_two (with_subproof items bindings inside step) =
+    HaveArguments is_profile_two items × HaveArguments is_profile_two inside × HasArguments is_profile_two step
 
--- How a printed proof is read: no height is judged, lets are kept, and arguments of resolution are its pivots.
-abbrev pub printed_settings : ProofSettings
-printed_settings = record { replaces_lets = false; limit = None; is_strict = true }
+-- How a printed proof is read, in the profile of the proof: no height is judged, lets are kept, and arguments of resolution are its pivots.
+abbrev pub printed_settings : Bool → ProofSettings
+printed_settings is_profile_two = record { replaces_lets = false; limit = None; is_strict = true; is_profile_two = is_profile_two }
 
 -- no name of the plan is that of a function or of a variable
 abbrev pub IsPlanApart : Plan → Vocabulary → Type 0

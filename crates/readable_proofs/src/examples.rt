@@ -24,7 +24,7 @@ pub fn lets_with_names_apart_are_readable()
         (IsProofOver (vocabulary_of (script_in (codes "(declare-fun f (Bool) Bool)(declare-fun p () Bool)")) (codes "x" ∷ []))) }
     ensures readable { IfSome (proof_behind (codes "(declare-fun f (Bool) Bool)(declare-fun p () Bool)")
         (codes "(anchor :step t :args ((:= (x Bool) p)))(step r (cl (= (f x) (f p))) :rule refl)(step t (cl (= (let ((x p)) (f x)) (f p))) :rule let)"))
-        (AreReadable printed_settings [] (script_in (codes "(declare-fun f (Bool) Bool)(declare-fun p () Bool)")) outermost) }
+        (AreReadable (printed_settings false) [] (script_in (codes "(declare-fun f (Bool) Bool)(declare-fun p () Bool)")) outermost) }
 {
     proofs_are_readable();
 }

@@ -7,6 +7,7 @@ ghost use Rattle.term_model.specs.declared.symbols.Sort.{Sort};
 ghost use Rattle.term_model.specs.Sorts.{operation_sort, call_sort};
 ghost use Rattle.term_model.specs.Terms.{Var, Fun, Term, operation, call, Terms, no_terms, term, not_of};
 ghost use Rattle.rule_model.specs.Contexts.{images, AreAnchorsNested};
+ghost use Rattle.rule_model.specs.Profiles.{HaveIndices};
 ghost use Rattle.rule_model.specs.Proofs.{ProofItems};
 ghost use Rattle.rule_model.specs.Reading.{bindings_at};
 ghost use Rattle.rule_model.specs.Replacement.{Replacement};
@@ -29,7 +30,7 @@ ghost use Rattle.printed_proofs.specs.PrintedProof.{proof_items, behind_items};
 ghost use Rattle.printed_proofs.specs.Readable.{AreReadable, IsSortReadable};
 ghost use Rattle.printed_proofs.specs.Shared.{Plan};
 ghost use Rattle.readable_proofs.specs.Names.{IsWellNamed, Vocabulary, vocabulary_of, IsVocabularyWithin, AreOwnNames, AllowsNames};
-ghost use Rattle.readable_proofs.specs.ProofsOver.{IsTermIn, AreTermsIn, IsProofOver, HaveRatios, printed_settings, IsPlanApart};
+ghost use Rattle.readable_proofs.specs.ProofsOver.{IsTermIn, AreTermsIn, IsProofOver, HaveArguments, printed_settings, IsPlanApart};
 ghost use Rattle.readable_proofs.specs.TermsOver.{BindsFree, IsTermOver};
 
 use alethe_text::laws::{
@@ -51,19 +52,19 @@ pub fn terms_are_printable()
 pub fn proofs_are_readable()
     ensures { (settings : ProofSettings) (plan : Plan) (s : Script) (names : List (List ℕ)) (proof : ProofItems Var Term) →
         settings.replaces_lets ≡ false → AllowsNames s names → IsPlan plan → IsPlanApart plan (vocabulary_of s names) →
-        IsProofOver (vocabulary_of s names) proof → HaveRatios proof → AreReadable settings plan s outermost proof }
+        IsProofOver (vocabulary_of s names) proof → HaveArguments settings.is_profile_two proof → AreReadable settings plan s outermost proof }
 {}
 
 /// So its printed text stands for the proof with its ids numbered: where it is printed whole, without names for terms, and where the names
 /// of a plan are apart too.
 pub fn proofs_with_names_apart_are_read_back()
-    ensures whole { (s : Script) (names : List (List ℕ)) (proof : ProofItems Var Term) → AllowsNames s names → IsReady [] s →
-        IsProofOver (vocabulary_of s names) proof → HaveRatios proof → IsWellFormed proof → commands_in proof ≤ 2 ^ 32 →
-        StandsForProof (printed_lines (proof_items [] s proof)) printed_settings s (numbered_proof proof) (behind_items [] s outermost proof) }
-    ensures planned { (plan : Plan) (s : Script) (names : List (List ℕ)) (proof : ProofItems Var Term) → AllowsNames s names → IsPlan plan →
-        IsReady plan s → IsPlanApart plan (vocabulary_of s names) → IsProofOver (vocabulary_of s names) proof → HaveRatios proof →
+    ensures whole { (is_profile_two : Bool) (s : Script) (names : List (List ℕ)) (proof : ProofItems Var Term) → AllowsNames s names → IsReady [] s →
+        IsProofOver (vocabulary_of s names) proof → HaveArguments is_profile_two proof → IsWellFormed proof → commands_in proof ≤ 2 ^ 32 →
+        StandsForProof (printed_lines (proof_items [] s proof)) (printed_settings is_profile_two) s (numbered_proof proof) (behind_items [] s outermost proof) }
+    ensures planned { (is_profile_two : Bool) (plan : Plan) (s : Script) (names : List (List ℕ)) (proof : ProofItems Var Term) → AllowsNames s names → IsPlan plan →
+        IsReady plan s → IsPlanApart plan (vocabulary_of s names) → IsProofOver (vocabulary_of s names) proof → HaveArguments is_profile_two proof →
         IsWellFormed proof → commands_in proof ≤ 2 ^ 32 →
-        StandsForProof (printed_lines (proof_items plan s proof)) printed_settings s (numbered_proof proof) (behind_items plan s outermost proof) }
+        StandsForProof (printed_lines (proof_items plan s proof)) (printed_settings is_profile_two) s (numbered_proof proof) (behind_items plan s outermost proof) }
 {
     printed_proofs_are_read_back();
 }
@@ -103,10 +104,11 @@ pub fn anchors_have_readable_sorts()
         IsProofOver (vocabulary_of s names) proof → AllByRecursion (λ b. IsSortReadable s b.0.sort) (bindings_at proof k) }
 {}
 
-/// In a proof each of whose commands passes, each step by la_generic has a list of coefficients.
-pub fn proofs_that_pass_have_coefficients()
-    ensures { (c : Checking) (proof : ProofItems Var Term) (statuses : List Status) → AreStatuses c proof statuses → All Passes statuses →
-        HaveRatios proof }
+/// In a proof with the indices of a profile, each of whose commands passes, each step by la_generic has a list of coefficients, and no index
+/// is bad.
+pub fn proofs_that_pass_have_arguments()
+    ensures { (is_profile_two : Bool) (c : Checking) (proof : ProofItems Var Term) (statuses : List Status) → HaveIndices is_profile_two proof →
+        AreStatuses c proof statuses → All Passes statuses → HaveArguments is_profile_two proof }
 {}
 
 /// What is made of terms over a vocabulary is over it: applications in a scope, among them equalities; terms with closed terms put in for
@@ -147,33 +149,33 @@ pub fn printed_terms_are_low()
 /// a declared function: its printed text stands behind the problem for the proof with its ids numbered. It may be printed with names
 /// for terms that no function, variable, macro or named term has.
 pub fn read_proofs_are_read_back()
-    ensures whole { (problem : List ℕ) (replaces : Bool) (before : Script) (source : List ℕ) (settings : ProofSettings)
+    ensures whole { (is_profile_two : Bool) (problem : List ℕ) (replaces : Bool) (before : Script) (source : List ℕ) (settings : ProofSettings)
         (proof : ProofItems Var Term) (after : Script) → StandsForProblem problem replaces before →
-        StandsForProof source settings before proof after → HasNamesApart after → HaveRatios proof → commands_in proof ≤ 2 ^ 32 →
-        StandsForProof (printed_lines (proof_items [] before proof)) printed_settings before (numbered_proof proof)
+        StandsForProof source settings before proof after → HasNamesApart after → HaveArguments is_profile_two proof → commands_in proof ≤ 2 ^ 32 →
+        StandsForProof (printed_lines (proof_items [] before proof)) (printed_settings is_profile_two) before (numbered_proof proof)
         (behind_items [] before outermost proof) }
     // A proof that was read within the limit of heights is so read back.
-    ensures limited { (problem : List ℕ) (replaces : Bool) (before : Script) (source : List ℕ) (settings : ProofSettings)
+    ensures limited { (is_profile_two : Bool) (problem : List ℕ) (replaces : Bool) (before : Script) (source : List ℕ) (settings : ProofSettings)
         (proof : ProofItems Var Term) (after : Script) → StandsForProblem problem replaces before →
-        StandsForProof source settings before proof after → HasNamesApart after → HaveRatios proof → commands_in proof ≤ 2 ^ 32 →
+        StandsForProof source settings before proof after → HasNamesApart after → HaveArguments is_profile_two proof → commands_in proof ≤ 2 ^ 32 →
         settings.limit ≡ Some most_height →
-        StandsForProof (printed_lines (proof_items [] before proof)) (limited_proof false true) before (numbered_proof proof)
+        StandsForProof (printed_lines (proof_items [] before proof)) (limited_proof false true is_profile_two) before (numbered_proof proof)
         (behind_items [] before outermost proof) }
-    ensures planned { (problem : List ℕ) (replaces : Bool) (before : Script) (source : List ℕ) (settings : ProofSettings)
+    ensures planned { (is_profile_two : Bool) (problem : List ℕ) (replaces : Bool) (before : Script) (source : List ℕ) (settings : ProofSettings)
         (proof : ProofItems Var Term) (after : Script) (plan : Plan) → StandsForProblem problem replaces before →
-        StandsForProof source settings before proof after → HasNamesApart after → HaveRatios proof → commands_in proof ≤ 2 ^ 32 →
+        StandsForProof source settings before proof after → HasNamesApart after → HaveArguments is_profile_two proof → commands_in proof ≤ 2 ^ 32 →
         IsPlan plan → ((n : Named) → Contains plan n → is_among before.taken n.name ≡ false) →
         ((n : Named) → Contains plan n → Contains after.let_names n.name → ⊥) →
-        StandsForProof (printed_lines (proof_items plan before proof)) printed_settings before (numbered_proof proof)
+        StandsForProof (printed_lines (proof_items plan before proof)) (printed_settings is_profile_two) before (numbered_proof proof)
         (behind_items plan before outermost proof) }
     // So is every other proof over the functions and the names of the two texts, as an elaboration of the proof is.
-    ensures others { (problem : List ℕ) (replaces : Bool) (before : Script) (source : List ℕ) (settings : ProofSettings)
+    ensures others { (is_profile_two : Bool) (problem : List ℕ) (replaces : Bool) (before : Script) (source : List ℕ) (settings : ProofSettings)
         (proof : ProofItems Var Term) (after : Script) (plan : Plan) (other : ProofItems Var Term) → StandsForProblem problem replaces before →
         StandsForProof source settings before proof after → HasNamesApart after →
-        IsProofOver (vocabulary_of before after.let_names) other → HaveRatios other → IsWellFormed other → commands_in other ≤ 2 ^ 32 →
+        IsProofOver (vocabulary_of before after.let_names) other → HaveArguments is_profile_two other → IsWellFormed other → commands_in other ≤ 2 ^ 32 →
         IsPlan plan → ((n : Named) → Contains plan n → is_among before.taken n.name ≡ false) →
         ((n : Named) → Contains plan n → Contains after.let_names n.name → ⊥) →
-        StandsForProof (printed_lines (proof_items plan before other)) printed_settings before (numbered_proof other)
+        StandsForProof (printed_lines (proof_items plan before other)) (printed_settings is_profile_two) before (numbered_proof other)
         (behind_items plan before outermost other) }
 {
     proofs_with_names_apart_are_read_back();

@@ -12,6 +12,7 @@ use Rattle.problem_text.specs.Words.{is_among}
 use Rattle.alethe_text.specs.Anchors.{image_of}
 use Rattle.alethe_text.proofs.KeptProofs.{AreOf}
 use Rattle.alethe_text.proofs.KeptReadings.{HasTermsOf}
+use Rattle.printed_proofs.specs.Coefficients.{numbers_of}
 use Rattle.printed_proofs.specs.PrintedProof.{behind_literals, behind_pivots, behind_step, behind_binding, behind_bindings, behind_items}
 use Rattle.printed_proofs.specs.Shared.{Plan, planned, behind_as, behind_term, behind_terms, behind_pairs}
 
@@ -86,7 +87,7 @@ module _ (plan : Plan) (P : Term → Type 0) (deep : IsDeep P) (Good : Script �
   pivots_good (p ∷ ps) s are h = pivots_good ps (behind_term plan s p.0) are.1 (term_good p.0 s are.0 h)
 
   step_good : (step : Step Term) (s : Script) → HasTermsOf P P step → Good s → Good (behind_step plan s step)
-  step_good step s are h = go step.ratios
+  step_good step s are h = go (numbers_of step.ratios step.index)
     where
       inside : Script
       inside = behind_literals plan s step.clause

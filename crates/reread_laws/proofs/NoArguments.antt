@@ -6,10 +6,11 @@ use Rattle.std.specs.List.{AllByRecursion}
 use Rattle.sexpr.specs.Items.{Item, word, quoted, string, list, Items, no_items, item, StandsForItems}
 use Rattle.sexpr.specs.Printed.{IsSymbolItem, AreSpelledItems, placed, placed_all, placed_lines, printed, printed_lines}
 use Rattle.term_model.specs.Terms.{Var, Term}
+use Rattle.rule_model.specs.declared.index_arg.IndexArg.{IndexArg}
 use Rattle.rule_model.specs.declared.rules.Rule.{Rule}
 use Rattle.rule_model.specs.Proofs.{Fraction, Step, ProofItems, with_assume, with_step, with_subproof}
 use Rattle.rule_model.specs.Proofs as proof
-use Rattle.rule_model.specs.RuleNames.{rule_named}
+use Rattle.rule_model.specs.RuleNames.{rule_named, takes_index}
 use Rattle.rule_model.specs.Scopes.{Nesting, outermost, inner, first_index, commands_in}
 use Rattle.rule_model.specs.WellFormed.{HasRule, IsLowest, AreWellFormed, IsWellFormed}
 use Rattle.text_items.specs.ItemShapes.{Name, name_at}
@@ -112,11 +113,19 @@ anchor_gives id others at c e = anchor_of at (at + 1 + 0) _ _ _ c e
 -- a step of a proof without pivots
 arguments_none : (plan : Plan) (s : Script) (x : Step Term) → HasRule x → x.pivots ≡ [] → takes_pivots (rule_named x.rule_name) ≡ true
     → step_arguments plan s x ≡ no_items
-arguments_none plan s x is none takes = go is.ratios
+arguments_none plan s x is none takes = go is.ratios is.index
   where
-    go : (x.rule ≡ Rule.LaGeneric) ⊎ (x.ratios ≡ None) → step_arguments plan s x ≡ no_items
-    go (inl generic) = absurd (let f : true ≡ false = sym takes ∙ (ap takes_pivots (sym is.named) ∙ ap takes_pivots generic) in cc)
-    go (inr e) = rw (e, none) refl
+    indexed : (r : Rule) → takes_index r ≡ true → takes_pivots r ≡ true → ⊥
+    indexed Rule.And e f = absurd (let g : false ≡ true = f in cc)
+    indexed Rule.NotOr e f = absurd (let g : false ≡ true = f in cc)
+    indexed Rule.AndPos e f = absurd (let g : false ≡ true = f in cc)
+    indexed Rule.OrNeg e f = absurd (let g : false ≡ true = f in cc)
+    indexed _ e f = absurd (let g : false ≡ true = e in cc)
+
+    go : (x.rule ≡ Rule.LaGeneric) ⊎ (x.ratios ≡ None) → (takes_index x.rule ≡ true) ⊎ (x.index ≡ IndexArg.Free) → step_arguments plan s x ≡ no_items
+    go (inl generic) i = absurd (let f : true ≡ false = sym takes ∙ (ap takes_pivots (sym is.named) ∙ ap takes_pivots generic) in cc)
+    go (inr e) (inl i) = absurd (indexed x.rule i (ap takes_pivots is.named ∙ takes))
+    go (inr e) (inr free) = rw (e, free, none) refl
 
 shared_step_gives : (plan : Plan) (s : Script) (index : ℕ) (x : Step Term) → HasRule x → x.pivots ≡ [] → PlacedGivesNone (shared_step plan s index x)
 shared_step_gives plan s index x is none =

@@ -34,7 +34,7 @@ use Rattle.alethe_text.specs.Commands.{Command, assume, step, anchor, command_of
 use Rattle.alethe_text.specs.Coefficients.{coefficients_from}
 use Rattle.alethe_text.specs.Ids.{Standing, id_judged, standing_of, stands_in, closes_scope, indices_of}
 use Rattle.alethe_text.specs.ProofTerms.{place_in, term_in, formula_in, formulas_in}
-use Rattle.alethe_text.specs.Arguments.{takes_coefficients, takes_pivots, is_naming, named_in, named_among}
+use Rattle.alethe_text.specs.Arguments.{takes_coefficients, takes_pivots, reads_index, index_given, is_naming, named_in, named_among}
 use Rattle.alethe_text.specs.Arguments.{pivots_from, arguments_from}
 use Rattle.alethe_text.specs.Steps.{assume_read, attribute_read, attributes_read, bare_step, rule_word, step_read}
 use Rattle.alethe_text.specs.Anchors.{bound_names, sort_given, image_of, script_changed, argument_read, arguments_read, anchor_read}
@@ -222,7 +222,7 @@ module _ (n : ℕ) where
           with_pivots how = pivots_from how nesting items >>= λ pivots. give (record x { pivots = unwrap_or pivots [] })
 
           with_names : ProofSettings → Reading (Step Term)
-          with_names how = named_among how nesting items >>= λ _. give x
+          with_names how = named_among how nesting items >>= λ _. give (record x { index = if reads_index how x.rule then index_given items else x.index })
 
           go : (a b : Bool) → Same s ((if a then with_ratios else if b then with_pivots settings else with_names settings) s)
               ((if a then with_ratios else if b then with_pivots other_settings else with_names other_settings) s)
@@ -258,7 +258,7 @@ module _ (n : ℕ) where
     same_step n literals others s =
         same_next _ _ _ _ s (same_standing n s)
         (λ at u. same_next _ _ _ _ u (same_formulas at.nesting literals u)
-        (λ clause w. same_next _ _ _ _ w (same_attributes at others (bare_step n.name (rule_word others) clause) w)
+        (λ clause w. same_next _ _ _ _ w (same_attributes at others (bare_step settings n.name (rule_word others) clause) w)
         (λ taken x. λ long. (long, λ free. (free, refl)))))
 
     -- the image of a variable

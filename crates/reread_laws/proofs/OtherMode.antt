@@ -17,7 +17,7 @@ use Rattle.alethe_text.specs.Commands.{Command, assume, step, anchor, command_of
 use Rattle.alethe_text.specs.Coefficients.{coefficients_from}
 use Rattle.alethe_text.specs.Ids.{Standing}
 use Rattle.alethe_text.specs.ProofTerms.{term_in, formula_in, formulas_in}
-use Rattle.alethe_text.specs.Arguments.{takes_coefficients, takes_pivots, is_naming, named_in, named_among, pivots_from, arguments_from}
+use Rattle.alethe_text.specs.Arguments.{takes_coefficients, takes_pivots, reads_index, index_given, is_naming, named_in, named_among, pivots_from, arguments_from}
 use Rattle.alethe_text.specs.Steps.{assume_read, attribute_read, attributes_read, bare_step, rule_word, step_read}
 use Rattle.alethe_text.specs.Anchors.{argument_read, arguments_read, anchor_read}
 use Rattle.alethe_text.specs.ProofTexts.{performed, commands, behind_answer, unwrapped_commands, proof_from}
@@ -104,7 +104,7 @@ module _ (settings : ProofSettings) (strict : Bool) where
         with_pivots how = pivots_from how nesting items >>= λ pivots. give (record x { pivots = unwrap_or pivots [] })
 
         with_names : ProofSettings → Reading (Step Term)
-        with_names how = named_among how nesting items >>= λ _. give x
+        with_names how = named_among how nesting items >>= λ _. give (record x { index = if reads_index how x.rule then index_given items else x.index })
 
         go : (a b c : Bool) → b ≡ false → c ≡ false
             → (if a then with_ratios else if b then with_pivots settings else with_names settings) s
@@ -119,6 +119,9 @@ module _ (settings : ProofSettings) (strict : Bool) where
     unfolding arguments_from
     rule_kept items x s none = go (takes_coefficients x.rule) (strict && takes_pivots x.rule)
       where
+        indexed : Step Term
+        indexed = record x { index = if reads_index settings x.rule then index_given items else x.index }
+
         with_ratios : Reading (Step Term)
         with_ratios = given (coefficients_from items) >>= λ qs. give (record x { ratios = qs })
 
@@ -126,12 +129,12 @@ module _ (settings : ProofSettings) (strict : Bool) where
         with_pivots = pivots_from other nesting items >>= λ pivots. give (record x { pivots = unwrap_or pivots [] })
 
         with_names : Reading (Step Term)
-        with_names = named_among other nesting items >>= λ _. give x
+        with_names = named_among other nesting items >>= λ _. give indexed
 
         go : (a b : Bool) → IfOk ((if a then with_ratios else if b then with_pivots else with_names) s).result (λ y. takes_pivots y.rule ≡ false)
         go true b = last_given _ _ (λ qs. record x { ratios = qs }) s (λ _. none)
         go false true = last_given _ _ (λ pivots. record x { pivots = unwrap_or pivots [] }) s (λ _. none)
-        go false false = last_given _ _ (λ _. x) s (λ _. none)
+        go false false = last_given _ _ (λ _. indexed) s (λ _. none)
 
   -- attributes of which none is an argument
   module _ (at : Standing) where
@@ -177,7 +180,7 @@ module _ (settings : ProofSettings) (strict : Bool) where
   same_step n literals attributes s none =
       same_next _ _ _ _ s refl
       (λ at u. same_next _ _ _ _ u (same_formulas at.nesting literals u)
-      (λ clause w. same_next _ _ _ _ w (go at (takes_pivots (rule_named (rule_word attributes))) refl (bare_step n.name (rule_word attributes) clause) refl w)
+      (λ clause w. same_next _ _ _ _ w (go at (takes_pivots (rule_named (rule_word attributes))) refl (bare_step settings n.name (rule_word attributes) clause) refl w)
       (λ x z. refl)))
     where
       go : (at : Standing) (b : Bool) → takes_pivots (rule_named (rule_word attributes)) ≡ b → (x : Step Term)

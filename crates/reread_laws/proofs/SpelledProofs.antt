@@ -18,7 +18,7 @@ use Rattle.alethe_text.specs.PrintedCommands.{BeginsAsProof}
 use Rattle.alethe_text.specs.ProofTerms.{place_in}
 use Rattle.alethe_text.specs.States.{ProofSettings}
 use Rattle.printed_proofs.specs.Arguments.{pivot_items}
-use Rattle.printed_proofs.specs.Coefficients.{coefficient_items}
+use Rattle.printed_proofs.specs.Coefficients.{coefficient_items, numbers_of}
 use Rattle.printed_proofs.specs.Naming.{IsPlan}
 use Rattle.printed_proofs.specs.Numbered.{printed_id}
 use Rattle.printed_proofs.specs.PrintedProof.{joined, literal_items, behind_literals, shared_pivots, behind_pivots, step_arguments, shared_step}
@@ -160,12 +160,12 @@ module _ (plan : Plan) (sorts : List (List ℕ)) (sound : IsPlan plan) where
   pivots_sorts (p ∷ ps) s = pivots_sorts ps (behind_term plan s p.0) ∙ term_sorts plan sound p.0 s
 
   step_sorts : (step : Step Term) (s : Script) → (behind_step plan s step).sorts ≡ s.sorts
-  step_sorts step s = go step.ratios refl ∙ literals_sorts step.clause s
+  step_sorts step s = go (numbers_of step.ratios step.index) refl ∙ literals_sorts step.clause s
     where
       behind : Script
       behind = behind_literals plan s step.clause
 
-      go : (o : Option (List Fraction)) → step.ratios ≡ o → (behind_arguments plan behind step).sorts ≡ behind.sorts
+      go : (o : Option (List Fraction)) → numbers_of step.ratios step.index ≡ o → (behind_arguments plan behind step).sorts ≡ behind.sorts
       go (Some qs) e = rw e refl
       go None e = rw e (pivots_sorts step.pivots behind)
 

@@ -1,6 +1,7 @@
 -- The rules over the arguments of `and` and `or` keep truth.
-use Rattle.std.proofs.Common.{◌≡◌, ◌⊎◌, inl, inr, List, [], ◌∷◌, map, Bool, true, false, refl, sym, ap, ◌∙◌, subst, All, Any, Contains}
+use Rattle.std.proofs.Common.{◌≡◌, ◌⊎◌, inl, inr, ℕ, List, [], ◌∷◌, map, Bool, true, false, refl, sym, ap, ◌∙◌, subst, All, Any, Contains}
 use Rattle.std.proofs.lemmas.List.Elements.{All-nil, All-cons, All-contains}
+use Rattle.std.proofs.lemmas.Option.{slice_get_within, get_or_from_slice_get}
 use Rattle.term_model.specs.declared.symbols.Op.{Op}
 use Rattle.term_model.specs.Terms.{Term, operation, list_of, terms_of, not_of, Terms}
 use Rattle.term_model.specs.Values.{as_truth}
@@ -16,6 +17,12 @@ use Rattle.rule_model.specs.Clausal.{as_it_stands, GivesOne, GivesAll}
 
 pub any_contained : {X : Type 0} (P : X → Type 0) (xs : List X) (x : X) → Contains xs x → P x → Any P xs
 any_contained P xs x (k, below, same) p = (k, x, below, same, p)
+
+-- the argument at an allowed place is among the arguments
+among : (allowed : ℕ → Type 0) {op : Op} {whole_sign sign : Term → Term} {whole : Term} {rest : List Term}
+    (g : GivesOne allowed op whole_sign sign whole rest) → Contains g.arguments g.argument
+among allowed g =
+    (g.place, slice_get_within g.arguments g.place g.argument g.at_place, get_or_from_slice_get g.arguments g.place g.argument g.argument g.at_place)
 
 module _ (I : Interpretation) (r : Valuation) where
   -- each term is true or not
@@ -52,12 +59,14 @@ module _ (I : Interpretation) (r : Valuation) where
   later_literal : (t : Term) (ts : List Term) → MakesClauseTrue I r ts → MakesClauseTrue I r (t ∷ ts)
   later_literal t ts h = any_later (MakesTrue I r) t ts h
 
-  pub and_pos_keeps : (whole : Term) (rest : List Term) → GivesOne Op.And not_of as_it_stands whole rest → MakesClauseTrue I r (whole ∷ rest)
-  and_pos_keeps whole rest g =
+  pub and_pos_keeps : (allowed : ℕ → Type 0) (whole : Term) (rest : List Term) → GivesOne allowed Op.And not_of as_it_stands whole rest
+      → MakesClauseTrue I r (whole ∷ rest)
+  and_pos_keeps allowed whole rest g =
       rw (g.whole_is, g.rest_is)
       (let all = operation Op.And (terms_of g.arguments) in
       elim (true_or_not all) [
-        | inl h ↦ later_literal (not_of all) (g.argument ∷ []) (first_literal g.argument [] (All-contains (MakesTrue I r) g.arguments g.argument (all_of_and g.arguments h) g.among))
+        | inl h ↦ later_literal (not_of all) (g.argument ∷ [])
+            (first_literal g.argument [] (All-contains (MakesTrue I r) g.arguments g.argument (all_of_and g.arguments h) (among allowed g)))
         | inr n ↦ first_literal (not_of all) (g.argument ∷ []) ((negation_is I r all).1 n)
       ])
 
@@ -83,30 +92,35 @@ module _ (I : Interpretation) (r : Valuation) where
         | inr n ↦ first_literal (not_of (operation Op.Or (terms_of ts))) ts ((negation_is I r (operation Op.Or (terms_of ts))).1 n)
       ])
 
-  pub or_neg_keeps : (whole : Term) (rest : List Term) → GivesOne Op.Or as_it_stands not_of whole rest → MakesClauseTrue I r (whole ∷ rest)
-  or_neg_keeps whole rest g =
+  pub or_neg_keeps : (allowed : ℕ → Type 0) (whole : Term) (rest : List Term) → GivesOne allowed Op.Or as_it_stands not_of whole rest
+      → MakesClauseTrue I r (whole ∷ rest)
+  or_neg_keeps allowed whole rest g =
       rw (g.whole_is, g.rest_is)
       (let some = operation Op.Or (terms_of g.arguments) in
       elim (true_or_not g.argument) [
-        | inl h ↦ first_literal some (not_of g.argument ∷ []) (or_of_some g.arguments (any_contained (MakesTrue I r) g.arguments g.argument g.among h))
+        | inl h ↦ first_literal some (not_of g.argument ∷ [])
+            (or_of_some g.arguments (any_contained (MakesTrue I r) g.arguments g.argument (among allowed g) h))
         | inr n ↦ later_literal some (not_of g.argument ∷ []) (first_literal (not_of g.argument) [] ((negation_is I r g.argument).1 n))
       ])
 
-  pub and_keeps : (whole : Term) (rest : List Term) → GivesOne Op.And as_it_stands as_it_stands whole rest → MakesTrue I r whole → MakesClauseTrue I r rest
-  and_keeps whole rest g h =
+  pub and_keeps : (allowed : ℕ → Type 0) (whole : Term) (rest : List Term) → GivesOne allowed Op.And as_it_stands as_it_stands whole rest
+      → MakesTrue I r whole → MakesClauseTrue I r rest
+  and_keeps allowed whole rest g h =
       rw g.rest_is
-      (first_literal g.argument [] (All-contains (MakesTrue I r) g.arguments g.argument (all_of_and g.arguments (subst (MakesTrue I r) g.whole_is h)) g.among))
+      (let all = all_of_and g.arguments (subst (MakesTrue I r) g.whole_is h) in
+      first_literal g.argument [] (All-contains (MakesTrue I r) g.arguments g.argument all (among allowed g)))
 
   pub or_keeps : (whole : Term) (rest : List Term) → GivesAll Op.Or as_it_stands as_it_stands whole rest → MakesTrue I r whole → MakesClauseTrue I r rest
   or_keeps whole rest g h =
       rw (g.rest_is ∙ map-itself (g.first ∷ g.others)) (some_of_or (g.first ∷ g.others) (subst (MakesTrue I r) g.whole_is h))
 
-  pub not_or_keeps : (whole : Term) (rest : List Term) → GivesOne Op.Or not_of not_of whole rest → MakesTrue I r whole → MakesClauseTrue I r rest
-  not_or_keeps whole rest g h =
+  pub not_or_keeps : (allowed : ℕ → Type 0) (whole : Term) (rest : List Term) → GivesOne allowed Op.Or not_of not_of whole rest → MakesTrue I r whole
+      → MakesClauseTrue I r rest
+  not_or_keeps allowed whole rest g h =
       let none = (negation_is I r (operation Op.Or (terms_of g.arguments))).0 (subst (MakesTrue I r) g.whole_is h) in
       rw g.rest_is
       (first_literal (not_of g.argument) []
-      ((negation_is I r g.argument).1 (λ k. none (or_of_some g.arguments (any_contained (MakesTrue I r) g.arguments g.argument g.among k)))))
+      ((negation_is I r g.argument).1 (λ k. none (or_of_some g.arguments (any_contained (MakesTrue I r) g.arguments g.argument (among allowed g) k)))))
 
   pub not_and_keeps : (whole : Term) (rest : List Term) → GivesAll Op.And not_of not_of whole rest → MakesTrue I r whole → MakesClauseTrue I r rest
   not_and_keeps whole rest g h =

@@ -7,11 +7,12 @@ use Rattle.term_model.specs.Interpretations.{Interpretation}
 use Rattle.term_model.specs.Meaning.{Valuation, ValuationFits}
 use Rattle.term_model.specs.Unsatisfiable.{MakesTrue}
 use Rattle.term_model.proofs.Basics.{any_here, any_cases}
+use Rattle.rule_model.specs.declared.index_arg.IndexArg.{IndexArg}
 use Rattle.rule_model.specs.declared.kinds.Family.{Family}
 use Rattle.rule_model.specs.declared.kinds.Kind.{Kind}
 use Rattle.rule_model.specs.declared.rules.Mode.{Mode}
 use Rattle.rule_model.specs.declared.rules.Rule.{Rule}
-use Rattle.rule_model.specs.Clausal.{Begins, IsOnlyPremise, Changes, HasEachOnce, HasEach, IsTautology}
+use Rattle.rule_model.specs.Clausal.{Allows, Begins, IsOnlyPremise, Changes, HasEachOnce, HasEach, IsTautology}
 use Rattle.rule_model.specs.Clauses.{MakesClauseTrue}
 use Rattle.rule_model.specs.Conditions.{MeetsRule, Met, LooksAtContext, IsClauseOfTruths, IsWellSortedStep, KeepsTruth}
 use Rattle.rule_model.specs.Contexts.{IsInContext}
@@ -35,7 +36,8 @@ use Rattle.rule_model.proofs.Simplify.{AreKept, not_kept, implies_kept, equiv_ke
 use Rattle.rule_model.proofs.StrictResolution.{strict_sound}
 
 -- a clausal rule asks what its row asks
-pub clausal_asks : (rule : Rule) (j : Judged) → kind_of rule ≡ Kind.Judged Family.Clausal → MeetsRule rule j ↔ MeetsClausal rule j.premises j.clause
+pub clausal_asks : (rule : Rule) (j : Judged) → kind_of rule ≡ Kind.Judged Family.Clausal → MeetsRule rule j
+    ↔ MeetsClausal j.mode j.index rule j.premises j.clause
 clausal_asks Rule.True j is = (λ h. h, λ h. h)
 clausal_asks Rule.False j is = (λ h. h, λ h. h)
 clausal_asks Rule.NotNot j is = (λ h. h, λ h. h)
@@ -115,20 +117,22 @@ module _ (I : Interpretation) (r : Valuation) where
   schema_keeps None sound premises clause i fits units literals all = absurd i
 
   -- the clausal rules
-  clausal_keeps : (rule : Rule) (premises : List (List Term)) (clause : List Term) → MeetsClausal rule premises clause → ValuationFits r → All IsClauseOfTruths premises → IsClauseOfTruths clause → All (MakesClauseTrue I r) premises → MakesClauseTrue I r clause
-  clausal_keeps Rule.AndPos premises clause met fits units literals all = begins_keeps _ (and_pos_keeps I r) premises clause met
-  clausal_keeps Rule.AndNeg premises clause met fits units literals all = begins_keeps _ (and_neg_keeps I r) premises clause met
-  clausal_keeps Rule.OrPos premises clause met fits units literals all = begins_keeps _ (or_pos_keeps I r) premises clause met
-  clausal_keeps Rule.OrNeg premises clause met fits units literals all = begins_keeps _ (or_neg_keeps I r) premises clause met
-  clausal_keeps Rule.And premises clause met fits units literals all = given_keeps _ (and_keeps I r) premises clause met all
-  clausal_keeps Rule.Or premises clause met fits units literals all = given_keeps _ (or_keeps I r) premises clause met all
-  clausal_keeps Rule.NotOr premises clause met fits units literals all = given_keeps _ (not_or_keeps I r) premises clause met all
-  clausal_keeps Rule.NotAnd premises clause met fits units literals all = given_keeps _ (not_and_keeps I r) premises clause met all
-  clausal_keeps Rule.Contraction premises clause met fits units literals all = changes_keeps _ contraction_keeps premises clause met all
-  clausal_keeps Rule.Reordering premises clause met fits units literals all = changes_keeps _ reordering_keeps premises clause met all
-  clausal_keeps Rule.Weakening premises clause met fits units literals all = changes_keeps _ weakening_keeps premises clause met all
-  clausal_keeps Rule.Tautology premises clause met fits units literals all = changes_keeps _ tautology_keeps premises clause met all
-  clausal_keeps rule premises clause met fits units literals all =
+  clausal_keeps : (rule : Rule) (mode : Mode) (index : IndexArg) (premises : List (List Term)) (clause : List Term)
+      → MeetsClausal mode index rule premises clause → ValuationFits r → All IsClauseOfTruths premises → IsClauseOfTruths clause
+      → All (MakesClauseTrue I r) premises → MakesClauseTrue I r clause
+  clausal_keeps Rule.AndPos mode index premises clause met fits units literals all = begins_keeps _ (and_pos_keeps I r (Allows mode index)) premises clause met
+  clausal_keeps Rule.AndNeg mode index premises clause met fits units literals all = begins_keeps _ (and_neg_keeps I r) premises clause met
+  clausal_keeps Rule.OrPos mode index premises clause met fits units literals all = begins_keeps _ (or_pos_keeps I r) premises clause met
+  clausal_keeps Rule.OrNeg mode index premises clause met fits units literals all = begins_keeps _ (or_neg_keeps I r (Allows mode index)) premises clause met
+  clausal_keeps Rule.And mode index premises clause met fits units literals all = given_keeps _ (and_keeps I r (Allows mode index)) premises clause met all
+  clausal_keeps Rule.Or mode index premises clause met fits units literals all = given_keeps _ (or_keeps I r) premises clause met all
+  clausal_keeps Rule.NotOr mode index premises clause met fits units literals all = given_keeps _ (not_or_keeps I r (Allows mode index)) premises clause met all
+  clausal_keeps Rule.NotAnd mode index premises clause met fits units literals all = given_keeps _ (not_and_keeps I r) premises clause met all
+  clausal_keeps Rule.Contraction mode index premises clause met fits units literals all = changes_keeps _ contraction_keeps premises clause met all
+  clausal_keeps Rule.Reordering mode index premises clause met fits units literals all = changes_keeps _ reordering_keeps premises clause met all
+  clausal_keeps Rule.Weakening mode index premises clause met fits units literals all = changes_keeps _ weakening_keeps premises clause met all
+  clausal_keeps Rule.Tautology mode index premises clause met fits units literals all = changes_keeps _ tautology_keeps premises clause met all
+  clausal_keeps rule mode index premises clause met fits units literals all =
       schema_keeps (schema_of rule) (clausal_tables rule) premises clause met fits units literals all
 
   -- resolution and th_resolution
@@ -193,7 +197,7 @@ module _ (I : Interpretation) (r : Valuation) where
   rule_keeps Rule.AllSimplify j met sorted context = absurd met
   rule_keeps Rule.Subproof j met sorted context = absurd met
   rule_keeps Rule.Let j met sorted context = absurd met
-  rule_keeps rule j met sorted context = clausal_keeps rule j.premises j.clause met sorted.values sorted.premises sorted.clause
+  rule_keeps rule j met sorted context = clausal_keeps rule j.mode j.index j.premises j.clause met sorted.values sorted.premises sorted.clause
 
   pub met_keeps : (j : Judged) → Met j → IsWellSortedStep r j → KeepsTruth I r j
   met_keeps j met sorted = rule_keeps j.rule j met sorted

@@ -8,6 +8,7 @@ use Rattle.std.proofs.lemmas.List.{map-append}
 use Rattle.term_model.specs.Flips.{equality}
 use Rattle.term_model.specs.FreeVariables.{variables_of, bound_terms}
 use Rattle.term_model.specs.Terms.{Var, Term, not_of}
+use Rattle.rule_model.specs.declared.index_arg.IndexArg.{IndexArg}
 use Rattle.rule_model.specs.declared.kinds.Kind.{Kind}
 use Rattle.rule_model.specs.declared.rules.Mode.{Mode}
 use Rattle.rule_model.specs.declared.rules.Rule.{Rule}
@@ -19,9 +20,9 @@ use Rattle.rule_model.specs.Commands.{around_number, ScopeEntry, scope_entry, sc
 use Rattle.rule_model.specs.Conditions.{MeetsRule, Met, IsTooWideBy, IsTooWide, IsTooWideAt, IsTooWideWhere, IsMetAt, MeetsWhere, MeetsClosing}
 use Rattle.rule_model.specs.Judged.{Judged, judged_at, open_anchors, anchors_at}
 use Rattle.rule_model.specs.Proofs.{Fraction, Step, ProofItems, no_items, with_assume, with_step, with_subproof}
-use Rattle.rule_model.specs.Reading.{rule_of, clause_of, premises_of, discharged_of, pivots_of, ratios_of, is_assume}
-use Rattle.rule_model.specs.Reading.{rule_at, clause_at, premises_at, premise_clauses, discharged_at, pivots_at, ratios_at, scope_at, closes_at, bindings_at}
-use Rattle.rule_model.specs.Reading.{last_inside_at}
+use Rattle.rule_model.specs.Reading.{rule_of, clause_of, premises_of, discharged_of, pivots_of, ratios_of, index_arg_of, is_assume}
+use Rattle.rule_model.specs.Reading.{rule_at, clause_at, premises_at, premise_clauses, discharged_at, pivots_at, ratios_at, index_arg_at, scope_at, closes_at}
+use Rattle.rule_model.specs.Reading.{bindings_at, last_inside_at}
 use Rattle.rule_model.specs.Scopes.{Nesting, outermost, inside, at, inner, commands_in, subproofs_in, scope_number, first_index, last_index}
 use Rattle.rule_model.specs.Statuses.{Checking, IsAsserted, MayAssume, kind_of_rule, IsStatusBy, IsStatusAt, AreStatuses, ReachesEmpty, IsVerdict}
 use Rattle.rule_model.specs.Subproof.{IsAssumeIn, EndsIn, IsSubproof, IsLetClosing, AreLinkedTo}
@@ -174,6 +175,7 @@ module _ {V T : Type 0} where
     pub premises : (i : ℕ) → premises_at p i ≡ premises_at q i
     pub discharged : (i : ℕ) → discharged_at p i ≡ discharged_at q i
     pub ratios : (i : ℕ) → ratios_at p i ≡ ratios_at q i
+    pub indices : (i : ℕ) → index_arg_at p i ≡ index_arg_at q i
     pub own_scopes : (i : ℕ) → scope_at p i ≡ scope_at q i
     pub closes : (i : ℕ) → closes_at p i ≡ closes_at q i
     pub anchors : (i : ℕ) → anchors_at p i ≡ anchors_at q i
@@ -189,6 +191,7 @@ module _ {V T : Type 0} where
         premises = λ i. sym (a.premises i);
         discharged = λ i. sym (a.discharged i);
         ratios = λ i. sym (a.ratios i);
+        indices = λ i. sym (a.indices i);
         own_scopes = λ i. sym (a.own_scopes i);
         closes = λ i. sym (a.closes i);
         anchors = λ i. sym (a.anchors i);
@@ -205,6 +208,7 @@ module _ {V T : Type 0} where
         premises = λ i. sym (a.premises i) ∙ b.premises i;
         discharged = λ i. sym (a.discharged i) ∙ b.discharged i;
         ratios = λ i. sym (a.ratios i) ∙ b.ratios i;
+        indices = λ i. sym (a.indices i) ∙ b.indices i;
         own_scopes = λ i. sym (a.own_scopes i) ∙ b.own_scopes i;
         closes = λ i. sym (a.closes i) ∙ b.closes i;
         anchors = λ i. sym (a.anchors i) ∙ b.anchors i;
@@ -230,6 +234,7 @@ module _ {V T : Type 0} (of_id : List ℕ → List ℕ) (of_pivots : List (T × 
         premises = has_same (λ c. premises_of c) [] (λ s. refl) (λ s. refl) (λ id t. refl);
         discharged = has_same (λ c. discharged_of c) [] (λ s. refl) (λ s. refl) (λ id t. refl);
         ratios = has_same (λ c. ratios_of c) None (λ s. refl) (λ s. refl) (λ id t. refl);
+        indices = has_same (λ c. index_arg_of c) IndexArg.Free (λ s. refl) (λ s. refl) (λ id t. refl);
         own_scopes = at_same of_id of_pivots (λ e. e.scope) 0 (λ l. same_scope of_id of_pivots l.scope.nesting l.command) p;
         closes = at_same of_id of_pivots (λ e. e.closes) None (λ l. same_closed of_id of_pivots l.scope.nesting l.command) p;
         anchors = λ i.
@@ -275,35 +280,36 @@ flat_map_same f g same [] = refl
 flat_map_same f g same (x ∷ xs) = ap (λ ys. ys ++ flat_map f xs) (same x) ∙ ap (λ ys. g x ++ ys) (flat_map_same f g same xs)
 
 -- what is judged, part by part
-abbrev judged : Mode → Rule → List Term → List (List Term) → List (Term × Bool) → Option (List Fraction) → List (List (Var × Term)) → Judged
-judged mode rule clause premises pivots ratios anchors = record {
+abbrev judged : Mode → Rule → List Term → List (List Term) → List (Term × Bool) → Option (List Fraction) → IndexArg → List (List (Var × Term)) → Judged
+judged mode rule clause premises pivots ratios index anchors = record {
   mode = mode;
   rule = rule;
   clause = clause;
   premises = premises;
   pivots = pivots;
   ratios = ratios;
+  index = index;
   anchors = anchors;
 }
 
 -- no rule looks at pivots in check mode
 met_alike : (rule r : Rule) (clause : List Term) (premises : List (List Term)) (v w : List (Term × Bool)) (ratios : Option (List Fraction))
-    (anchors : List (List (Var × Term))) → MeetsRule rule (judged Mode.Check r clause premises v ratios anchors)
-    → MeetsRule rule (judged Mode.Check r clause premises w ratios anchors)
-met_alike Rule.Resolution r clause premises v w ratios anchors met = met
-met_alike Rule.ThResolution r clause premises v w ratios anchors met = met
-met_alike rule r clause premises v w ratios anchors met = met
+    (index : IndexArg) (anchors : List (List (Var × Term))) → MeetsRule rule (judged Mode.Check r clause premises v ratios index anchors)
+    → MeetsRule rule (judged Mode.Check r clause premises w ratios index anchors)
+met_alike Rule.Resolution r clause premises v w ratios index anchors met = met
+met_alike Rule.ThResolution r clause premises v w ratios index anchors met = met
+met_alike rule r clause premises v w ratios index anchors met = met
 
 -- none in either mode where numbers are too wide
 wide_alike : (mode : Mode) (rule r : Rule) (clause : List Term) (premises : List (List Term)) (v w : List (Term × Bool)) (ratios : Option (List Fraction))
-    (anchors : List (List (Var × Term))) → IsTooWideBy rule (judged mode r clause premises v ratios anchors)
-    → IsTooWideBy rule (judged mode r clause premises w ratios anchors)
-wide_alike mode Rule.SumSimplify r clause premises v w ratios anchors wide = wide
-wide_alike mode Rule.ProdSimplify r clause premises v w ratios anchors wide = wide
-wide_alike mode Rule.MinusSimplify r clause premises v w ratios anchors wide = wide
-wide_alike mode Rule.UnaryMinusSimplify r clause premises v w ratios anchors wide = wide
-wide_alike mode Rule.LaGeneric r clause premises v w ratios anchors wide = wide
-wide_alike mode rule r clause premises v w ratios anchors wide = absurd wide
+    (index : IndexArg) (anchors : List (List (Var × Term))) → IsTooWideBy rule (judged mode r clause premises v ratios index anchors)
+    → IsTooWideBy rule (judged mode r clause premises w ratios index anchors)
+wide_alike mode Rule.SumSimplify r clause premises v w ratios index anchors wide = wide
+wide_alike mode Rule.ProdSimplify r clause premises v w ratios index anchors wide = wide
+wide_alike mode Rule.MinusSimplify r clause premises v w ratios index anchors wide = wide
+wide_alike mode Rule.UnaryMinusSimplify r clause premises v w ratios index anchors wide = wide
+wide_alike mode Rule.LaGeneric r clause premises v w ratios index anchors wide = wide
+wide_alike mode rule r clause premises v w ratios index anchors wide = absurd wide
 
 module _ (p q : ProofItems Var Term) (a : Agree p q) where
   same_premises : (i : ℕ) → premise_clauses p i ≡ premise_clauses q i
@@ -311,25 +317,26 @@ module _ (p q : ProofItems Var Term) (a : Agree p q) where
 
   -- what is judged at an index, with the other's pivots
   same_judged : (mode : Mode) (i : ℕ)
-      → judged mode (rule_at p i) (clause_at p i) (premise_clauses p i) (pivots_at q i) (ratios_at p i) (anchors_at p i) ≡ judged_at mode q i
+      → judged mode (rule_at p i) (clause_at p i) (premise_clauses p i) (pivots_at q i) (ratios_at p i) (index_arg_at p i) (anchors_at p i) ≡ judged_at mode q i
   same_judged mode i =
-      ap (λ r. judged mode r (clause_at p i) (premise_clauses p i) (pivots_at q i) (ratios_at p i) (anchors_at p i)) (a.rules i)
-      ∙ (ap (λ ts. judged mode (rule_at q i) ts (premise_clauses p i) (pivots_at q i) (ratios_at p i) (anchors_at p i)) (a.clauses i)
-      ∙ (ap (λ cs. judged mode (rule_at q i) (clause_at q i) cs (pivots_at q i) (ratios_at p i) (anchors_at p i)) (same_premises i)
-      ∙ (ap (λ rs. judged mode (rule_at q i) (clause_at q i) (premise_clauses q i) (pivots_at q i) rs (anchors_at p i)) (a.ratios i)
-      ∙ ap (λ bs. judged mode (rule_at q i) (clause_at q i) (premise_clauses q i) (pivots_at q i) (ratios_at q i) bs) (a.anchors i))))
+      ap (λ r. judged mode r (clause_at p i) (premise_clauses p i) (pivots_at q i) (ratios_at p i) (index_arg_at p i) (anchors_at p i)) (a.rules i)
+      ∙ (ap (λ ts. judged mode (rule_at q i) ts (premise_clauses p i) (pivots_at q i) (ratios_at p i) (index_arg_at p i) (anchors_at p i)) (a.clauses i)
+      ∙ (ap (λ cs. judged mode (rule_at q i) (clause_at q i) cs (pivots_at q i) (ratios_at p i) (index_arg_at p i) (anchors_at p i)) (same_premises i)
+      ∙ (ap (λ rs. judged mode (rule_at q i) (clause_at q i) (premise_clauses q i) (pivots_at q i) rs (index_arg_at p i) (anchors_at p i)) (a.ratios i)
+      ∙ (ap (λ k. judged mode (rule_at q i) (clause_at q i) (premise_clauses q i) (pivots_at q i) (ratios_at q i) k (anchors_at p i)) (a.indices i)
+      ∙ ap (λ bs. judged mode (rule_at q i) (clause_at q i) (premise_clauses q i) (pivots_at q i) (ratios_at q i) (index_arg_at q i) bs) (a.anchors i)))))
 
   met_here : (mode : Mode) → SamePivots mode p q → (i : ℕ) → Met (judged_at mode p i) → Met (judged_at mode q i)
   met_here mode (inr same) i met =
       subst Met (same_judged mode i)
-      (subst (λ ps. Met (judged mode (rule_at p i) (clause_at p i) (premise_clauses p i) ps (ratios_at p i) (anchors_at p i))) (same i) met)
+      (subst (λ ps. Met (judged mode (rule_at p i) (clause_at p i) (premise_clauses p i) ps (ratios_at p i) (index_arg_at p i) (anchors_at p i))) (same i) met)
   met_here Mode.Check (inl check) i met =
-      subst Met (same_judged Mode.Check i) (met_alike (rule_at p i) (rule_at p i) _ _ (pivots_at p i) (pivots_at q i) _ _ met)
+      subst Met (same_judged Mode.Check i) (met_alike (rule_at p i) (rule_at p i) _ _ (pivots_at p i) (pivots_at q i) _ _ _ met)
   met_here Mode.Strict (inl check) i met = absurd cc
 
   wide_here : (mode : Mode) (i : ℕ) → IsTooWide (judged_at mode p i) → IsTooWide (judged_at mode q i)
   wide_here mode i wide =
-      subst IsTooWide (same_judged mode i) (wide_alike mode (rule_at p i) (rule_at p i) _ _ (pivots_at p i) (pivots_at q i) _ _ wide)
+      subst IsTooWide (same_judged mode i) (wide_alike mode (rule_at p i) (rule_at p i) _ _ (pivots_at p i) (pivots_at q i) _ _ _ wide)
 
   ends_there : (k : ℕ) (clause : List Term) → EndsIn p k clause → EndsIn q k clause
   ends_there k clause e = record { last = e.last; is_last = sym (a.lasts k) ∙ e.is_last; clause_is = sym (a.clauses e.last) ∙ e.clause_is }

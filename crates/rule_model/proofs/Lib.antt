@@ -39,6 +39,7 @@ pub mod Refl
 pub mod ConditionLaws
 pub mod ScopedTruth
 pub mod LineReading
+pub mod ProfileReading
 pub mod ScopeRanges
 pub mod Subproof
 pub mod StrictChains

@@ -4,14 +4,17 @@ use Rattle.std.proofs.Common.{subst, All, Contains}
 use Rattle.std.specs.List.{AllZip}
 use Rattle.std.proofs.lemmas.List.Elements.{All-weaker, All-get_or}
 use Rattle.std.proofs.lemmas.Option.{slice_get_within, unwrap_or-slice_get}
+use Rattle.term_model.specs.declared.symbols.Op.{Op}
 use Rattle.term_model.specs.Flips.{equality, EqualUpToFlips, same}
-use Rattle.term_model.specs.Terms.{Var, Term}
+use Rattle.term_model.specs.Terms.{Var, Term, not_of}
 use Rattle.term_model.proofs.Lists.{contains_head, contains_later}
+use Rattle.rule_model.specs.declared.index_arg.IndexArg.{IndexArg}
 use Rattle.rule_model.specs.declared.kinds.Kind.{Kind}
 use Rattle.rule_model.specs.declared.rules.Mode.{Mode}
 use Rattle.rule_model.specs.declared.rules.Rule.{Rule}
 use Rattle.rule_model.specs.declared.statuses.Status.{Status}
 use Rattle.rule_model.specs.declared.statuses.Verdict.{Verdict}
+use Rattle.rule_model.specs.Clausal.{as_it_stands, Allows, GivesOne, Begins, IsOnlyPremise}
 use Rattle.rule_model.specs.Columns.{judged_in, checking_in}
 use Rattle.rule_model.specs.Conditions.{MeetsRule, Met, MeetsClosing, MeetsWhere, IsMetAt, IsTooWideBy, IsTooWideWhere}
 use Rattle.rule_model.specs.Congruence.{Equates, Implies, Denies, AreSides, IsConnected, here, further, IsChain, IsWay, Head, IsLinked}
@@ -122,8 +125,43 @@ predicates_met premises clause (inr i) =
 refl_met : (j : Judged) → MeetsRefl Mode.Strict j.anchors j.premises j.clause → MeetsRefl Mode.Check j.anchors j.premises j.clause
 refl_met j m = record { left = m.left; right = m.right; none = m.none; literal = m.literal; same = subst (EqualUpToFlips _) m.same (same _) }
 
+-- a place that is allowed in strict mode is allowed in check mode
+allowed_met : (index : IndexArg) (k : ℕ) → Allows Mode.Strict index k → Allows Mode.Check index k
+allowed_met IndexArg.Free k a = a
+allowed_met IndexArg.Missing k a = absurd a
+allowed_met (IndexArg.At j) k a = a
+allowed_met IndexArg.Bad k a = a
+
+gives_met : (index : IndexArg) (op : Op) (whole_sign sign : Term → Term) (whole : Term) (rest : List Term)
+    → GivesOne (Allows Mode.Strict index) op whole_sign sign whole rest → GivesOne (Allows Mode.Check index) op whole_sign sign whole rest
+gives_met index op whole_sign sign whole rest g = record {
+  arguments = g.arguments;
+  place = g.place;
+  argument = g.argument;
+  at_place = g.at_place;
+  allows = allowed_met index g.place g.allows;
+  whole_is = g.whole_is;
+  rest_is = g.rest_is;
+}
+
+begins_met : (index : IndexArg) (op : Op) (whole_sign sign : Term → Term) (premises : List (List Term)) (clause : List Term)
+    → Begins (GivesOne (Allows Mode.Strict index) op whole_sign sign) premises clause
+    → Begins (GivesOne (Allows Mode.Check index) op whole_sign sign) premises clause
+begins_met index op whole_sign sign premises clause b =
+    record { whole = b.whole; rest = b.rest; none = b.none; literals = b.literals; given = gives_met index op whole_sign sign b.whole b.rest b.given }
+
+given_met : (index : IndexArg) (op : Op) (whole_sign sign : Term → Term) (premises : List (List Term)) (clause : List Term)
+    → IsOnlyPremise (GivesOne (Allows Mode.Strict index) op whole_sign sign) premises clause
+    → IsOnlyPremise (GivesOne (Allows Mode.Check index) op whole_sign sign) premises clause
+given_met index op whole_sign sign premises clause p =
+    record { whole = p.whole; unit = p.unit; given = gives_met index op whole_sign sign p.whole clause p.given }
+
 -- the rules with two columns, and all others
 rule_met : (rule : Rule) (j : Judged) → MeetsRule rule (judged_in Mode.Strict j) → MeetsRule rule (judged_in Mode.Check j)
+rule_met Rule.AndPos j met = begins_met j.index Op.And not_of as_it_stands j.premises j.clause met
+rule_met Rule.OrNeg j met = begins_met j.index Op.Or as_it_stands not_of j.premises j.clause met
+rule_met Rule.And j met = given_met j.index Op.And as_it_stands as_it_stands j.premises j.clause met
+rule_met Rule.NotOr j met = given_met j.index Op.Or not_of not_of j.premises j.clause met
 rule_met Rule.Resolution j met = chains_follow j.pivots j.premises j.clause met
 rule_met Rule.ThResolution j met = chains_follow j.pivots j.premises j.clause met
 rule_met Rule.Refl j met = refl_met j met

@@ -1,19 +1,32 @@
 -- Public. The clausal rules (Alethe specification, "List of rules"), but those over `ite`: tautologies of the connectives,
 -- which have no premise; what follows from one premise that is a connective; and clauses that have the literals of another
--- one. Both modes ask the same. A premise with a pattern is a unit clause.
-use Rattle.std.specs.Prelude.{◌≡◌, ◌≢◌, ◌↔◌, List, [], ◌∷◌, map, AllPairs, Contains}
+-- one. Both modes ask the same, but of a step that lacks its index argument. A premise with a pattern is a unit clause.
+use Rattle.std.specs.Prelude.{◌≡◌, ◌≢◌, ◌↔◌, ℕ, List, [], ◌∷◌, map, slice_get, Some, AllPairs, Contains, ⊤}
 use Rattle.term_model.specs.declared.symbols.Op.{Op}
 use Rattle.term_model.specs.Terms.{Term, operation, no_terms, terms_of, not_of}
+use Rattle.rule_model.specs.declared.index_arg.IndexArg.{IndexArg}
+use Rattle.rule_model.specs.declared.rules.Mode.{Mode}
 
 -- a literal as it stands, or its negation
 abbrev pub as_it_stands : Term → Term
 as_it_stands t = t
 
--- `(op a1 .. an)` with n at least 1, with or without `not`, and one of its arguments, with or without `not`
-pub record GivesOne (op : Op) (whole_sign sign : Term → Term) (whole : Term) (rest : List Term) : Type 0 where
+-- A step may speak of the argument at a place, counted from 0. Where its own arguments are not judged every place is allowed; where
+-- it has none, every place in check mode and none in strict mode. A numeral allows the one place that it names, all else none.
+abbrev pub Allows : Mode → IndexArg → ℕ → Type 0
+Allows mode IndexArg.Free k = ⊤
+Allows Mode.Check IndexArg.Missing k = ⊤
+Allows Mode.Strict IndexArg.Missing k = ⊥
+Allows mode (IndexArg.At j) k = k ≡ j
+Allows mode IndexArg.Bad k = ⊥
+
+-- `(op a1 .. an)` with n at least 1, with or without `not`, and one of its arguments at an allowed place, with or without `not`
+pub record GivesOne (allowed : ℕ → Type 0) (op : Op) (whole_sign sign : Term → Term) (whole : Term) (rest : List Term) : Type 0 where
   pub arguments : List Term
+  pub place : ℕ
   pub argument : Term
-  pub among : Contains arguments argument
+  pub at_place : slice_get arguments place ≡ Some argument
+  pub allows : allowed place
   pub whole_is : whole ≡ whole_sign (operation op (terms_of arguments))
   pub rest_is : rest ≡ sign argument ∷ []
 

@@ -12,6 +12,7 @@ judged_in mode j = record {
   premises = j.premises;
   pivots = j.pivots;
   ratios = j.ratios;
+  index = j.index;
   anchors = j.anchors;
 }
 

@@ -13,7 +13,7 @@ use Rattle.rule_model.specs.declared.kinds.Kind.{Kind}
 use Rattle.rule_model.specs.declared.rules.Mode.{Mode}
 use Rattle.rule_model.specs.declared.rules.Rule.{Rule}
 use Rattle.rule_model.specs.Arith.{MeetsFormSimplification, IsWideFormSimplification, MeetsLaGeneric, IsWideLaGeneric}
-use Rattle.rule_model.specs.Clausal.{as_it_stands, GivesOne, GivesAll, Begins, IsOnlyPremise, Changes, HasEach, HasEachOnce, IsTautology}
+use Rattle.rule_model.specs.Clausal.{as_it_stands, Allows, GivesOne, GivesAll, Begins, IsOnlyPremise, Changes, HasEach, HasEachOnce, IsTautology}
 use Rattle.rule_model.specs.Clauses.{MakesClauseTrue}
 use Rattle.rule_model.specs.Congruence.{TurnsRound, IsReflexive, IsSymmetric, Equates, Denies, IsWay}
 use Rattle.rule_model.specs.Congruence.{AreCongruent, HangTogether, HangTogetherDenied, GivesPredicates}
@@ -55,7 +55,8 @@ row word kind = record {
 }
 
 -- What is asked of the premises' clauses and of the clause. A rule of a family asks it by what the step has besides, of the
--- clauses alone, as a schema, or where numbers are not too wide; by what open anchors put in; or of the step that closes a scope.
+-- clauses alone, as a schema, of one argument at an allowed place, or where numbers are not too wide; by what open anchors put in;
+-- or of the step that closes a scope.
 abbrev pub OfClauses : Type 1
 OfClauses = List (List Term) → List Term → Type 0
 
@@ -67,6 +68,9 @@ of_clauses family word meets = of_step family word (λ j. meets)
 
 abbrev pub of_schema : Family → List ℕ → Option Schema → RuleRow
 of_schema family word schema = record (of_clauses family word (IsInstanceOf schema)) { schema = schema }
+
+abbrev pub of_argument : List ℕ → ((ℕ → Type 0) → OfClauses) → RuleRow
+of_argument word meets = of_step Family.Clausal word (λ j. meets (Allows j.mode j.index))
 
 abbrev pub of_numbers : Family → List ℕ → (Judged → OfClauses) → (Judged → OfClauses) → RuleRow
 of_numbers family word meets wide = record (of_step family word meets) { too_wide = λ j. wide j j.premises j.clause }
@@ -88,10 +92,10 @@ row_of Rule.AllSimplify = row (codes "all_simplify") Kind.Hole
 row_of Rule.True = of_schema Family.Clausal (codes "true") (tautology (yes ∷ []))
 row_of Rule.False = of_schema Family.Clausal (codes "false") (tautology (no never ∷ []))
 row_of Rule.NotNot = of_schema Family.Clausal (codes "not_not") (tautology (no (no (no a)) ∷ a ∷ []))
-row_of Rule.AndPos = of_clauses Family.Clausal (codes "and_pos") (Begins (GivesOne Op.And not_of as_it_stands))  -- `(not (and a1 .. an))` `ak`
+row_of Rule.AndPos = of_argument (codes "and_pos") (λ allowed. Begins (GivesOne allowed Op.And not_of as_it_stands))  -- `(not (and a1 .. an))` `ak`
 row_of Rule.AndNeg = of_clauses Family.Clausal (codes "and_neg") (Begins (GivesAll Op.And as_it_stands not_of))  -- `(and a1 .. an)` `(not a1)` .. `(not an)`
 row_of Rule.OrPos = of_clauses Family.Clausal (codes "or_pos") (Begins (GivesAll Op.Or not_of as_it_stands))  -- `(not (or a1 .. an))` `a1` .. `an`
-row_of Rule.OrNeg = of_clauses Family.Clausal (codes "or_neg") (Begins (GivesOne Op.Or as_it_stands not_of))  -- `(or a1 .. an)` `(not ak)`
+row_of Rule.OrNeg = of_argument (codes "or_neg") (λ allowed. Begins (GivesOne allowed Op.Or as_it_stands not_of))  -- `(or a1 .. an)` `(not ak)`
 row_of Rule.XorPos1 = of_schema Family.Clausal (codes "xor_pos1") (tautology (no (xor a b) ∷ a ∷ b ∷ []))
 row_of Rule.XorPos2 = of_schema Family.Clausal (codes "xor_pos2") (tautology (no (xor a b) ∷ no a ∷ no b ∷ []))
 row_of Rule.XorNeg1 = of_schema Family.Clausal (codes "xor_neg1") (tautology (xor a b ∷ a ∷ no b ∷ []))
@@ -107,9 +111,9 @@ row_of Rule.ItePos1 = of_schema Family.Ite (codes "ite_pos1") (tautology (no (it
 row_of Rule.ItePos2 = of_schema Family.Ite (codes "ite_pos2") (tautology (no (ite c a b) ∷ no c ∷ a ∷ []))
 row_of Rule.IteNeg1 = of_schema Family.Ite (codes "ite_neg1") (tautology (ite c a b ∷ c ∷ no b ∷ []))
 row_of Rule.IteNeg2 = of_schema Family.Ite (codes "ite_neg2") (tautology (ite c a b ∷ no c ∷ no a ∷ []))
-row_of Rule.And = of_clauses Family.Clausal (codes "and") (IsOnlyPremise (GivesOne Op.And as_it_stands as_it_stands))  -- `(and a1 .. an)` gives `ak`
+row_of Rule.And = of_argument (codes "and") (λ allowed. IsOnlyPremise (GivesOne allowed Op.And as_it_stands as_it_stands))  -- `(and a1 .. an)` gives `ak`
 row_of Rule.Or = of_clauses Family.Clausal (codes "or") (IsOnlyPremise (GivesAll Op.Or as_it_stands as_it_stands))  -- `(or a1 .. an)` gives `a1` .. `an`
-row_of Rule.NotOr = of_clauses Family.Clausal (codes "not_or") (IsOnlyPremise (GivesOne Op.Or not_of not_of))  -- `(not (or a1 .. an))` gives `(not ak)`
+row_of Rule.NotOr = of_argument (codes "not_or") (λ allowed. IsOnlyPremise (GivesOne allowed Op.Or not_of not_of))  -- `(not (or a1 .. an))` gives `(not ak)`
 row_of Rule.NotAnd = of_clauses Family.Clausal (codes "not_and") (IsOnlyPremise (GivesAll Op.And not_of not_of))  -- gives `(not a1)` .. `(not an)`
 row_of Rule.Xor1 = of_schema Family.Clausal (codes "xor1") (from (xor a b) (a ∷ b ∷ []))
 row_of Rule.Xor2 = of_schema Family.Clausal (codes "xor2") (from (xor a b) (no a ∷ no b ∷ []))

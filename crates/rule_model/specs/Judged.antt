@@ -2,15 +2,16 @@
 use Rattle.std.specs.Prelude.{ℕ, Bool, List, [], ◌∷◌, slice_get, Option}
 use Rattle.std.specs.Option.{option_map_or}
 use Rattle.term_model.specs.Terms.{Var, Term}
+use Rattle.rule_model.specs.declared.index_arg.IndexArg.{IndexArg}
 use Rattle.rule_model.specs.declared.rules.Mode.{Mode}
 use Rattle.rule_model.specs.declared.rules.Rule.{Rule}
 use Rattle.rule_model.specs.Commands.{lines_in}
 use Rattle.rule_model.specs.Proofs.{Fraction, ProofItems}
-use Rattle.rule_model.specs.Reading.{rule_at, clause_at, premise_clauses, pivots_at, ratios_at}
+use Rattle.rule_model.specs.Reading.{rule_at, clause_at, premise_clauses, pivots_at, ratios_at, index_arg_at}
 use Rattle.rule_model.specs.Scopes.{Nesting, outermost, inside}
 
 -- The mode, the rule, the clause, the premises' clauses in the order in which the step names them, the pivots, the
--- coefficients, and what the open anchors bind, the innermost anchor first.
+-- coefficients, the index argument, and what the open anchors bind, the innermost anchor first.
 pub record Judged : Type 0 where
   pub mode : Mode
   pub rule : Rule
@@ -18,6 +19,7 @@ pub record Judged : Type 0 where
   pub premises : List (List Term)
   pub pivots : List (Term × Bool)
   pub ratios : Option (List Fraction)
+  pub index : IndexArg
   pub anchors : List (List (Var × Term))
 
 -- what the anchors bind that are open in a scope, the innermost one first
@@ -38,5 +40,6 @@ judged_at mode proof i = record {
   premises = premise_clauses proof i;
   pivots = pivots_at proof i;
   ratios = ratios_at proof i;
+  index = index_arg_at proof i;
   anchors = anchors_at proof i;
 }

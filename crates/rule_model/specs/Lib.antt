@@ -1,4 +1,5 @@
 pub mod Proofs
+pub mod Profiles
 pub mod Scopes
 pub mod Commands
 pub mod Reading
@@ -28,6 +29,7 @@ pub mod Weights
 pub mod Arith
 pub mod Subproof
 pub mod Conditions
+pub mod LeastIndices
 pub mod RuleNames
 pub mod RuleSchemas
 pub mod WellFormed

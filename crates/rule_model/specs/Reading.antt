@@ -1,6 +1,7 @@
 -- Public. What a proof has at an index, and at a scope's number. Past the end there is nothing.
 use Rattle.std.specs.Prelude.{ℕ, List, [], ◌∷◌, map, Bool, true, false, slice_get, Option, None}
 use Rattle.std.specs.Option.{option_map_or}
+use Rattle.rule_model.specs.declared.index_arg.IndexArg.{IndexArg}
 use Rattle.rule_model.specs.declared.rules.Rule.{Rule}
 use Rattle.rule_model.specs.Proofs.{Fraction, Step, ProofItems}
 use Rattle.rule_model.specs.Commands.{IndexedCommand, assume, step, closing, entries, scopes}
@@ -16,6 +17,7 @@ step_of (assume id t) = record {
   discharged = [];
   pivots = [];
   ratios = None;
+  index = IndexArg.Free;
 }
 step_of (step s) = s
 step_of (closing s) = s
@@ -50,6 +52,9 @@ pivots_of c = (step_of c).pivots
 abbrev pub ratios_of : {T : Type 0} → IndexedCommand T → Option (List Fraction)
 ratios_of c = (step_of c).ratios
 
+abbrev pub index_arg_of : {T : Type 0} → IndexedCommand T → IndexArg
+index_arg_of c = (step_of c).index
+
 -- the same of the command at an index
 abbrev pub id_at : {V T : Type 0} → ProofItems V T → ℕ → List ℕ
 id_at proof i = option_map_or (λ e. id_of e.command) (slice_get (entries proof) i) []
@@ -77,6 +82,9 @@ pivots_at proof i = option_map_or (λ e. pivots_of e.command) (slice_get (entrie
 
 abbrev pub ratios_at : {V T : Type 0} → ProofItems V T → ℕ → Option (List Fraction)
 ratios_at proof i = option_map_or (λ e. ratios_of e.command) (slice_get (entries proof) i) None
+
+abbrev pub index_arg_at : {V T : Type 0} → ProofItems V T → ℕ → IndexArg
+index_arg_at proof i = option_map_or (λ e. index_arg_of e.command) (slice_get (entries proof) i) IndexArg.Free
 
 -- the number of the scope to which the command belongs, and of the scope that it closes
 abbrev pub scope_at : {V T : Type 0} → ProofItems V T → ℕ → ℕ

@@ -19,6 +19,14 @@ abbrev pub is_unknown : Rule → Bool
 is_unknown Rule.Unknown = true
 is_unknown _ = false
 
+-- whether a step by the rule speaks of one argument of an application, which an index argument may name
+abbrev pub takes_index : Rule → Bool
+takes_index Rule.And = true
+takes_index Rule.NotOr = true
+takes_index Rule.AndPos = true
+takes_index Rule.OrNeg = true
+takes_index _ = false
+
 -- the rules that leave a hole
 abbrev pub hole_rules : List Rule
 hole_rules = Rule.Hole ∷ Rule.LiaGeneric ∷ Rule.RareRewrite ∷ Rule.AllSimplify ∷ []

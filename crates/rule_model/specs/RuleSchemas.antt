@@ -1,7 +1,8 @@
 -- Public. What the table of rules says of the rules of a family, as the crate that judges them looks it up: schemas, and
--- conditions over clauses alone. There are none of a rule of another family.
+-- conditions over clauses, which may look at the mode and the index argument besides. There are none of a rule of another family.
 use Rattle.std.specs.Prelude.{List, [], Option, None}
 use Rattle.term_model.specs.Terms.{Term}
+use Rattle.rule_model.specs.declared.index_arg.IndexArg.{IndexArg}
 use Rattle.rule_model.specs.declared.kinds.Family.{Family}
 use Rattle.rule_model.specs.declared.kinds.Kind.{Kind}
 use Rattle.rule_model.specs.declared.rules.Mode.{Mode}
@@ -29,22 +30,23 @@ choice_schema_of rule = if_over_ite (kind_of rule) (row_of rule).schema
 abbrev pub MeetsChoice : Rule → List (List Term) → List Term → Type 0
 MeetsChoice rule premises clause = IsInstanceOf (choice_schema_of rule) premises clause
 
--- a step with these clauses, and nothing else to look at
-abbrev pub step_of_clauses : Rule → List (List Term) → List Term → Judged
-step_of_clauses rule premises clause = record {
-  mode = Mode.Check;
+-- a step with these clauses, a mode and an index argument, and nothing else to look at
+abbrev pub step_of_clauses : Mode → IndexArg → Rule → List (List Term) → List Term → Judged
+step_of_clauses mode index rule premises clause = record {
+  mode = mode;
   rule = rule;
   clause = clause;
   premises = premises;
   pivots = [];
   ratios = None;
+  index = index;
   anchors = [];
 }
 
 -- what a clausal rule asks
-abbrev pub MeetsIfClausal : Kind → Rule → List (List Term) → List Term → Type 0
-MeetsIfClausal (Kind.Judged Family.Clausal) rule premises clause = MeetsRule rule (step_of_clauses rule premises clause)
-MeetsIfClausal kind rule premises clause = ⊥
+abbrev pub MeetsIfClausal : Kind → Mode → IndexArg → Rule → List (List Term) → List Term → Type 0
+MeetsIfClausal (Kind.Judged Family.Clausal) mode index rule premises clause = MeetsRule rule (step_of_clauses mode index rule premises clause)
+MeetsIfClausal kind mode index rule premises clause = ⊥
 
-abbrev pub MeetsClausal : Rule → List (List Term) → List Term → Type 0
-MeetsClausal rule premises clause = MeetsIfClausal (kind_of rule) rule premises clause
+abbrev pub MeetsClausal : Mode → IndexArg → Rule → List (List Term) → List Term → Type 0
+MeetsClausal mode index rule premises clause = MeetsIfClausal (kind_of rule) mode index rule premises clause

@@ -1,9 +1,10 @@
 -- Public. Which proofs are well formed: ids, premises, discharged assumes and variables are as Alethe's format has them
 -- (Alethe, "The Proof Format" and "Subproofs").
-use Rattle.std.specs.Prelude.{◌≡◌, ◌≢◌, ◌<ℤ◌, ◌≤ℤ◌, ◌⊎◌, ◌*ℤ◌, ◌^◌, ◌-◌, neg_ℤ, ℕ, ℤ, pos, List, [], map, All, AllPairs, Contains, None, IfSome, ⊤}
+use Rattle.std.specs.Prelude.{◌≡◌, ◌≢◌, ◌<ℤ◌, ◌≤ℤ◌, ◌⊎◌, ◌*ℤ◌, ◌^◌, ◌-◌, neg_ℤ, ℕ, ℤ, pos, true, List, [], map, All, AllPairs, Contains, None, IfSome, ⊤}
+use Rattle.rule_model.specs.declared.index_arg.IndexArg.{IndexArg}
 use Rattle.rule_model.specs.declared.rules.Rule.{Rule}
 use Rattle.rule_model.specs.Proofs.{Fraction, Step, ProofItems, no_items, with_assume, with_step, with_subproof}
-use Rattle.rule_model.specs.RuleNames.{rule_named, left_out_rules, IsSymbolName}
+use Rattle.rule_model.specs.RuleNames.{rule_named, takes_index, left_out_rules, IsSymbolName}
 use Rattle.rule_model.specs.Scopes.{Anchor, Nesting, outermost, inside, inner}
 use Rattle.rule_model.specs.Visibility.{visible, visible_ids, open_ids, open_bindings, assumes_in}
 
@@ -25,7 +26,7 @@ pub record IsLowest (q : Fraction) : Type 0 where
   pub narrow_den : IsNarrow q.den
 
 -- The step's rule is the one that its word names, which is a symbol and no rule for quantifiers. Only resolution has
--- pivots, and only la_generic has coefficients.
+-- pivots, only la_generic has coefficients, and only a rule that speaks of one argument has an index argument.
 pub record HasRule {T : Type 0} (s : Step T) : Type 0 where
   pub named : s.rule ≡ rule_named s.rule_name
   pub symbol : IsSymbolName s.rule_name
@@ -33,6 +34,7 @@ pub record HasRule {T : Type 0} (s : Step T) : Type 0 where
   pub pivots : ((s.rule ≡ Rule.Resolution) ⊎ (s.rule ≡ Rule.ThResolution)) ⊎ (s.pivots ≡ [])
   pub ratios : (s.rule ≡ Rule.LaGeneric) ⊎ (s.ratios ≡ None)
   pub lowest : IfSome s.ratios (λ qs. All IsLowest qs)
+  pub index : (takes_index s.rule ≡ true) ⊎ (s.index ≡ IndexArg.Free)
 
 -- the anchor may stand here: its id is new, and its variables differ from each other and from those that are bound
 pub record MayOpen {V T : Type 0} (nesting : Nesting V T) (items : ProofItems V T) (anchor : Anchor V T) : Type 0 where

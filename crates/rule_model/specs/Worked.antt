@@ -5,6 +5,7 @@
 --   (step t1 (cl 7) :rule subproof :discharge (t1.h))
 --   (step t2 (cl) :rule hole :premises (t1))
 use Rattle.std.specs.Prelude.{ℕ, List, [], ◌∷◌, None, codes}
+use Rattle.rule_model.specs.declared.index_arg.IndexArg.{IndexArg}
 use Rattle.rule_model.specs.declared.rules.Rule.{Rule}
 use Rattle.rule_model.specs.Proofs.{Step, ProofItems, no_items, with_assume, with_step, with_subproof}
 
@@ -18,6 +19,7 @@ plain id rule word clause premises discharged = record {
   discharged = discharged;
   pivots = [];
   ratios = None;
+  index = IndexArg.Free;
 }
 
 abbrev pub worked : ProofItems ℕ ℕ

@@ -4,6 +4,7 @@
 //! contracts are laws of the definitions, which whoever reads them can hold them against.
 #![tactic(auto)]
 
+mod index_arg;
 mod kinds;
 pub mod laws;
 mod letter;
@@ -11,6 +12,7 @@ mod literal;
 mod rules;
 mod statuses;
 
+pub use index_arg::IndexArg;
 pub use kinds::{Family, Kind};
 pub use letter::Letter;
 pub use literal::Literal;

@@ -1,5 +1,5 @@
 -- The arguments of an application, or one of them, as literals with a sign.
-use Rattle.std.proofs.Common.{◌≡◌, ◌≢◌, ◌↔◌, ◌<◌, ◌≤◌, ◌+◌, ◌∷◌, ◌++◌, [], List, ℕ, suc, length, map, take, get_or, Bool, true, false, not, nat_eq, IsTrue, Option, Some, None, Contains, refl, sym, ◌∙◌, ap, subst, arith}
+use Rattle.std.proofs.Common.{◌≡◌, ◌≢◌, ◌↔◌, ◌<◌, ◌≤◌, ◌+◌, ◌∷◌, ◌++◌, [], List, ℕ, zero, suc, length, map, take, get_or, Bool, true, false, not, nat_eq, IsTrue, Option, Some, None, slice_get, refl, sym, ◌∙◌, ap, subst, arith}
 use Rattle.std.specs.Option.{IfSome, IfNone, option_eq}
 use Rattle.std.proofs.lemmas.Bool.{eqb-true, eq-eqb}
 use Rattle.std.proofs.lemmas.List.{take_more, take_all, map-append, get_or-map}
@@ -9,15 +9,39 @@ use Rattle.term_model.proofs.Lists.{same_one}
 use Rattle.term_pool.specs.Views.{TermsView, RefersTo, ReferToAll}
 use Rattle.term_pool.proofs.References.{AreOne}
 use Rattle.schema_match.specs.declared.signs.Sign.{Sign}
-use Rattle.rules_clausal.specs.ArgumentRules.{IsOneOf}
+use Rattle.rule_model.specs.LeastIndices.{IsLeastFor}
+use Rattle.rules_clausal.specs.ArgumentRules.{IsOneOf, StandsAt}
+use Rattle.rules_clausal.proofs.LeastLemmas.{least_same}
 use Rattle.schema_match.specs.Signs.{sign_of, IsSigned}
 use Rattle.schema_match.proofs.ArgumentLemmas.{one_term}
-use Rattle.schema_match.proofs.ReferLemmas.{contains_terms, contains_references, refer_length, refer_at}
+use Rattle.schema_match.proofs.ReferLemmas.{refer_length, refer_at}
+
+module _ (s : Table) (v : TermsView) (one : AreOne s v) (allowed : ℕ → Type 0) where
+  -- the term stands at the same places as the reference that stands for it
+  at_same : (rs : List ℕ) (ts : List Term) (k r : ℕ) (t : Term) → ReferToAll s v rs ts → RefersTo s v r t
+      → (slice_get rs k ≡ Some r) ↔ (slice_get ts k ≡ Some t)
+  at_same [] [] k r t h refers = (λ e. absurd cc, λ e. absurd cc)
+  at_same [] (u ∷ ts) k r t h refers = absurd h
+  at_same (q ∷ rs) [] k r t h refers = absurd h
+  at_same (q ∷ rs) (u ∷ ts) zero r t h refers = (
+    λ e. (let same : q ≡ r = cc in ap Some ((one q r u t h.0 refers).0 same)),
+    λ e. (let same : u ≡ t = cc in ap Some ((one q r u t h.0 refers).1 same)),
+  )
+  at_same (q ∷ rs) (u ∷ ts) (suc k) r t h refers = at_same rs ts k r t h.1 refers
+
+  stands_term : (rs : List ℕ) (ts : List Term) (r : ℕ) (t : Term) → ReferToAll s v rs ts → RefersTo s v r t → StandsAt allowed rs r → StandsAt allowed ts t
+  stands_term rs ts r t h refers at =
+      record { place = at.place; at_place = (at_same rs ts at.place r t h refers).0 at.at_place; allows = at.allows }
+
+  stands_reference : (rs : List ℕ) (ts : List Term) (r : ℕ) (t : Term) → ReferToAll s v rs ts → RefersTo s v r t → StandsAt allowed ts t
+      → StandsAt allowed rs r
+  stands_reference rs ts r t h refers at =
+      record { place = at.place; at_place = (at_same rs ts at.place r t h refers).1 at.at_place; allows = at.allows }
 
 module _ (s : Table) (v : TermsView) (sign : Sign) (arguments literals : List ℕ) (us ts : List Term) (refer_arguments : ReferToAll s v arguments us) (refer_literals : ReferToAll s v literals ts) where
   -- there are two literals or more, or none
-  pub many_are_not_one : (length literals ≢ 1) → IsTrue false ↔ IsOneOf sign us ts
-  many_are_not_one many = (λ e. absurd cc, λ one. absurd (many (refer_length s v literals ts refer_literals ∙ ap length one.is)))
+  pub many_are_not_one : (allowed : ℕ → Type 0) → (length literals ≢ 1) → IsTrue false ↔ IsOneOf allowed sign us ts
+  many_are_not_one allowed many = (λ e. absurd cc, λ one. absurd (many (refer_length s v literals ts refer_literals ∙ ap length one.is)))
 
   only : (rs : List ℕ) (xs : List Term) (r : ℕ) → 1 ≤ length rs → length rs < 2 → r ≡ get_or rs 0 r → ReferToAll s v rs xs → (x : Term) × (xs ≡ x ∷ []) × RefersTo s v r x
   only [] xs r some few is h = absurd (omega arith)
@@ -27,27 +51,27 @@ module _ (s : Table) (v : TermsView) (sign : Sign) (arguments literals : List �
   only (q ∷ p ∷ rs) xs r some few is h = absurd (omega arith)
 
   -- there is one literal, and the term for which it stands is tested
-  pub one_is : (r a : ℕ) (b : Bool) → AreOne s v → 1 ≤ length literals → length literals < 2 → r ≡ get_or literals 0 r → ((t : Term) → RefersTo s v r t → IsSigned s v sign a t) → IsTrue b ↔ Contains arguments a → IsTrue b ↔ IsOneOf sign us ts
-  one_is r a b one some few is signed test = go (only literals ts r some few is refer_literals)
+  pub one_is : (allowed : ℕ → Type 0) (r a : ℕ) (B : Type 0) → AreOne s v → 1 ≤ length literals → length literals < 2 → r ≡ get_or literals 0 r → ((t : Term) → RefersTo s v r t → IsSigned s v sign a t) → B ↔ StandsAt allowed arguments a → B ↔ IsOneOf allowed sign us ts
+  one_is allowed r a B one some few is signed test = go (only literals ts r some few is refer_literals)
     where
-      go : ((x : Term) × (ts ≡ x ∷ []) × RefersTo s v r x) → IsTrue b ↔ IsOneOf sign us ts
+      go : ((x : Term) × (ts ≡ x ∷ []) × RefersTo s v r x) → B ↔ IsOneOf allowed sign us ts
       go (x, same, refers) =
           (let h = signed x refers in (
             λ e. record {
               term = h.means;
-              among = contains_terms s v one arguments us a h.means refer_arguments h.refers (test.0 e);
+              stands = stands_term s v one allowed arguments us a h.means refer_arguments h.refers (test.0 e);
               is = same ∙ ap (λ y. y ∷ []) h.is;
             },
             λ o.
                 (let term = one_term sign h.means o.term (sym h.is ∙ same_one x (sign_of sign o.term) (sym same ∙ o.is)) in
-                test.1 (contains_references s v one arguments us a h.means refer_arguments h.refers (rw term o.among))),
+                test.1 (stands_reference s v one allowed arguments us a h.means refer_arguments h.refers (rw term o.stands))),
           ))
 
   -- there is one literal, which has not the sign
-  pub none_is : (r : ℕ) → 1 ≤ length literals → length literals < 2 → r ≡ get_or literals 0 r → ((t u : Term) → RefersTo s v r t → t ≢ sign_of sign u) → IsTrue false ↔ IsOneOf sign us ts
-  none_is r some few is other = go (only literals ts r some few is refer_literals)
+  pub none_is : (allowed : ℕ → Type 0) (r : ℕ) → 1 ≤ length literals → length literals < 2 → r ≡ get_or literals 0 r → ((t u : Term) → RefersTo s v r t → t ≢ sign_of sign u) → IsTrue false ↔ IsOneOf allowed sign us ts
+  none_is allowed r some few is other = go (only literals ts r some few is refer_literals)
     where
-      go : ((x : Term) × (ts ≡ x ∷ []) × RefersTo s v r x) → IsTrue false ↔ IsOneOf sign us ts
+      go : ((x : Term) × (ts ≡ x ∷ []) × RefersTo s v r x) → IsTrue false ↔ IsOneOf allowed sign us ts
       go (x, same, refers) = (λ e. absurd cc, λ o. absurd (other x o.term refers (same_one x (sign_of sign o.term) (sym same ∙ o.is))))
 
   -- as many literals as arguments, up to a place
@@ -123,3 +147,31 @@ module _ (s : Table) (v : TermsView) (sign : Sign) (arguments literals : List �
     λ e. sym (take_all n ts (rw (← refer_length s v literals ts refer_literals) above)) ∙ (so_far ∙ ap (map (sign_of sign)) (take_all n us (rw (← refer_length s v arguments us refer_arguments) (rw number above)))),
     λ same. refl,
   )
+
+-- the first place of a reference is the least one at which its term stands
+module _ (s : Table) (v : TermsView) (sign : Sign) (arguments literals : List ℕ) (us ts : List Term) (refer_arguments : ReferToAll s v arguments us)
+    (refer_literals : ReferToAll s v literals ts) where
+  abbrev pub IsAt : ℕ → Type 0
+  IsAt k = IsOneOf (λ place. place ≡ k) sign us ts
+
+  at_place : (a k : ℕ) → (slice_get arguments k ≡ Some a) ↔ StandsAt (λ place. place ≡ k) arguments a
+  at_place a k = (
+    λ e. record { place = k; at_place = e; allows = refl },
+    λ stands. subst (λ place. slice_get arguments place ≡ Some a) stands.allows stands.at_place,
+  )
+
+  pub first_is_least : (r a : ℕ) (found : Option ℕ) → AreOne s v → 1 ≤ length literals → length literals < 2 → r ≡ get_or literals 0 r
+      → ((t : Term) → RefersTo s v r t → IsSigned s v sign a t) → IsLeastFor (λ k. slice_get arguments k ≡ Some a) found → IsLeastFor IsAt found
+  first_is_least r a found one some few is signed least =
+      least_same (λ k. slice_get arguments k ≡ Some a) IsAt found
+      (λ k. one_is s v sign arguments literals us ts refer_arguments refer_literals (λ place. place ≡ k) r a (slice_get arguments k ≡ Some a) one some few is
+      signed (at_place a k)) least
+
+  pub many_are_least : (length literals ≢ 1) → IsLeastFor IsAt None
+  many_are_least many k one =
+      absurd (let e = (many_are_not_one s v sign arguments literals us ts refer_arguments refer_literals (λ place. place ≡ k) many).1 one in cc)
+
+  pub none_is_least : (r : ℕ) → 1 ≤ length literals → length literals < 2 → r ≡ get_or literals 0 r
+      → ((t u : Term) → RefersTo s v r t → t ≢ sign_of sign u) → IsLeastFor IsAt None
+  none_is_least r some few is other k one =
+      absurd (let e = (none_is s v sign arguments literals us ts refer_arguments refer_literals (λ place. place ≡ k) r some few is other).1 one in cc)

@@ -3,6 +3,8 @@ use Rattle.std.specs.Prelude.{◌≡◌, ◌↔◌, ℕ, Bool, true, false, List
 use Rattle.sym_table.specs.Table.{Table}
 use Rattle.term_model.specs.Terms.{Term, not_of}
 use Rattle.term_pool.specs.Views.{TermsView, RefersTo}
+use Rattle.rule_model.specs.declared.index_arg.IndexArg.{IndexArg}
+use Rattle.rule_model.specs.declared.rules.Mode.{Mode}
 use Rattle.rule_model.specs.declared.rules.Rule.{Rule}
 use Rattle.rule_model.specs.Clausal.{Changes, HasEach, HasEachOnce, IsTautology}
 use Rattle.rule_model.specs.RuleSchemas.{MeetsClausal}
@@ -26,7 +28,8 @@ is_change _ = false
 -- the change is the condition of the rule, and there is none of a rule that is none
 abbrev pub IsChangeOf : Rule → Option Change → Type 0
 IsChangeOf rule (Some change) =
-    (premises : List (List Term)) (clause : List Term) → MeetsClausal rule premises clause ↔ Changes (relation_of change) premises clause
+    (mode : Mode) (index : IndexArg) (premises : List (List Term)) (clause : List Term) →
+    MeetsClausal mode index rule premises clause ↔ Changes (relation_of change) premises clause
 IsChangeOf rule None = is_change rule ≡ false
 
 -- the literal is the negation of one for which a reference of the list stands

@@ -1,3 +1,4 @@
+pub mod Answers
 pub mod ArgumentRules
 pub mod Sorting
 pub mod Changes

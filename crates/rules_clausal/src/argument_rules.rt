@@ -4,7 +4,8 @@ ghost use Rattle.std.specs.Prelude.{◌≡◌, ◌↔◌, List, All, IsTrue, IfO
 ghost use Rattle.known_args.specs.Rows.{AreRight};
 ghost use Rattle.term_model.specs.Terms.{Term};
 ghost use Rattle.term_pool.specs.Views.{IsTerm, RefersTo, ReferToAll};
-ghost use Rattle.rules_clausal.specs.ArgumentRules.{Asks, Gives, HasCondition, IsOneOf};
+ghost use Rattle.rule_model.specs.Clausal.{Allows};
+ghost use Rattle.rules_clausal.specs.ArgumentRules.{Asks, AsksByPlaces, Gives, HasCondition, IsOneOf, StandsAt};
 ghost use Rattle.schema_match.specs.Signs.{sign_of};
 ghost use Rattle.term_parts.specs.Judging.{ReferToClauses};
 
@@ -12,7 +13,7 @@ use crate::argument_rules::Place::{Begins, Given};
 use crate::argument_rules::Which::{All, One};
 use known_args::{KnownArgs, Row};
 use pair_pool::{Memory, Ref};
-use rule_model::Rule;
+use rule_model::{IndexArg, Mode, Rule};
 use schema_match::Sign::{self, Itself, Negation};
 use schema_match::{unit, unsigned};
 use sym_table::Symbols;
@@ -21,18 +22,25 @@ use term_pool::Terms;
 
 /// Where the application stands.
 #[derive(Clone, Copy)]
-enum Place {
+pub(crate) enum Place {
     /// It is the first literal of the clause, and there is no premise.
     Begins,
     /// It is the one premise.
     Given,
 }
 
+/// What says of which arguments a step may speak: the mode, and the step's index argument.
+#[derive(Clone, Copy)]
+pub(crate) struct Choice {
+    pub(crate) mode: Mode,
+    pub(crate) index: IndexArg,
+}
+
 /// Which of its arguments the other literals are.
 #[derive(Clone, Copy)]
-enum Which {
-    /// One of them.
-    One,
+pub(crate) enum Which {
+    /// One of those of which the step may speak.
+    One(Choice),
     /// All in order.
     All,
 }
@@ -40,36 +48,56 @@ enum Which {
 /// A rule that asks of a step an application of an operator, and its arguments: where the application stands, which of
 /// the arguments there are, the operator, with which sign the application stands, and with which the arguments do.
 #[derive(Clone, Copy)]
-pub(crate) struct ArgumentRule(Place, Which, Op, Sign, Sign);
+pub(crate) struct ArgumentRule(
+    pub(crate) Place,
+    pub(crate) Which,
+    pub(crate) Op,
+    pub(crate) Sign,
+    pub(crate) Sign,
+);
 
-/// What a rule over arguments asks.
-pub(crate) fn argument_rule(rule: Rule) -> Option<ArgumentRule>
-    ensures { HasCondition rule result }
+/// What a rule over arguments asks of a step.
+pub(crate) fn argument_rule(rule: Rule, choice: Choice) -> Option<ArgumentRule>
+    ensures condition { HasCondition rule choice result }
+    ensures places { AsksByPlaces rule result }
 {
+    let one = One(choice);
     match rule {
-        Rule::AndPos => Some(ArgumentRule(Begins, One, Op::And, Negation, Itself)), // and_pos
+        Rule::AndPos => Some(ArgumentRule(Begins, one, Op::And, Negation, Itself)), // and_pos
         Rule::AndNeg => Some(ArgumentRule(Begins, All, Op::And, Itself, Negation)), // and_neg
         Rule::OrPos => Some(ArgumentRule(Begins, All, Op::Or, Negation, Itself)), // or_pos
-        Rule::OrNeg => Some(ArgumentRule(Begins, One, Op::Or, Itself, Negation)), // or_neg
-        Rule::And => Some(ArgumentRule(Given, One, Op::And, Itself, Itself)), // and
+        Rule::OrNeg => Some(ArgumentRule(Begins, one, Op::Or, Itself, Negation)), // or_neg
+        Rule::And => Some(ArgumentRule(Given, one, Op::And, Itself, Itself)), // and
         Rule::Or => Some(ArgumentRule(Given, All, Op::Or, Itself, Itself)), // or
-        Rule::NotOr => Some(ArgumentRule(Given, One, Op::Or, Negation, Negation)), // not_or
+        Rule::NotOr => Some(ArgumentRule(Given, one, Op::Or, Negation, Negation)), // not_or
         Rule::NotAnd => Some(ArgumentRule(Given, All, Op::And, Negation, Negation)), // not_and
         _ => None,
     }
 }
 
-/// Whether the literals are one of the arguments, with a sign.
+/// Whether a term is an argument of which the step may speak. A place that is named is looked at, and nothing is searched.
+fn is_allowed(arguments: &Row, choice: Choice, term: Ref) -> bool
+    ensures { IsTrue result ↔ StandsAt (Allows choice.mode choice.index) arguments.now.1 term }
+{
+    match (choice.index, choice.mode) {
+        (IndexArg::Free, _) | (IndexArg::Missing, Mode::Check) => arguments.has(term),
+        (IndexArg::At(place), _) => arguments.items().get(place as usize) == Some(&term),
+        (IndexArg::Missing, Mode::Strict) | (IndexArg::Bad, _) => false,
+    }
+}
+
+/// Whether the literals are one of the arguments of which the step may speak, with a sign.
 fn is_one(
     symbols: &Symbols,
     terms: &mut Terms<'_>,
     sign: Sign,
     arguments: &Row,
+    choice: Choice,
     literals: &[Ref],
 ) -> bool
     requires { All (IsTerm symbols.now terms.old) literals.now }
     ensures one { (us ts : List Term) → ReferToAll symbols.now terms.old arguments.now.1 us → ReferToAll symbols.now terms.old literals.now ts →
-        IsTrue result ↔ IsOneOf sign us ts }
+        IsTrue result ↔ IsOneOf (Allows choice.mode choice.index) sign us ts }
     ensures same { terms.new ≡ terms.old }
 {
     symbols.leaves_differ();
@@ -78,7 +106,7 @@ fn is_one(
         return false;
     };
     match unsigned(symbols, terms, sign, *literal) {
-        Some(term) => arguments.has(term),
+        Some(term) => is_allowed(arguments, choice, term),
         None => false,
     }
 }
@@ -132,7 +160,7 @@ fn gives(
     };
     let arguments = known.row(place);
     match which {
-        One => Ok(is_one(symbols, terms, each, arguments, literals)),
+        One(choice) => Ok(is_one(symbols, terms, each, arguments, choice, literals)),
         All => Ok(are_all(symbols, terms, each, arguments.items(), literals)),
     }
 }

@@ -7,7 +7,9 @@
 mod argument_rules;
 mod changes;
 mod checks;
+mod least;
 mod schemas;
 mod sorting;
 
 pub use checks::{meets, meets_knowing};
+pub use least::least_index;

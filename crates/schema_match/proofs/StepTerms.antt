@@ -32,7 +32,8 @@ module _ {s : Table} {v : TermsView} where
   pub truths_are_sorted : (rs : List ℕ) → StandForTruths s v rs → All (IsWellSortedTerm s v) rs
   truths_are_sorted rs are = sorted_literals rs are.clause are.refer are.truths
 
-  clauses_of_references : (premises : List (Bor (List ℕ))) → All (λ p. All (IsTerm s v) p.now) premises →
+  -- clauses for which the references of premises stand
+  pub clauses_of_references : (premises : List (Bor (List ℕ))) → All (λ p. All (IsTerm s v) p.now) premises →
       (ps : List (List Term)) × ReferToClauses s v premises ps
   clauses_of_references [] all = ([], tt)
   clauses_of_references (p ∷ premises) all =

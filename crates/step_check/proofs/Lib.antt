@@ -6,3 +6,4 @@ pub mod Growing
 pub mod AheadLemmas
 pub mod RatioLemmas
 pub mod ChunkLemmas
+pub mod IndexLemmas

@@ -1,3 +1,4 @@
 pub mod Steps
 pub mod Statuses
 pub mod Chunks
+pub mod Indices

@@ -30,11 +30,12 @@ abbrev pub IsStepAt : Mode → ProofItems ℕ ℕ → ℕ → Step → Type 0
 IsStepAt mode refs i step =
     (s : Table) (v : TermsView) (proof : ProofItems Var Term) → StandForItems s v refs proof → StandsForStep s v step (judged_at mode proof i)
 
--- the references stand for those of the step, and its pivots and coefficients are given
+-- the references stand for those of the step, and its pivots, its coefficients and its index argument are given
 pub record StandsForGiven (s : Table) (v : TermsView) (given : Given) (j : Judged) : Type 0 where
   pub step : StandsForStep s v given.step j
   pub pivots : AllZip (IsPivotOf s v) given.pivots.now j.pivots
   pub ratios : j.ratios ≡ fractions given.ratios
+  pub index : j.index ≡ given.index
 
 -- how the command of a rule is judged under flags, whatever is asserted
 abbrev pub IsKindOf : Flags → Rule → Kind → Type 0

@@ -15,18 +15,19 @@ ghost use Rattle.step_check.specs.Steps.{StandsForGiven};
 use known_args::KnownArgs;
 use pair_pool::{Memory, Ref};
 use proof_store::Ratio;
-use rule_model::Family;
+use rule_model::{Family, IndexArg};
 use std::alloc::Global;
 use sym_table::Symbols;
 use term_parts::{Answer, Step};
 use term_pool::Terms;
 
-/// A step with its pivots and its coefficients.
+/// A step with its pivots, its coefficients and its index argument.
 #[derive(Clone, Copy)]
 pub(crate) struct Given<'a> {
     pub(crate) step: Step<'a>,
     pub(crate) pivots: &'a [(Ref, bool)],
     pub(crate) ratios: Option<&'a [Ratio]>,
+    pub(crate) index: IndexArg,
 }
 
 /// What families keep from step to step.
@@ -62,7 +63,14 @@ pub(crate) fn judge(
     let step = given.step;
     match family {
         Family::Clausal => {
-            rules_clausal::meets_knowing(alloc, &mut scratches.known, symbols, terms, step)
+            rules_clausal::meets_knowing(
+                alloc,
+                &mut scratches.known,
+                symbols,
+                terms,
+                step,
+                given.index,
+            )
         }
         Family::Congruence => rules_congruence::meets(alloc, symbols, terms, step),
         Family::Ite => rules_ite::meets(alloc, symbols, terms, step),

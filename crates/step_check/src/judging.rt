@@ -126,6 +126,7 @@ fn answer_by_step<'a>(
         step: step_at(proof, i, at.mode, &rules.premises),
         pivots: proof.pivots(i),
         ratios: proof.ratios(i),
+        index: proof.index(i),
     };
     judge(&mut rules.scratches, symbols, terms, family, given)
 }

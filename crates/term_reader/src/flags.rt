@@ -9,4 +9,7 @@ pub struct Flags {
     pub strict: bool,
     /// A step by an unknown rule is a hole. The reader of problems does not ask this.
     pub ignore_unknown: bool,
+    /// The arguments of and, not_or, and_pos and or_neg are an index: which argument of its application a step speaks of. The reader of
+    /// problems does not ask this.
+    pub profile_two: bool,
 }

@@ -16,5 +16,5 @@ pub fn conditions_keep_truth()
 
 /// A clausal rule asks what its row of the clausal rules asks.
 pub fn clausal_rules_ask_by_rows()
-    ensures { (j : Judged) → kind_of j.rule ≡ Kind.Judged Family.Clausal → Met j ↔ MeetsClausal j.rule j.premises j.clause }
+    ensures { (j : Judged) → kind_of j.rule ≡ Kind.Judged Family.Clausal → Met j ↔ MeetsClausal j.mode j.index j.rule j.premises j.clause }
 {}

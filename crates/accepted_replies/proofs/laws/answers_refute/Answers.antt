@@ -5,14 +5,15 @@ use Rattle.term_model.specs.declared.symbols.Sort.{Sort}
 use Rattle.term_model.specs.Heights.{height}
 use Rattle.term_model.specs.Terms.{Var, Term}
 use Rattle.rule_model.specs.declared.statuses.Status.{Status}
-use Rattle.rule_model.specs.Proofs.{ProofItems}
+use Rattle.rule_model.specs.Profiles.{HaveIndices}
+use Rattle.rule_model.specs.Proofs.{ProofItems, no_items}
 use Rattle.rule_model.specs.Scopes.{commands_in}
 use Rattle.rule_model.specs.Statuses.{Passes}
 use Rattle.problem_text.specs.Limits.{most_height}
 use Rattle.problem_text.specs.Scripts.{Script}
 use Rattle.problem_text.specs.Soundness.{IsRead}
 use Rattle.accepted_replies.specs.Refutations.{Refutes, in_check_mode}
-use Rattle.accepted_replies.specs.Replies.{Inference, IsAnswer, reply_of}
+use Rattle.accepted_replies.specs.Replies.{Inference, IsAnswer, assumed_behind, assumes_behind, reply_of}
 use Rattle.accepted_replies.proofs.InferenceRules.{inferring_has_rule, resolving_has_rule}
 use Rattle.accepted_replies.proofs.ReplyReading.{can_be_read, one_of}
 use Rattle.accepted_replies.proofs.ReplyStatuses.{all_ok, reaches}
@@ -21,6 +22,11 @@ use Rattle.accepted_replies.proofs.laws.answers_refute.Goals as goal
 low : (ts : List Term) → AllByRecursion (λ t. IsRead (record { tree = t; sort = Sort.Bool })) ts → AllByRecursion (λ t. height t ≤ most_height) ts
 low [] h = tt
 low (t ∷ ts) h = (h.0.low, low ts h.1)
+
+-- assumes have no index
+free_assumes : (items : ProofItems Var Term) (ts : List Term) → HaveIndices false items → HaveIndices false (assumes_behind items ts)
+free_assumes items [] h = h
+free_assumes items (t ∷ ts) h = free_assumes (assumed_behind items t) ts h
 
 refuted : (unknown : Bool) (s : Script) (assumed : List Term) (x : Inference Term) → IsAnswer s assumed x
     → Refutes (in_check_mode unknown s) (reply_of {V = Var} assumed x)
@@ -41,5 +47,6 @@ returns-clause-read c = λ problem s assumed x stands formulas answer few.
     let pass = All-replicate Passes (commands_in whole) Status.Ok tt in
     can_be_read s (c.scripts_are_well_named.ensures.names problem false s stands) assumed x answer formulas
     (low s.assertions (c.scripts_are_well_sorted.ensures problem false s stands).assertions)
-    (c.proofs_that_pass_have_coefficients.ensures (in_check_mode false s) whole (replicate (commands_in whole) Status.Ok) ok pass) few
+    (c.proofs_that_pass_have_arguments.ensures false (in_check_mode false s) whole (replicate (commands_in whole) Status.Ok)
+    ((free_assumes no_items assumed tt, tt), tt) ok pass) few
     (inferring_has_rule _ x answer.may) (resolving_has_rule _)

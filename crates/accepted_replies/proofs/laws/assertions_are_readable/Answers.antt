@@ -14,7 +14,7 @@ use Rattle.accepted_replies.proofs.ReadAssertions.{assertions_printable}
 use Rattle.accepted_replies.proofs.laws.assertions_are_readable.Goals as goal
 
 readable : (s : Script) (ts : List Term) → AllByRecursion (λ t. IsRead (record { tree = t; sort = Sort.Bool })) ts
-    → AllByRecursion (λ t. IsPrintable (there []) s t) ts → AllByRecursion (λ t. IsTermReadable printed_settings [] s outermost t Sort.Bool) ts
+    → AllByRecursion (λ t. IsPrintable (there []) s t) ts → AllByRecursion (λ t. IsTermReadable (printed_settings false) [] s outermost t Sort.Bool) ts
 readable s [] sorted printable = tt
 readable s (t ∷ ts) sorted printable = (
   record { sorted = sorted.0.sorted; printable = printable.0; apart = λ n has. absurd (contains_none n has) },

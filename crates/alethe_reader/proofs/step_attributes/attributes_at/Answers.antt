@@ -7,12 +7,25 @@ use Rattle.rule_model.specs.Proofs.{Step}
 use Rattle.rule_model.specs.declared.rules.Rule.{Rule}
 use Rattle.term_reader.proofs.Staying.{adds_none, adds_then}
 use Rattle.alethe_text.specs.Arguments.{takes_coefficients}
+use Rattle.alethe_text.specs.States.{ProofSettings}
+use Rattle.alethe_reader.specs.IndexArgs.{bare_index}
+use Rattle.alethe_reader.specs.Settings.{proof_settings}
 use Rattle.alethe_reader.proofs.AttributeReading.{stands_still, so_far_first, all_read, fails, so_far_next, own_fit, others_kept}
 use Rattle.alethe_reader.proofs.step_attributes.attributes_at.Goals as goal
 
 -- a step by this rule of which nothing is read
-abbrev bare : Rule → Step Term
-bare r = record { id = []; rule = r; rule_name = []; clause = []; premises = []; discharged = []; pivots = []; ratios = if takes_coefficients r then Some [] else None }
+abbrev bare : ProofSettings → Rule → Step Term
+bare settings r = record {
+  id = [];
+  rule = r;
+  rule_name = [];
+  clause = [];
+  premises = [];
+  discharged = [];
+  pivots = [];
+  ratios = if takes_coefficients r then Some [] else None;
+  index = bare_index settings.is_profile_two r;
+}
 
 pub attributes-init : goal.attributes-init
 attributes-init c =
@@ -26,14 +39,15 @@ attributes-init c =
       so_far = λ at p before stands same is_bare.
           so_far_first _ at c.args.step.standing p before c.args.symbols.now c.args.terms.now session _
           (stands_still _ _ _ at _ c.args.session.now session p stands refl refl)
-          (c.clear.ensures.parts _ _ before is_bare (ap takes_coefficients same ∙ sym c.takes_coefficients.ensures));
+          (c.clear.ensures.parts _ _ (proof_settings c.args.settings.now) before is_bare (ap takes_coefficients same ∙ sym c.takes_coefficients.ensures)
+          (ap (bare_index c.args.settings.now.flags.profile_two) same ∙ sym c.missing_index-index.ensures));
     }
 
 pub attribute_at-requires-clause-stands : goal.attribute_at-requires-clause-stands
 attribute_at-requires-clause-stands c =
     let (at, p, stands) = c.requires.stands in
-    let h = c.attributes.invariant.so_far at p (bare c.args.step.rule) stands refl
-    (record { premises = refl; discharged = refl; pivots = refl; ratios = refl }) in
+    let h = c.attributes.invariant.so_far at p (bare (proof_settings c.args.settings.now) c.args.step.rule) stands refl
+    (record { premises = refl; discharged = refl; pivots = refl; ratios = refl; index = refl }) in
     (at, h.state, h.stands)
 
 pub returns-in_err-attribute_at-clause-read : goal.returns-in_err-attribute_at-clause-read

@@ -24,7 +24,8 @@ invariant-attributes l = record {
   keeps : KeepsTerms l.fn.terms l.terms;
   others : KeepsOthers l.fn.session l.session;
   so_far : (at : ids.Standing) (p : ProofState) (before : Step Term)
-      → StandsAt (both l.fn.symbols l.fn.terms) (proof_settings l.settings) at l.fn.session l.step.standing p → before.rule ≡ l.step.rule → IsBare before
+      → StandsAt (both l.fn.symbols l.fn.terms) (proof_settings l.settings) at l.fn.session l.step.standing p → before.rule ≡ l.step.rule
+      → IsBare (proof_settings l.settings) before
       → AreSoFar (proof_settings l.settings) at l.step.standing l.symbols l.fn.terms l.terms l.session p before
       (attributes_of (items_at l.items l.at (length l.items.nodes)))
       (attributes_read (proof_settings l.settings) at (attributes_of (items_at l.items l.step.first (length l.items.nodes))) before p);

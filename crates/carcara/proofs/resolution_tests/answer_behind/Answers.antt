@@ -10,7 +10,7 @@ use Rattle.carcara.proofs.resolution_tests.answer_behind.Goals as goal
 
 -- the lets of the proof are kept, and the arguments of resolution are not asked for
 abbrev settings : ProofSettings
-settings = limited_proof false false
+settings = limited_proof false false false
 
 -- what is said of the proof of an outcome, where the outcome is this proof
 of_outcome : {E : Type 0} (P : ProofItems ℕ ℕ → Type 0) (outcome : Result (ProofItems ℕ ℕ) E) (refs : ProofItems ℕ ℕ) → outcome ≡ Ok refs → IfOk outcome P → P refs

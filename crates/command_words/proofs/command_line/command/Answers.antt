@@ -9,18 +9,21 @@ neither false b is other = other
 
 pub returns : goal.returns
 returns c =
-    IfOk-weaker c.arg-6.result _ _ (λ r h. record {
-      shape = h.shape c.valued.ensures.local ∙ ap₂ with_rule (c.in_ok-arg-5.ensures.shape c.flag-3.ensures.local
+    IfOk-weaker c.arg-7.result _ _ (λ r h. record {
+      shape = h.shape c.valued-2.ensures.local ∙ ap₂ with_rule (c.in_ok-arg-6.ensures.shape c.valued.ensures.local
+          ∙ ap₂ with_rule (c.in_ok-arg-5.ensures.shape c.flag-3.ensures.local
           ∙ ap₂ with_rule (c.in_ok-arg-4.ensures.shape c.flag-2.ensures.local
           ∙ ap₂ with_rule (c.in_ok-arg-3.ensures.shape c.flag.ensures.local
           ∙ ap₂ with_rule (c.in_ok-arg-2.ensures.shape c.operand-2.ensures.local
           ∙ ap₂ with_rule (c.in_ok-arg.ensures.shape c.operand.ensures.local
-          ∙ ap₂ with_rule c.new.ensures.app c.operand.ensures.rule) c.operand-2.ensures.rule) c.flag.ensures.rule) c.flag-2.ensures.rule) c.flag-3.ensures.rule) c.valued.ensures.rule;
-      local = h.globals ∙ neither _ _ (c.in_ok-arg-5.ensures.globals
+          ∙ ap₂ with_rule c.new.ensures.app c.operand.ensures.rule) c.operand-2.ensures.rule) c.flag.ensures.rule) c.flag-2.ensures.rule) c.flag-3.ensures.rule)
+          c.valued.ensures.rule) c.valued-2.ensures.rule;
+      local = h.globals ∙ neither _ _ (c.in_ok-arg-6.ensures.globals
+          ∙ neither _ _ (c.in_ok-arg-5.ensures.globals
           ∙ neither _ _ (c.in_ok-arg-4.ensures.globals
           ∙ neither _ _ (c.in_ok-arg-3.ensures.globals
           ∙ neither _ _ (c.in_ok-arg-2.ensures.globals
           ∙ neither _ _ (c.in_ok-arg.ensures.globals
           ∙ neither _ _ c.new.ensures.local c.operand.ensures.local) c.operand-2.ensures.local)
-          c.flag.ensures.local) c.flag-2.ensures.local) c.flag-3.ensures.local) c.valued.ensures.local;
-    }) c.arg-6.ensures
+          c.flag.ensures.local) c.flag-2.ensures.local) c.flag-3.ensures.local) c.valued.ensures.local) c.valued-2.ensures.local;
+    }) c.arg-7.ensures

@@ -8,6 +8,8 @@ use Rattle.elaborator.specs.Blocks.{AreBlocksOf, blocks_of, commands_needed}
 use Rattle.elaborator.specs.Pieces.{AreMadeBy}
 use Rattle.elaboration.specs.Elaborated.{IsPlacedFor}
 use Rattle.elaboration.specs.Replaced.{CanBeReplaced, IsKeptOrReplaced}
+use Rattle.elaboration.proofs.IndexedSteps.{made_indexed}
+use Rattle.elaboration.proofs.KeptIndices.{are_for}
 use Rattle.elaboration.proofs.MadeElaboration.{assembly_too_long, made_blocks, made_elaboration, made_over, made_too_long, replaced, rule_full}
 use Rattle.elaboration.proofs.Relinked.{both_replace}
 use Rattle.elaboration.proofs.elaborating.elaborated.Goals as goal
@@ -40,8 +42,8 @@ returns-in_err-added-clause-full g c =
     let made = err_from_is_err_and c.from_residual.result c.from_residual.ensures.1 in
     rw (made.1, made.2) (λ is. full (rule_full stop is))
 
-pub assemble-requires : goal.assemble-requires
-assemble-requires g c =
+pub assemble-requires-clause-blocks : goal.assemble-requires-clause-blocks
+assemble-requires-clause-blocks g c =
     let job = c.args.checked.now in
     let w = c.added_by.new.terms in
     let blocks = blocks_of c.in_ok-added.added.items in
@@ -64,6 +66,11 @@ assemble-requires g c =
     (made_blocks job.symbols.now c.args.terms.now job.flags job.problem.now.assertions job.proof.now job.strict.now c.requires.can
     c.count-commands.ensures.well_formed c.requires.sorted c.requires.check c.requires.passes c.requires.strict replace c.proofs_stand_for_one.ensures.one
     c.leaves_differ.ensures.table w c.added_by.ensures.places.keeps c.one_to_one.ensures blocks made)
+
+pub assemble-requires-clause-given : goal.assemble-requires-clause-given
+assemble-requires-clause-given g c =
+    let job = c.args.checked.now in
+    are_for job.symbols.now c.given_indices.new.terms job.proof.now c.in_ok-given.given.items c.in_ok-given.ensures.given
 
 pub returns-in-Ok-clause-elaborates : goal.returns-in-Ok-clause-elaborates
 returns-in-Ok-clause-elaborates g c =
@@ -89,8 +96,8 @@ returns-in-Ok-clause-elaborates g c =
     c.count-commands.ensures.well_formed c.requires.sorted c.requires.check c.requires.passes c.requires.strict replace c.proofs_stand_for_one.ensures.one
     c.leaves_differ.ensures.table w c.added_by.ensures.places.keeps c.one_to_one.ensures blocks made
     c.near_terms_are_low.ensures c.assembled_proofs_are_meant.ensures.some c.assembled_proofs_are_meant.ensures.formed
-    c.assembled_proofs_are_elaborations.ensures c.in-Ok.new
-    (subst (λ xs. IsAssembled job.proof.now (blocks_of xs) c.in-Ok.new) c.deref.ensures.value c.in-Ok.ensures.assembled)
+    c.assembled_proofs_are_elaborations.ensures c.in_ok-given.given.items c.in_ok-given.ensures.given c.in-Ok.new
+    (subst (λ xs. IsAssembled job.proof.now c.in_ok-given.given.items (blocks_of xs) c.in-Ok.new) c.deref.ensures.value c.in-Ok.ensures.assembled)
 
 pub returns-in-Ok-clause-over : goal.returns-in-Ok-clause-over
 returns-in-Ok-clause-over g c =
@@ -123,7 +130,18 @@ returns-in-Ok-clause-over g c =
       images_over = c.new_terms_are_over_their_names.ensures.images;
       images_closed = c.images_are_closed.ensures.closed;
     })
-    c.in-Ok.new (subst (λ xs. IsAssembled job.proof.now (blocks_of xs) c.in-Ok.new) c.deref.ensures.value c.in-Ok.ensures.assembled)
+    c.in_ok-given.given.items c.in-Ok.new (subst (λ xs. IsAssembled job.proof.now c.in_ok-given.given.items (blocks_of xs) c.in-Ok.new) c.deref.ensures.value c.in-Ok.ensures.assembled)
+
+pub returns-in-Ok-clause-indexed : goal.returns-in-Ok-clause-indexed
+returns-in-Ok-clause-indexed g c =
+    let job = c.args.checked.now in
+    let w = c.added_by.new.terms in
+    let blocks = blocks_of c.in_ok-added.added.items in
+    let made : AreMadeBy (IsKeptOrReplaced job.symbols.now w job.problem.now.assertions job.proof.now job.strict.now) (commands_in job.proof.now) blocks =
+    rw (c.job-adding.ensures.elaborate, c.job-adding.ensures.proof) at c.in_ok-added.ensures.made in
+    made_indexed job.symbols.now w job.problem.now.assertions job.proof.now job.strict.now blocks made
+    c.in_ok-given.given.items c.in_ok-given.ensures.given c.in-Ok.new
+    (subst (λ xs. IsAssembled job.proof.now c.in_ok-given.given.items (blocks_of xs) c.in-Ok.new) c.deref.ensures.value c.in-Ok.ensures.assembled)
 
 pub returns-in-Ok-clause-placed : goal.returns-in-Ok-clause-placed
 returns-in-Ok-clause-placed g c =

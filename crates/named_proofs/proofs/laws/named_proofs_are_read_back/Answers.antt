@@ -7,7 +7,7 @@ use Rattle.named_proofs.proofs.Narrowed.{differs_from_taken, items_in, names_wit
 use Rattle.named_proofs.proofs.laws.named_proofs_are_read_back.Goals as goal
 
 pub returns : goal.returns
-returns c = λ problem replaces before source settings proof after s v refs other plan is_problem is_proof refer over ratios formed few free apart.
+returns c = λ two problem replaces before source settings proof after s v refs other plan is_problem is_proof refer over ratios formed few free apart.
     let names = names_without plan after.let_names in
     let narrow : IsProofOver (vocabulary_of before names) other =
     items_in (vocabulary_of before after.let_names) plan s v free.no_leaf
@@ -27,7 +27,7 @@ returns c = λ problem replaces before source settings proof after s v refs othe
     } in record {
       plan = plan;
       after = behind_items plan before outermost other;
-      stands = c.proofs_with_names_apart_are_read_back.ensures.planned plan before names other allows free.is_plan
+      stands = c.proofs_with_names_apart_are_read_back.ensures.planned two plan before names other allows free.is_plan
           (c.scripts_are_well_named.ensures.ready problem replaces plan before is_problem free.free) plan_apart narrow ratios formed few;
       behind = refl;
     }

@@ -45,7 +45,7 @@ returns-clause-replaced c = λ problem options proof status bytes out apart stan
         after = read.after;
         statuses = out.is.statuses;
         problem_text = stands;
-        proof_text = c.proofs_are_read_alike_within_limits.ensures (Some most_height) bytes printed_settings script numbered read.after read.stands low;
+        proof_text = c.proofs_are_read_alike_within_limits.ensures (Some most_height) bytes (printed_settings options.is_profile_two) script numbered read.after read.stands low;
         are = c.ids_play_no_part.ensures.statuses strict new numbered out.is.statuses (c.numbered_proofs_are_the_same.ensures.ids new) out.is.are;
         verdict = c.ids_play_no_part.ensures.verdict new numbered out.is.statuses out.verdict (c.numbered_proofs_are_the_same.ensures.ids new) verdict;
       };

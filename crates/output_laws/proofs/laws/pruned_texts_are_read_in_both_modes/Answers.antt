@@ -44,21 +44,22 @@ returns-clause-both c = λ problem options proof bytes out apart is_strict check
     let settings = settings_of options in
     let over = c.proofs_are_over_their_names.ensures in
     let pass = All-weaker (λ (z : Status). z ≡ Status.Ok) Passes (λ z e. subst Passes (sym e) tt) checked.statuses checked.verdict.0 in
-    let readable : AreReadable printed_settings [] script outermost of =
-    c.proofs_are_readable.ensures printed_settings [] script checked.after.let_names of refl
+    let readable : AreReadable (printed_settings options.is_profile_two) [] script outermost of =
+    c.proofs_are_readable.ensures (printed_settings options.is_profile_two) [] script checked.after.let_names of refl
     (over.allowed problem options.replaces_lets script proof settings of checked.after checked.problem_text checked.proof_text apart) no_names
     (λ n has. absurd (contains_none n has))
     (over.proof problem options.replaces_lets script proof settings of checked.after checked.problem_text checked.proof_text)
-    (c.proofs_that_pass_have_coefficients.ensures (checking_of options script.assertions) of checked.statuses checked.are pass) in
+    (c.proofs_that_pass_have_arguments.ensures options.is_profile_two (checking_of options script.assertions) of checked.statuses
+    (c.indices_are_those_of_the_profile.ensures proof settings script of checked.after checked.proof_text) checked.are pass) in
     let formed : IsWellFormed left = c.pruned_proofs_are_well_formed.ensures.formed of out.refutation.first marks
     (c.proofs_are_well_formed.ensures proof settings script of checked.after checked.proof_text) first.within first.scope out.refutation.reached in
     let none = none_kept marks of (text_has_none settings check proof script of checked.after checked.proof_text) in
     let spelled =
-    spelled_kept out.plan script.sorts marks of (c.readable_proofs_are_spelled.ensures printed_settings out.plan script of out.names.is_plan readable) in
+    spelled_kept out.plan script.sorts marks of (c.readable_proofs_are_spelled.ensures (printed_settings options.is_profile_two) out.plan script of out.names.is_plan readable) in
     let read = out.read_back apart in
-    let stands = subst (λ text. StandsForProof text printed_settings script (numbered_proof left) read.after) out.printed read.stands in
-    subst (λ text. StandsForProof text (record printed_settings { is_strict = is_strict }) script (numbered_proof left) read.after) (sym out.printed)
-    (c.proofs_without_pivots_are_read_in_both_modes.ensures out.plan script left printed_settings is_strict script (numbered_proof left) read.after
+    let stands = subst (λ text. StandsForProof text (printed_settings options.is_profile_two) script (numbered_proof left) read.after) out.printed read.stands in
+    subst (λ text. StandsForProof text (record (printed_settings options.is_profile_two) { is_strict = is_strict }) script (numbered_proof left) read.after) (sym out.printed)
+    (c.proofs_without_pivots_are_read_in_both_modes.ensures out.plan script left (printed_settings options.is_profile_two) is_strict script (numbered_proof left) read.after
     out.names.is_plan none formed spelled stands)
 
 pub returns-clause-limited : goal.returns-clause-limited
@@ -69,7 +70,7 @@ returns-clause-limited c = λ problem options proof bytes out apart is_strict ch
     let low : AreLow (Some most_height) (behind_items read.plan checked.script outermost (left_of problem options proof out.refutation)).terms =
     c.pruned_proofs_are_printed_low.ensures problem options.replaces_lets checked.script proof (settings_of options) checked.commands checked.after
     out.refutation.marks read.plan checked.problem_text checked.proof_text refl in
-    c.proofs_are_read_alike_within_limits.ensures (Some most_height) bytes (record printed_settings { is_strict = is_strict }) checked.script numbered
+    c.proofs_are_read_alike_within_limits.ensures (Some most_height) bytes (record (printed_settings options.is_profile_two) { is_strict = is_strict }) checked.script numbered
     read.after (returns-clause-both c problem options proof bytes out apart is_strict check)
     (subst (λ (s : Script). AreLow (Some most_height) s.terms) (sym read.behind) low)
 
@@ -83,5 +84,5 @@ returns-clause-replaced c = λ problem options proof bytes out apart is_strict c
     let free : ReadsNoLet checked.script (behind_items read.plan checked.script outermost (left_of problem options proof out.refutation)) =
     c.pruned_proofs_are_printed_without_lets.ensures problem checked.script proof (settings_of options) checked.commands checked.after
     out.refutation.marks read.plan stands checked.proof_text replaced in
-    c.texts_without_lets_are_read_alike.ensures bytes (limited_proof false is_strict) checked.script numbered read.after refl
+    c.texts_without_lets_are_read_alike.ensures bytes (limited_proof false is_strict options.is_profile_two) checked.script numbered read.after refl
     (returns-clause-limited c problem options proof bytes out apart is_strict check) (subst (ReadsNoLet checked.script) (sym read.behind) free)

@@ -52,8 +52,8 @@ returns-clause-again c = λ problem options proof bytes out apart check.
     let numbered = numbered_proof (left_of problem options proof out.refutation) in
     let after = (out.read_back apart).after in
     let both = c.pruned_texts_are_read_in_both_modes.ensures in
-    let within : (b : Bool) → options.replaces_lets ≡ b → StandsForProof bytes (limited_proof b false) checked.script numbered after =
-    λ b e. elim b as (λ b. options.replaces_lets ≡ b → StandsForProof bytes (limited_proof b false) checked.script numbered after) [
+    let within : (b : Bool) → options.replaces_lets ≡ b → StandsForProof bytes (limited_proof b false options.is_profile_two) checked.script numbered after =
+    λ b e. elim b as (λ b. options.replaces_lets ≡ b → StandsForProof bytes (limited_proof b false options.is_profile_two) checked.script numbered after) [
       | true ↦ λ e. both.replaced problem options proof bytes out apart false check e
       | false ↦ λ e. both.limited problem options proof bytes out apart false check
     ] e in
@@ -61,7 +61,7 @@ returns-clause-again c = λ problem options proof bytes out apart check.
     (record {
       others = numbered;
       after = after;
-      stands = subst (λ b. StandsForProof bytes (limited_proof options.replaces_lets b) checked.script numbered after) (sym check)
+      stands = subst (λ b. StandsForProof bytes (limited_proof options.replaces_lets b options.is_profile_two) checked.script numbered after) (sym check)
           (within options.replaces_lets refl);
       same = refl;
     })
@@ -76,6 +76,6 @@ returns-clause-replaced c = λ problem options proof bytes out apart check stand
     (record {
       others = numbered;
       after = after;
-      stands = subst (λ b. StandsForProof bytes (limited_proof false b) script numbered after) (sym check) within;
+      stands = subst (λ b. StandsForProof bytes (limited_proof false b options.is_profile_two) script numbered after) (sym check) within;
       same = refl;
     })

@@ -31,8 +31,9 @@ step-requires-clause-may c =
     let discharged : c.deref-4.result.now ≡ map (slice_index s.places) (discharged_at job.proof c.args.i) =
     c.deref-4.ensures.value ∙ (c.in_ok-discharged.ensures ∙ (ap (λ ps. map (slice_index ps) c.discharged.result.now) c.deref-2.ensures.value ∙ ap (map (slice_index s.places)) c.discharged.ensures)) in
     step_may job c.requires.job c.args.i s c.requires.at_line c.requires.kept c.requires.step
-    (step_with c.id.result.now c.rule.result c.rule_name.result.now c.clause.result.now c.deref-3.result.now c.deref-4.result.now c.pivots.result.now c.ratios.result)
-    c.id.ensures c.rule.ensures c.rule_name.ensures c.clause.ensures premises discharged c.pivots.ensures c.ratios.ensures
+    (step_with c.id.result.now c.rule.result c.rule_name.result.now c.clause.result.now c.deref-3.result.now c.deref-4.result.now c.pivots.result.now c.ratios.result
+    c.index.result)
+    c.id.ensures c.rule.ensures c.rule_name.ensures c.clause.ensures premises discharged c.pivots.ensures c.ratios.ensures c.index.ensures
 
 pub returns : goal.returns
 returns c =
@@ -43,5 +44,6 @@ returns c =
     let discharged : c.deref-4.result.now ≡ map (slice_index s.places) (discharged_at job.proof c.args.i) =
     c.deref-4.ensures.value ∙ (c.in_ok-discharged.ensures ∙ (ap (λ ps. map (slice_index ps) c.discharged.result.now) c.deref-2.ensures.value ∙ ap (map (slice_index s.places)) c.discharged.ensures)) in
     step_put job c.requires.job c.args.i s c.requires.at_line c.requires.kept c.requires.step
-    (step_with c.id.result.now c.rule.result c.rule_name.result.now c.clause.result.now c.deref-3.result.now c.deref-4.result.now c.pivots.result.now c.ratios.result)
-    c.id.ensures c.rule.ensures c.rule_name.ensures c.clause.ensures premises discharged c.pivots.ensures c.ratios.ensures _ c.in_ok-step.ensures.written
+    (step_with c.id.result.now c.rule.result c.rule_name.result.now c.clause.result.now c.deref-3.result.now c.deref-4.result.now c.pivots.result.now c.ratios.result
+    c.index.result)
+    c.id.ensures c.rule.ensures c.rule_name.ensures c.clause.ensures premises discharged c.pivots.ensures c.ratios.ensures c.index.ensures _ c.in_ok-step.ensures.written

@@ -9,4 +9,4 @@ pub returns-clause-writes : goal.returns-clause-writes
 returns-clause-writes c =
     let d = c.args.draft.now in
     let few : suc (next_index (proof_of d)) < 2 ^ 32 - 1 = omega (arith, c.requires.few) in
-    rw (c.in_ok-index.ensures.added, c.assumed-command.ensures c.args.term refl) (assume_writes d c.args.id.now c.args.term c.requires.draft c.requires.id few)
+    rw (c.in_ok-index.ensures.added, c.assumed-command.ensures.stored c.args.term refl) (assume_writes d c.args.id.now c.args.term c.requires.draft c.requires.id few)

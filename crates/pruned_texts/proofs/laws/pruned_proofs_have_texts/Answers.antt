@@ -8,10 +8,10 @@ use Rattle.rule_model.specs.Statuses.{Checking, Passes}
 use Rattle.pruned_proofs.specs.Pruned.{pruned}
 use Rattle.pruned_proofs.specs.Reached.{AreReachedMarks, IsFirstEmpty}
 use Rattle.readable_proofs.specs.Names.{vocabulary_of}
-use Rattle.readable_proofs.specs.ProofsOver.{HaveRatios, IsProofOver}
+use Rattle.readable_proofs.specs.ProofsOver.{HaveArguments, IsProofOver}
 use Rattle.judged_texts.specs.Reading.{checking_of, settings_of}
 use Rattle.pruned_texts.proofs.Asserted.{asserted}
-use Rattle.pruned_texts.proofs.PrunedOver.{over_kept, ratios_kept}
+use Rattle.pruned_texts.proofs.PrunedOver.{over_kept, arguments_kept}
 use Rattle.pruned_texts.proofs.ReadAgain.{refer_to, referred, stand_for}
 use Rattle.pruned_texts.proofs.laws.pruned_proofs_have_texts.Goals as goal
 
@@ -34,8 +34,10 @@ returns c = λ problem options text s v both first marks plan check table one h 
     let left_over : IsProofOver (vocabulary_of script h.checked.after.let_names) left =
     over_kept (vocabulary_of script h.checked.after.let_names) marks outermost of over in
     let pass = All-weaker (λ (z : Status). z ≡ Status.Ok) Passes (λ z e. subst Passes (sym e) tt) h.checked.statuses h.checked.verdict.0 in
-    let ratios = c.proofs_that_pass_have_coefficients.ensures checking of h.checked.statuses h.checked.are pass in
-    let left_ratios : HaveRatios left = ratios_kept marks 0 of ratios in
+    let second = options.is_profile_two in
+    let indices = c.indices_are_those_of_the_profile.ensures text (settings_of options) script of h.checked.after h.checked.proof_text in
+    let given = c.proofs_that_pass_have_arguments.ensures second checking of h.checked.statuses indices h.checked.are pass in
+    let left_given : HaveArguments second left = arguments_kept second marks 0 of given in
     let many : commands_in left ≤ 2 ^ 32 = rw (c.commands_correspond.ensures.commands s v (pruned marks both.proof) left left_stands) at few in
     let refer = refer_to c.texts_have_one_reading.ensures.script c.proof_texts_have_one_reading.ensures.proof problem options text s v both h in
     let core = c.cores_exist.ensures s v both.proof of marks both.problem.assertions script.assertions table one stand refer
@@ -60,6 +62,6 @@ returns c = λ problem options text s v both first marks plan check table one h 
             c.terms_are_apart.ensures s v plan r.0 t free.no_leaf r.1;
       };
       printed = refl;
-      read_back = λ apart. c.named_proofs_are_read_back.ensures problem replaces script text (settings_of options) of h.checked.after s v
-          (pruned marks both.proof) left plan source h.checked.proof_text left_stands left_over left_ratios left_formed many free apart;
+      read_back = λ apart. c.named_proofs_are_read_back.ensures second problem replaces script text (settings_of options) of h.checked.after s v
+          (pruned marks both.proof) left plan source h.checked.proof_text left_stands left_over left_given left_formed many free apart;
     }

@@ -20,7 +20,7 @@ use Rattle.alethe_text.specs.Examples.{proof_behind, plain_step}
 use Rattle.alethe_text.proofs.Lists.{not_among}
 use Rattle.printed_proofs.specs.Readable.{IsSortReadable}
 use Rattle.readable_proofs.specs.Names.{IsOwnName, IsWellNamed, Vocabulary, AreOwnNames, AreNamesApart}
-use Rattle.readable_proofs.specs.ProofsOver.{IsTermIn, IsProofOver, HaveRatios, printed_settings}
+use Rattle.readable_proofs.specs.ProofsOver.{IsTermIn, IsProofOver, HaveArguments, printed_settings}
 use Rattle.readable_proofs.proofs.DistinctNames.{AreDistinct, all_contained, function_means, function_named, operator_means}
 use Rattle.readable_proofs.proofs.NewTerms.{call_in, equality_in}
 use Rattle.readable_proofs.proofs.ReadableProofs.{no_plan}
@@ -155,8 +155,12 @@ apart f there named =
     all_contained (λ (f : Fun). Contains (codes "x" ∷ []) f.name → ⊥) v.functions f
     (not_among (codes "x" ∷ []) (codes "f") refl, (not_among (codes "x" ∷ []) (codes "p") refl, tt)) there named
 
-coefficients : HaveRatios proof
-coefficients = (tt, (tt, λ takes none. absurd (let f : false ≡ true = takes in cc)), λ takes none. absurd (let f : false ≡ true = takes in cc))
+given : HaveArguments false proof
+given = (
+  tt,
+  (tt, record { coefficients = λ takes none. absurd (let f : false ≡ true = takes in cc); index = tt }),
+  record { coefficients = λ takes none. absurd (let f : false ≡ true = takes in cc); index = tt },
+)
 
 pub returns-clause-over : goal.returns-clause-over
 unfolding proof_behind script_in
@@ -165,5 +169,5 @@ returns-clause-over c = is_over
 pub returns-clause-readable : goal.returns-clause-readable
 unfolding proof_behind script_in
 returns-clause-readable c =
-    c.proofs_are_readable.ensures printed_settings [] script (codes "x" ∷ []) proof refl
-    (record { well = well; own = own_names; apart = apart }) no_plan (λ (n : Named) inside. absurd (contains_none n inside)) is_over coefficients
+    c.proofs_are_readable.ensures (printed_settings false) [] script (codes "x" ∷ []) proof refl
+    (record { well = well; own = own_names; apart = apart }) no_plan (λ (n : Named) inside. absurd (contains_none n inside)) is_over given

@@ -1,4 +1,4 @@
-use Rattle.std.proofs.Common.{length, sym}
+use Rattle.std.proofs.Common.{IsTrue, length, sym}
 use Rattle.std.proofs.lemmas.Bool.{eqb-true, eq-eqb}
 use Rattle.std.proofs.lemmas.List.Elements.{All-rest}
 use Rattle.std.proofs.lemmas.Result.{IfOk-weaker}
@@ -41,7 +41,7 @@ returns-else-not-is_empty-clause-meets c =
     rw c.in-Begins.is
     (IfOk-weaker c.gives.result _ _ (λ b test ps ts premises clause.
     begins_is c.args.symbols.now c.args.terms.now (Gives row.1 row.2 row.3 row.4) c.args.premises.now c.args.clause.now ps ts premises clause
-    c.in-Some.whole.now c.in-Some.literals.now b c.in-Some.ensures.cases.0 (eqb-true (length c.args.premises.now) 0 (sym c.if-not-is_empty.ensures)) test) c.gives.ensures.gives)
+    c.in-Some.whole.now c.in-Some.literals.now (IsTrue b) c.in-Some.ensures.cases.0 (eqb-true (length c.args.premises.now) 0 (sym c.if-not-is_empty.ensures)) test) c.gives.ensures.gives)
 
 pub returns-in-Some-unit-clause-meets : goal.returns-in-Some-unit-clause-meets
 returns-in-Some-unit-clause-meets c =
@@ -49,4 +49,4 @@ returns-in-Some-unit-clause-meets c =
     rw c.in-Given.is
     (IfOk-weaker c.gives-in-Given.result _ _ (λ b test ps ts premises clause.
     given_is c.args.symbols.now c.args.terms.now (Gives row.1 row.2 row.3 row.4) c.args.premises.now c.args.clause.now ps ts premises clause
-    c.in-Some-unit.whole b c.in-Some-unit.ensures.unit test) c.gives-in-Given.ensures.gives)
+    c.in-Some-unit.whole (IsTrue b) c.in-Some-unit.ensures.unit test) c.gives-in-Given.ensures.gives)

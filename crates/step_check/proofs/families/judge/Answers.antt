@@ -2,7 +2,9 @@ use Rattle.std.proofs.lemmas.Result.{IfOk-weaker}
 use Rattle.step_check.proofs.families.judge.Goals as goal
 
 pub returns-in-Clausal-clause-met : goal.returns-in-Clausal-clause-met
-returns-in-Clausal-clause-met c = IfOk-weaker c.meets_knowing.result _ _ (λ a told j stands. told j stands.step) c.meets_knowing.ensures.met
+returns-in-Clausal-clause-met c =
+    IfOk-weaker c.meets_knowing.result _ _ (λ a told j stands. told j (record { step = stands.step; index = stands.index }))
+    c.meets_knowing.ensures.met
 
 pub returns-in-Congruence-clause-met : goal.returns-in-Congruence-clause-met
 returns-in-Congruence-clause-met c = IfOk-weaker c.meets.result _ _ (λ a told j stands. told j stands.step) c.meets.ensures.met

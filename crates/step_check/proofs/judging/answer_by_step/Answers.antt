@@ -54,4 +54,5 @@ returns-clause-met c =
       step = c.step_at.ensures.stands s v of stand;
       pivots = rw c.pivots.ensures (c.terms_correspond.ensures.pivots s v refs of i stand);
       ratios = sym (c.ratios.ensures ∙ laws.ratios s v refs of i stand);
+      index = sym (c.index.ensures ∙ laws.index s v refs of i stand);
     }))) c.judge.ensures.met
