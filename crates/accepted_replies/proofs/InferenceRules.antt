@@ -1,5 +1,5 @@
 -- Private. The steps of a reply have rules that their words name.
-use Rattle.std.proofs.Common.{[], ◌∷◌, ℕ, List, inr, refl, None}
+use Rattle.std.proofs.Common.{[], ℕ, inr, refl}
 use Rattle.rule_model.specs.declared.kinds.Family.{Family}
 use Rattle.rule_model.specs.declared.rules.Rule.{Rule}
 use Rattle.rule_model.specs.RuleNames.{kind_of, IsJudged}

@@ -9,3 +9,7 @@ mod OwnNames
 mod ReadForms
 mod ReadPrintable
 mod ReadAssertions
+mod ReplyReferences
+mod ReplyLengths
+mod ReplyBuilding
+mod ReplyTexts

@@ -1,5 +1,5 @@
 -- Private. The plan without names.
-use Rattle.std.proofs.Common.{List, []}
+use Rattle.std.proofs.Common.{[]}
 use Rattle.term_model.proofs.Lists.{contains_none}
 use Rattle.printed_proofs.specs.Naming.{IsPlan}
 

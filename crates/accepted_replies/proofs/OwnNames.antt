@@ -1,8 +1,8 @@
 -- Private. Names that may stand in a term behind a script without macros and named terms.
-use Rattle.std.proofs.Common.{◌≡◌, ◌⊎◌, inl, inr, ℕ, Bool, true, false, Option, Some, None}
-use Rattle.std.proofs.Common.{IfSome, List, [], ◌∷◌, bytes_eq, find, cond, option_map, refl, sym, ap}
+use Rattle.std.proofs.Common.{◌≡◌, inl, inr, ℕ, Bool, true, false, Option, Some, None}
+use Rattle.std.proofs.Common.{IfSome, List, [], ◌∷◌, bytes_eq, find, cond, option_map, refl, sym}
 use Rattle.std.proofs.Common.{◌∙◌, subst}
-use Rattle.std.specs.Prelude.{⊤, Contains}
+use Rattle.std.specs.Prelude.{Contains}
 use Rattle.std.specs.List.{AllByRecursion}
 use Rattle.std.specs.Option.{option_or}
 use Rattle.std.proofs.lemmas.Slice.Eq.{bytes_eq-Decides}
@@ -11,8 +11,7 @@ use Rattle.term_model.specs.declared.symbols.Op.{Op}
 use Rattle.term_model.specs.FreeVariables.{IsFree}
 use Rattle.term_model.specs.Terms.{Var, Fun, Term, variable, operation, call, no_terms}
 use Rattle.term_model.proofs.Lists.{contains_none, contains_cases, contains_head, contains_later}
-use Rattle.problem_text.specs.Limits.{Settings}
-use Rattle.problem_text.specs.Names.{Bound, Place, itself, innermost, Meaning, function, operator, meaning_of}
+use Rattle.problem_text.specs.Names.{Bound, Place, itself, innermost, function, operator, meaning_of}
 use Rattle.problem_text.specs.PrintedTerms.{IsPrintable, IsUsable, MayLead}
 use Rattle.problem_text.specs.Scripts.{Script}
 use Rattle.problem_text.specs.Words.{operator_named}

@@ -1,6 +1,6 @@
 -- Private. The assertions of a script without macros and named terms are printable behind it.
-use Rattle.std.proofs.Common.{◌≡◌, ℕ, ◌==◌, Bool, true, false, ◌||◌, Option, Some, None, Result}
-use Rattle.std.proofs.Common.{Ok, Err, List, [], ◌∷◌, ◌++◌, map, if◌then◌else◌, refl, sym, subst}
+use Rattle.std.proofs.Common.{◌≡◌, ℕ, ◌==◌, Bool, true, false, ◌||◌, Result}
+use Rattle.std.proofs.Common.{Ok, Err, List, [], ◌∷◌, map, if◌then◌else◌, refl, sym, subst}
 use Rattle.std.specs.Prelude.{⊤, Contains}
 use Rattle.std.specs.List.{AllByRecursion}
 use Rattle.std.proofs.lemmas.List.Elements.{Contains-append_left}
@@ -9,7 +9,7 @@ use Rattle.sexpr.specs.declared.causes.Cause.TheVariants.{Repeated, LeftOut, Sor
 use Rattle.sexpr.specs.declared.causes.Refusal.{Refusal}
 use Rattle.sexpr.specs.Items.{Item, Items, no_items, item, place_of}
 use Rattle.term_model.specs.declared.symbols.Sort.{Sort}
-use Rattle.term_model.specs.Terms.{Var, sort_eq, Fun, Term}
+use Rattle.term_model.specs.Terms.{sort_eq}
 use Rattle.term_model.proofs.Lists.{all_at_end}
 use Rattle.text_items.specs.ItemShapes.{Name}
 use Rattle.problem_text.specs.Commands.{ScriptCommand, set_logic, without_effect, declare_sort, declare_fun, define_fun, assert_term, check_sat, exit}
@@ -21,7 +21,7 @@ use Rattle.problem_text.specs.Outcomes.{Outcome, done, refuse, given, and_then}
 use Rattle.problem_text.specs.PrintedTerms.{IsPrintable}
 use Rattle.problem_text.specs.Problems.{logic_set, sort_declared, function_declared, function_defined, term_asserted, script_performed, ends, script_commands}
 use Rattle.problem_text.specs.Problems.{StandsForProblem}
-use Rattle.problem_text.specs.Scripts.{Macro, Script, empty_script, is_taken, with_name, with_sort, with_function, with_macro, with_assertion}
+use Rattle.problem_text.specs.Scripts.{Script, empty_script, is_taken, with_name, with_sort, with_assertion}
 use Rattle.problem_text.specs.Sorts.{sort_from, sorts_from, parameters_from}
 use Rattle.problem_text.specs.Terms.{read_term}
 use Rattle.problem_text.specs.TypedTerms.{Typed}
@@ -29,7 +29,7 @@ use Rattle.problem_text.specs.Words.{is_among, is_built_in, logics}
 use Rattle.readable_proofs.specs.Names.{IsWellNamed, AreOwnNames}
 use Rattle.accepted_replies.proofs.OwnNames.{ArePrintableTerms, there}
 use Rattle.accepted_replies.proofs.ReadForms.{form_good}
-use Rattle.accepted_replies.proofs.ReadPrintable.{AfterRead, Reads, goes_on, here, Grown, not_empty, IsBefore, earlier, term_read}
+use Rattle.accepted_replies.proofs.ReadPrintable.{AfterRead, Reads, goes_on, here, not_empty, IsBefore, earlier, term_read}
 
 module _ (printable : ArePrintableTerms) (z : Script) (well : IsWellNamed z) (own : AreOwnNames z.let_names) (no_macros : z.macros ≡ [])
     (no_named : z.named ≡ []) where

@@ -1,5 +1,5 @@
 -- Private. What is read as a term is printable where it was read, behind each later script without macros and named terms.
-use Rattle.std.proofs.Common.{◌≡◌, ◌⊎◌, inl, inr, ℕ, ◌<◌, ◌^◌, Bool, true, false, ◌||◌, Option, Some, None, IfSome, List, [], ◌∷◌, ◌++◌, map, bytes_eq, find}
+use Rattle.std.proofs.Common.{◌≡◌, ℕ, Bool, true, false, ◌||◌, Option, Some, None, IfSome, List, [], ◌∷◌, ◌++◌, map, bytes_eq, find}
 use Rattle.std.proofs.Common.{if◌then◌else◌, option_map, Result, Ok, Err, refl, sym, ap, ◌∙◌, subst}
 use Rattle.std.specs.Prelude.{⊤, Contains}
 use Rattle.std.specs.List.{AllByRecursion}
@@ -14,7 +14,7 @@ use Rattle.term_model.specs.declared.symbols.Op.{Op}
 use Rattle.term_model.specs.declared.symbols.Sort.{Sort}
 use Rattle.term_model.specs.Heights.{height}
 use Rattle.term_model.specs.Sorts.{call_sort, operation_sort}
-use Rattle.term_model.specs.Terms.{Var, Fun, Term, numeral, variable, operation, call, Terms, terms_of}
+use Rattle.term_model.specs.Terms.{Var, Fun, Term, numeral, variable, operation, call}
 use Rattle.term_model.proofs.Lists.{contains_head, contains_later}
 use Rattle.text_items.specs.ItemShapes.{Name}
 use Rattle.problem_text.specs.Forms.{Form, faulty, number, symbol, application, let_form, annotated, Forms, no_forms, form, LetBinds, no_binds, bind}

@@ -1,6 +1,6 @@
 -- Private. A reply is well formed: its ids are c1, c2 and so on.
-use Rattle.std.proofs.Common.{◌≡◌, ◌⊎◌, inl, inr, ℕ, zero, suc, ◌+◌, ◌<◌, ◌≤◌, ◌^◌, ◌==◌, ◌&&◌, true, false, Bool, List, [], ◌∷◌, ◌++◌, map, drop}
-use Rattle.std.proofs.Common.{length, decimal, All, Contains, refl, sym, ap, ◌∙◌, subst, arith}
+use Rattle.std.proofs.Common.{◌≡◌, inl, inr, ℕ, zero, suc, ◌+◌, ◌<◌, ◌≤◌, ◌^◌, true, List, [], ◌∷◌, ◌++◌, map, drop}
+use Rattle.std.proofs.Common.{length, decimal, Contains, refl, sym, ap, ◌∙◌, subst, arith}
 use Rattle.std.specs.List.{AllByRecursion, list_all}
 use Rattle.std.specs.Char.{is_ascii_digit}
 use Rattle.std.proofs.lemmas.Bool.{and_parts, cases_lt}
@@ -9,10 +9,10 @@ use Rattle.std.proofs.lemmas.List.Elements.{All-from_recursion}
 use Rattle.sexpr.specs.Words.{numeral_value}
 use Rattle.sexpr.proofs.PrintedNumerals.{decimal_is}
 use Rattle.term_model.proofs.Lists.{contains_none, contains_cases, contains_head, contains_later}
-use Rattle.rule_model.specs.Proofs.{Step, ProofItems, no_items, with_assume, with_step}
+use Rattle.rule_model.specs.Proofs.{ProofItems, no_items, with_step}
 use Rattle.rule_model.specs.RuleNames.{IsSymbolName}
 use Rattle.rule_model.specs.Scopes.{outermost, first_index, commands_in}
-use Rattle.rule_model.specs.Visibility.{Sight, sight, direct, visible, visible_ids}
+use Rattle.rule_model.specs.Visibility.{sight, direct, visible, visible_ids}
 use Rattle.rule_model.specs.WellFormed.{IsNewId, HasRule, MayStand, AreWellFormed, IsWellFormed}
 use Rattle.printed_proofs.specs.Numbered.{printed_id}
 use Rattle.accepted_replies.specs.Numbering.{sights, IsNumbered}
@@ -51,6 +51,12 @@ numbers_end k zero = let e : k + 0 ≡ k = omega arith in ap (λ m. m ∷ []) (s
 numbers_end k (suc n) =
     let e : suc k + n ≡ k + suc n = omega arith in
     ap (λ ks. k ∷ ks) (numbers_end (suc k) n ∙ ap (λ m. numbers_from (suc k) n ++ m ∷ []) e)
+
+pub numbers_next : (k : ℕ) → numbers_from 0 (k + 1) ≡ numbers_from 0 k ++ k ∷ []
+numbers_next k =
+    let more : k + 1 ≡ suc k = omega arith in
+    let same : 0 + k ≡ k = omega arith in
+    ap (numbers_from 0) more ∙ (numbers_end 0 k ∙ ap (λ m. numbers_from 0 k ++ m ∷ []) same)
 
 among_numbers : (k n j : ℕ) → k ≤ j → j < k + n → Contains (numbers_from k n) j
 among_numbers k zero j low high = absurd (omega (arith, low, high))

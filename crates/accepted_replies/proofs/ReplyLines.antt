@@ -1,11 +1,11 @@
 -- Private. The commands of a reply, in file order.
-use Rattle.std.proofs.Common.{◌≡◌, ℕ, zero, suc, ◌+◌, ◌<◌, ◌-◌, Some, List, [], ◌∷◌, ◌++◌, map, length, slice_get, refl, sym, ap, ◌∙◌, subst, arith}
+use Rattle.std.proofs.Common.{◌≡◌, ℕ, suc, ◌+◌, Some, List, [], ◌∷◌, ◌++◌, map, length, slice_get, refl, sym, ap, ◌∙◌, subst, arith}
 use Rattle.std.specs.List.{AllByRecursion}
-use Rattle.std.specs.Prelude.{⊤, Contains}
+use Rattle.std.specs.Prelude.{Contains}
 use Rattle.std.proofs.lemmas.List.{append_assoc, append-nil}
 use Rattle.term_model.proofs.Lists.{slice_get-left, slice_get-last, contains_head, contains_later}
 use Rattle.rule_model.specs.Commands.{Line, assume, step, lines_in}
-use Rattle.rule_model.specs.Proofs.{Step, ProofItems, no_items, with_assume, with_step}
+use Rattle.rule_model.specs.Proofs.{ProofItems, no_items, with_step}
 use Rattle.rule_model.specs.Reading.{clause_at}
 use Rattle.rule_model.specs.Scopes.{outermost, at, commands_in}
 use Rattle.rule_model.proofs.LineReading.{clause_is}

@@ -1,8 +1,8 @@
 -- Private. A reply can be read behind the script whose assertions it assumes.
-use Rattle.std.proofs.Common.{◌≡◌, ◌⊎◌, inl, inr, ℕ, zero, suc, ◌+◌, ◌<◌, ◌≤◌, ◌^◌, true, false, Some, None, List, [], ◌∷◌, ◌++◌, length, All, Contains}
-use Rattle.std.proofs.Common.{slice_index_or, refl, sym, ap, ◌∙◌, subst, arith}
-use Rattle.std.specs.Prelude.{Any, ⊤}
-use Rattle.std.specs.List.{AllByRecursion, list_all}
+use Rattle.std.proofs.Common.{inl, inr, ◌+◌, ◌≤◌, ◌^◌, List, [], ◌∷◌, length, Contains}
+use Rattle.std.proofs.Common.{refl, sym, subst, arith}
+use Rattle.std.specs.Prelude.{Any}
+use Rattle.std.specs.List.{AllByRecursion}
 use Rattle.std.proofs.lemmas.List.Elements.{All-from_recursion}
 use Rattle.std.proofs.lemmas.List.Sums.{AllPass-from_list_all}
 use Rattle.sexpr.specs.Characters.{is_between_bars}
@@ -11,11 +11,11 @@ use Rattle.sym_table.specs.Words.{operator_symbol}
 use Rattle.term_model.specs.declared.symbols.Op.{Op}
 use Rattle.term_model.specs.declared.symbols.Sort.{Sort}
 use Rattle.term_model.specs.Heights.{height}
-use Rattle.term_model.specs.Sorts.{IsOf, AreOf}
+use Rattle.term_model.specs.Sorts.{AreOf}
 use Rattle.term_model.specs.Terms.{Var, Term, no_terms, term, not_of}
 use Rattle.term_model.proofs.Arities.{negation_sort}
 use Rattle.term_model.proofs.Lists.{all_joined, contains_none}
-use Rattle.rule_model.specs.Commands.{Line, lines_in}
+use Rattle.rule_model.specs.Commands.{lines_in}
 use Rattle.rule_model.specs.Elaboration.{IsLowLine, IsLowProof}
 use Rattle.rule_model.specs.Proofs.{ProofItems, no_items, with_step}
 use Rattle.rule_model.specs.Scopes.{outermost}

@@ -1,7 +1,7 @@
 -- Private. Each command of a reply is Ok, where what it assumes is asserted and the step is met.
 use Rattle.std.proofs.Common.{◌≡◌, ◌⊎◌, inl, inr, ℕ, zero, suc, ◌+◌, ◌<◌, ◌≤◌, ◌-◌, Bool, Option, Some, None, List, [], ◌∷◌, ◌++◌, map, length, All, Contains}
 use Rattle.std.proofs.Common.{slice_get, replicate, refl, sym, ap, ◌∙◌, subst, arith}
-use Rattle.std.specs.Prelude.{Any, ⊤}
+use Rattle.std.specs.Prelude.{Any}
 use Rattle.std.specs.List.{AllByRecursion}
 use Rattle.std.specs.Option.{option_map, option_map_or}
 use Rattle.std.proofs.lemmas.List.Elements.{All-from_recursion}
@@ -14,21 +14,20 @@ use Rattle.rule_model.specs.declared.kinds.Kind.{Kind}
 use Rattle.rule_model.specs.declared.rules.Mode.{Mode}
 use Rattle.rule_model.specs.declared.rules.Rule.{Rule}
 use Rattle.rule_model.specs.declared.statuses.Status.{Status}
-use Rattle.rule_model.specs.Commands.{Line, Entry, assume, step, lines_in, entries, entry_of, closed_scope, own_scope}
+use Rattle.rule_model.specs.Commands.{Line, Entry, assume, step, lines_in, entries, entry_of, closed_scope}
 use Rattle.rule_model.specs.Conditions.{Met, IsTooWide, IsTooWideWhere, MeetsWhere, IsTooWideAt, IsMetAt}
 use Rattle.rule_model.specs.Judged.{Judged, judged_at, open_anchors}
 use Rattle.rule_model.specs.Proofs.{Fraction, Step, ProofItems, no_items}
 use Rattle.rule_model.specs.Reading.{rule_of, clause_of, premises_of, pivots_of, ratios_of, rule_at, clause_at, premises_at, pivots_at, ratios_at, closes_at}
-use Rattle.rule_model.specs.Reading.{scope_at}
 use Rattle.rule_model.specs.RuleNames.{kind_of, IsJudged}
-use Rattle.rule_model.specs.Scopes.{outermost, scope_number, commands_in}
+use Rattle.rule_model.specs.Scopes.{outermost, commands_in}
 use Rattle.rule_model.specs.Statuses.{Checking, IsAsserted, kind_under, kind_of_rule, IsStatusBy, IsStatusAt, AreStatuses, ReachesEmpty}
 use Rattle.rule_model.proofs.LineReading.{rule_is, clause_is, premises_are, closes_is, anchors_are, scope_is}
 use Rattle.rule_model.proofs.Lines.{get_append, get_one}
 use Rattle.rule_model.proofs.Numbers.{lines_in_count}
 use Rattle.rule_model.proofs.Standing.{all_at}
 use Rattle.accepted_replies.specs.Replies.{Inference, numbers_from, assumes_behind, inferring, resolving, reply_of, judged_inference, MayInfer, IsNegation}
-use Rattle.accepted_replies.proofs.ReplyLines.{assume_lines, lines_assumed, IsAssumeOf, lines_are, clauses_assumed, step_line, last_line, count_before}
+use Rattle.accepted_replies.proofs.ReplyLines.{lines_assumed, IsAssumeOf, lines_are, clauses_assumed, step_line, last_line, count_before}
 use Rattle.accepted_replies.proofs.ReplyLines.{assume_at, step_at, last_at, count}
 use Rattle.accepted_replies.proofs.UnitResolution.{units_of, empty_follows}
 

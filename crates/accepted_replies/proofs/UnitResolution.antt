@@ -1,6 +1,6 @@
 -- Private. The empty clause follows by unit propagation from a clause and from units that deny each of its literals.
 use Rattle.std.proofs.Common.{◌≡◌, ◌⊎◌, inl, inr, ℕ, zero, suc, ◌+◌, ◌<◌, ◌≤◌, Bool, true, false, List, [], ◌∷◌, ◌++◌, map, length, All, Contains}
-use Rattle.std.proofs.Common.{slice_index_or, refl, sym, ap, ◌∙◌, subst, arith, Decides}
+use Rattle.std.proofs.Common.{refl, sym, ap, ◌∙◌, subst, arith, Decides}
 use Rattle.std.specs.Prelude.{Any, ⊤}
 use Rattle.std.specs.List.{AllByRecursion}
 use Rattle.std.proofs.lemmas.List.Elements.{All-from_recursion, Contains-append_left}
@@ -8,7 +8,7 @@ use Rattle.term_model.specs.Terms.{Term, not_of}
 use Rattle.term_model.proofs.Lists.{contains_none, contains_cases, contains_head, contains_later}
 use Rattle.rule_model.specs.declared.literal.Literal.{Literal}
 use Rattle.rule_model.specs.declared.literal.Literal.TheVariants.{Plain, Always, Never}
-use Rattle.rule_model.specs.Consequence.{IsFalse, literal_at, premise_at, IsOnly, IsUnit, IsConflict, literal_of, Leads, Follows}
+use Rattle.rule_model.specs.Consequence.{IsFalse, literal_at, premise_at, IsOnly, literal_of, Leads}
 use Rattle.rule_model.specs.Literals.{negation_of}
 use Rattle.rule_model.specs.Resolution.{as_literal, as_clause, ResolvesInCheck}
 use Rattle.rule_model.specs.TermTests.{term_eq}

@@ -1,3 +1,4 @@
 pub mod Refutations
 pub mod Replies
+pub mod Texts
 pub mod Numbering

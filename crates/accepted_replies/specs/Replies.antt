@@ -1,5 +1,5 @@
 -- Public. Replies of one inference: what they assume, a step by a rule without premises, and the resolution of both to the empty clause.
-use Rattle.std.specs.Prelude.{◌≡◌, ◌⊎◌, ◌≤◌, ◌+◌, ℕ, zero, suc, List, [], ◌∷◌, length, Option, None, IfSome, All, Any, Contains, codes}
+use Rattle.std.specs.Prelude.{◌≡◌, ◌⊎◌, ◌≤◌, ℕ, zero, suc, List, [], ◌∷◌, length, Option, None, IfSome, All, Any, Contains}
 use Rattle.std.specs.List.{AllByRecursion}
 use Rattle.term_model.specs.declared.symbols.Sort.{Sort}
 use Rattle.term_model.specs.Heights.{height}

@@ -1,6 +1,7 @@
 //! Laws of the definitions. The functions do nothing: their contracts are the laws.
-ghost use Rattle.std.specs.Prelude.{◌≡◌, ◌≤◌, ◌+◌, ◌^◌, ℕ, Bool, false, List, [], length};
-ghost use Rattle.term_model.specs.Terms.{Var, Term};
+ghost use Rattle.std.specs.Prelude.{◌≡◌, ◌≤◌, ◌+◌, ◌^◌, ℕ, Bool, false, List, [], length, map, Any};
+ghost use Rattle.std.specs.List.{AllByRecursion};
+ghost use Rattle.term_model.specs.Terms.{Var, Term, not_of};
 ghost use Rattle.rule_model.specs.Proofs.{ProofItems};
 ghost use Rattle.rule_model.specs.Scopes.{outermost};
 ghost use Rattle.problem_text.specs.Problems.{StandsForProblem};
@@ -10,7 +11,7 @@ ghost use Rattle.alethe_text.specs.States.{limited_proof};
 ghost use Rattle.printed_proofs.specs.Numbered.{numbered_proof};
 ghost use Rattle.printed_proofs.specs.PrintedProof.{behind_items};
 ghost use Rattle.accepted_replies.specs.Refutations.{CanBeRead, Refutes, in_check_mode, reply_text, IsAccepted};
-ghost use Rattle.accepted_replies.specs.Replies.{Inference, IsAnswer, AreAssertionsReadable, reply_of};
+ghost use Rattle.accepted_replies.specs.Replies.{Inference, IsNegation, IsAnswer, AreAssertionsReadable, reply_of};
 
 use alethe_text::laws::proofs_are_read_alike_within_limits;
 use printed_proofs::laws::printed_proofs_are_read_back;
@@ -63,6 +64,12 @@ pub fn answers_refute()
     scripts_are_well_sorted();
     proofs_that_pass_have_coefficients();
 }
+
+/// Terms deny the clause of their negations, and the negations of a clause's literals deny that clause.
+pub fn denials_are_denied()
+    ensures of_assumed { (ts : List Term) → AllByRecursion (λ l. Any (λ t. IsNegation t l) ts) (map not_of ts) }
+    ensures of_clause { (ls : List Term) → AllByRecursion (λ l. Any (λ t. IsNegation t l) (map not_of ls)) ls }
+{}
 
 /// The assertions of a problem without defined functions and named terms are readable behind its whole script, whatever its lets bind: each
 /// name in them means there what it meant where it was read.

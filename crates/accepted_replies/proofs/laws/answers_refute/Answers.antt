@@ -1,4 +1,4 @@
-use Rattle.std.proofs.Common.{◌≡◌, ◌≤◌, ℕ, Bool, false, List, [], ◌∷◌, Contains, replicate, subst}
+use Rattle.std.proofs.Common.{◌≤◌, Bool, false, List, [], ◌∷◌, Contains, replicate}
 use Rattle.std.specs.List.{AllByRecursion}
 use Rattle.std.proofs.lemmas.List.Elements.{All-replicate}
 use Rattle.term_model.specs.declared.symbols.Sort.{Sort}

@@ -1,0 +1,4 @@
+mod Asserted
+mod Lists
+mod Room
+mod Replies

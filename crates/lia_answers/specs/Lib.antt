@@ -1,0 +1,3 @@
+pub mod Filling
+pub mod LiaStates
+pub mod Negating

@@ -1,0 +1,2 @@
+pub mod LoneRules
+pub mod Asking

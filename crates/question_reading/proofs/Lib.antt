@@ -1,0 +1,3 @@
+mod CellTrees
+mod LeftOut
+mod ReadQuestions

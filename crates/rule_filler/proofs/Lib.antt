@@ -1,0 +1,2 @@
+mod DenialLemmas
+mod Replies
