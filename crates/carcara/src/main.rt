@@ -15,6 +15,8 @@ use std::{env, io};
 #[cfg(test)]
 mod fill_calls;
 #[cfg(test)]
+mod fill_pool_tests;
+#[cfg(test)]
 mod filling_tests;
 #[cfg(test)]
 mod pool_tests;

@@ -1,8 +1,7 @@
 -- How filling ends where both texts were read and the proof has holes.
-use Rattle.std.proofs.Common.{◌≡◌, ◌⊎◌, inl, inr, ℕ, Bool, List, Result, Ok, Err, Vec, IfOk, IfErr, map, refl, sym, subst}
+use Rattle.std.proofs.Common.{◌≡◌, inr, ℕ, Bool, List, Vec, map, refl, sym, subst}
 use Rattle.std.specs.declared.alloc.Global.{Global}
 use Rattle.sym_table.specs.Table.{Table}
-use Rattle.sym_table.proofs.Tables.{keeps_table}
 use Rattle.term_model.specs.Terms.{Var, Term}
 use Rattle.term_pool.specs.Views.{TermsView}
 use Rattle.rule_model.specs.declared.statuses.Status.{Status}
@@ -21,7 +20,7 @@ use Rattle.judged_texts.specs.Texts.{IsReadProof}
 use Rattle.hole_fillers.specs.Benches.{Seat}
 use Rattle.filled_texts.specs.declared.asking.Stop.{Stop}
 use Rattle.filled_texts.specs.Asking.{ArePut, StopsAmong}
-use Rattle.filled_texts.specs.Filled.{AreAsked, StopsSo, questions, questions_from}
+use Rattle.filled_texts.specs.Filled.{AreAsked, StopsSo, questions_from}
 use Rattle.filled_texts.proofs.OneCheck.{IsOneProof, IsOneScript}
 
 module _ (one_script : IsOneScript) (one_proof : IsOneProof) (problem : List ℕ) (options : Options) (proof : List ℕ) (s : Table) (v : TermsView)

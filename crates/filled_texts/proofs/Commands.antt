@@ -1,5 +1,5 @@
 -- One command more on the way over the commands of a proof.
-use Rattle.std.proofs.Common.{◌≡◌, ◌≢◌, ℕ, zero, suc, ◌+◌, ◌<◌, Bool, List, [], ◌∷◌, ◌++◌, Option, Some, take, drop, slice_get, length, refl, sym, ap, ◌∙◌}
+use Rattle.std.proofs.Common.{◌≡◌, ◌≢◌, ℕ, zero, suc, ◌+◌, ◌<◌, Bool, List, [], ◌∷◌, ◌++◌, Some, take, drop, slice_get, length, refl, sym, ap, ◌∙◌}
 use Rattle.std.proofs.Common.{subst, arith, ◌≤◌, ◌↔◌, true, false, true≢false, IsTrue, add-one, take_all}
 use Rattle.term_model.specs.Terms.{Var, Term}
 use Rattle.term_model.proofs.Lists.{nth_there}

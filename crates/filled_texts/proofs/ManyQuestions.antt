@@ -1,6 +1,6 @@
 -- The questions about the holes of a proof, on the way over its commands.
-use Rattle.std.proofs.Common.{◌≡◌, ◌≢◌, inl, inr, ℕ, zero, suc, ◌+◌, Bool, true, false, List, [], ◌∷◌}
-use Rattle.std.proofs.Common.{◌++◌, Option, Some, None, take, drop, slice_get, refl, sym, ap, ◌∙◌, subst, arith, append_assoc}
+use Rattle.std.proofs.Common.{◌≡◌, ◌≢◌, inl, ℕ, zero, suc, ◌+◌, Bool, List, [], ◌∷◌}
+use Rattle.std.proofs.Common.{◌++◌, Option, Some, None, take, drop, slice_get, refl, ap, subst, arith}
 use Rattle.term_model.specs.Terms.{Var, Term}
 use Rattle.rule_model.specs.declared.kinds.Kind.{Kind}
 use Rattle.rule_model.specs.declared.statuses.Status.{Status}
@@ -8,7 +8,7 @@ use Rattle.rule_model.specs.Proofs.{ProofItems}
 use Rattle.rule_model.specs.Statuses.{Checking, IsStatusBy}
 use Rattle.hole_fillers.specs.Benches.{Seat}
 use Rattle.filled_texts.specs.declared.asking.Stop.{Stop}
-use Rattle.filled_texts.specs.Asking.{ArePut, IsOutOfMemory, StopsNext, StopsAmong}
+use Rattle.filled_texts.specs.Asking.{ArePut, StopsNext, StopsAmong}
 use Rattle.filled_texts.specs.Filled.{question_of, questions_from}
 
 -- some questions, and then others

@@ -1,10 +1,10 @@
 -- What the fillers replied, as it stands in their books, says which questions they were asked and which of these were filled.
-use Rattle.std.proofs.Common.{◌≡◌, ◌⊎◌, inl, inr, ℕ, ◌<◌, Bool, true, false, List, [], ◌∷◌, ◌++◌, Option, Some, None, refl, sym, ap, ◌∙◌, subst, arith}
+use Rattle.std.proofs.Common.{◌≡◌, inl, inr, ℕ, Bool, List, [], ◌∷◌, ◌++◌, Option, Some, None, refl, sym, ap, ◌∙◌, subst, arith}
 use Rattle.std.proofs.Common.{append_assoc, append-nil}
 use Rattle.std.specs.List.{AllZip}
 use Rattle.fillers.specs.Books.{Exchange}
 use Rattle.hole_fillers.specs.Benches.{Seat, asked_seat}
-use Rattle.filled_texts.specs.Asking.{ArePut, FailsNow, FillsNow, IsFilledBy, IsPut, LeavesOpen, Replies}
+use Rattle.filled_texts.specs.Asking.{ArePut, FillsNow, IsFilledBy, IsPut, LeavesOpen, Replies}
 
 -- a book goes on
 record GoesOn (s t : Seat) : Type 0 where

@@ -1,11 +1,11 @@
 -- One question on its way over the fillers.
-use Rattle.std.proofs.Common.{◌≡◌, ◌⊎◌, inl, inr, ℕ, zero, suc, ◌+◌, ◌<◌, ◌≤◌, Bool, true, false, List, [], ◌∷◌, ◌++◌, length, slice_get}
-use Rattle.std.proofs.Common.{slice_set, Some, None, Option, Result, Ok, Err, IfOk, IfErr}
+use Rattle.std.proofs.Common.{◌≡◌, inl, inr, ℕ, zero, suc, ◌+◌, ◌<◌, ◌≤◌, Bool, true, false, List, [], ◌∷◌, ◌++◌, length, slice_get}
+use Rattle.std.proofs.Common.{slice_set, Some, Option, Result, Ok, Err, IfOk, IfErr}
 use Rattle.std.proofs.Common.{IfSome, refl, sym, ap, ◌∙◌, subst, arith, append_assoc, append-nil, length-append}
 use Rattle.std.specs.Option.{option_map_or}
 use Rattle.hole_fillers.specs.Benches.{Seat, asked_seat, budget_at, IsAsked}
 use Rattle.filled_texts.specs.declared.asking.Stop.{Stop}
-use Rattle.filled_texts.specs.Asking.{IsFilledBy, IsNotJudged, IsPut, LeavesOpen, StopsWithin}
+use Rattle.filled_texts.specs.Asking.{IsNotJudged, IsPut, LeavesOpen, StopsWithin}
 use Rattle.filled_texts.specs.Replies.{IsToldOf, IsToldBy, IsToldAt, IsNotToldAt}
 
 -- The question was put to the first fillers, and their replies leave it open. The others are as they were.

@@ -1,5 +1,5 @@
 -- Why a proof of which all holes are filled refutes its problem.
-use Rattle.std.proofs.Common.{◌≡◌, inl, inr, ℕ, zero, suc, ◌<◌, ◌≤◌, true, List, [], ◌∷◌, Some, None, All, slice_get, length, sym, subst, arith, false}
+use Rattle.std.proofs.Common.{◌≡◌, inl, inr, ℕ, zero, suc, ◌<◌, true, List, [], ◌∷◌, Some, All, slice_get, length, subst, arith, false}
 use Rattle.std.proofs.lemmas.List.Elements.{All-head, All-tail}
 use Rattle.term_model.specs.Terms.{Var, Term}
 use Rattle.term_model.specs.Unsatisfiable.{Unsatisfiable}
@@ -10,7 +10,7 @@ use Rattle.rule_model.specs.Proofs.{ProofItems}
 use Rattle.rule_model.specs.Reading.{clause_at, scope_at}
 use Rattle.rule_model.specs.Scopes.{commands_in}
 use Rattle.rule_model.specs.Soundness.{IsJustified, AreJustifiedTo}
-use Rattle.rule_model.specs.Statuses.{Checking, IsStatusAt, Passes}
+use Rattle.rule_model.specs.Statuses.{Checking, Passes}
 use Rattle.rule_model.specs.Truth.{FollowsAt, IsWellSortedProof}
 use Rattle.rule_model.specs.WellFormed.{IsWellFormed}
 use Rattle.problem_text.specs.Problems.{StandsForProblem}

@@ -1,10 +1,9 @@
 -- Public. A proof with one hole that is spelled out, and fillers that are asked about it.
-use Rattle.std.specs.Prelude.{ℕ, Bool, true, false, List, [], ◌∷◌, Option, Some, None, codes}
+use Rattle.std.specs.Prelude.{ℕ, List, [], ◌∷◌, Some, None, codes}
 use Rattle.term_model.specs.Terms.{Var, Term, not_of}
 use Rattle.rule_model.specs.declared.rules.Rule.{Rule}
 use Rattle.rule_model.specs.declared.statuses.Status.{Status}
 use Rattle.rule_model.specs.Proofs.{ProofItems, no_items, with_assume, with_step}
-use Rattle.fillers.specs.Books.{Exchange}
 use Rattle.hole_fillers.specs.Benches.{Seat}
 use Rattle.hole_fillers.specs.Examples.{truth_named, contradiction_text}
 

@@ -12,7 +12,7 @@ use command_words::Options;
 use file_ports::Gate;
 use fillers::Filler;
 use hole_fillers::Bench;
-use judged_texts::{Judgement, LEAST_BITS, MOST_BITS, Workers, judge};
+use judged_texts::{Judgement, LEAST_BITS, MOST_BITS, Scratch, Texts, Workers};
 use problem_text::laws::texts_have_one_reading;
 use rule_model::laws::soundness::statuses_are_unique;
 use std::alloc::Global;
@@ -37,6 +37,14 @@ pub enum Stop {
     PoolFull,
 }
 
+/// How a question and a reply are judged: by whom, where memory is taken from, and in pools of at most 2^most_bits places.
+#[derive(Drop)]
+pub(crate) struct ReplyCheck<'a, R, G> {
+    pub(crate) workers: &'a Workers<'a, R, G>,
+    pub(crate) alloc: Global,
+    pub(crate) most_bits: u32,
+}
+
 /// What the judgement of a question and a reply tells of the reply: whether it fills the question.
 fn told_by(judgement: &Judgement) -> Result<bool, Stop>
     ensures { result ≡ told_by judgement.now }
@@ -50,18 +58,17 @@ fn told_by(judgement: &Judgement) -> Result<bool, Stop>
 
 /// Whether bytes fill a question: whether they are a valid proof of it, by a check without options.
 fn fills<R: Threads + Sync, G: Gate>(
-    workers: &Workers<'_, R, G>,
-    alloc: Global,
+    check: &ReplyCheck<'_, R, G>,
+    scratch: &mut Scratch,
     question: &[u8],
     reply: &[u8],
-    most_bits: u32,
 ) -> Result<bool, Stop>
-    requires workers { IsNumberOfWorkers workers.now.count }
+    requires workers { IsNumberOfWorkers check.now.workers.now.count }
     requires question { length question.now ≤ most_bytes }
-    requires least { LEAST_BITS ≤ most_bits }
-    requires most { most_bits ≤ MOST_BITS }
+    requires least { LEAST_BITS ≤ check.now.most_bits }
+    requires most { check.now.most_bits ≤ MOST_BITS }
     ensures told { IfOk result (IsTold question.now reply.now) }
-    ensures not_told { IfErr result (IsNotTold most_bits question.now reply.now) }
+    ensures not_told { IfErr result (IsNotTold check.now.most_bits question.now reply.now) }
 {
     texts_have_one_reading();
     proof_texts_have_one_reading();
@@ -69,7 +76,12 @@ fn fills<R: Threads + Sync, G: Gate>(
     if reply.len() > MOST_BYTES {
         return Ok(false);
     }
-    let Ok(judgement) = judge(workers, alloc, question, PLAIN, reply, most_bits) else {
+    let texts = Texts {
+        problem: question,
+        proof: reply,
+        options: PLAIN,
+    };
+    let Ok(judgement) = scratch.judge(check.workers, check.alloc, &texts, check.most_bits) else {
         return Err(Stop::Memory);
     };
     told_by(&judgement)
@@ -77,21 +89,20 @@ fn fills<R: Threads + Sync, G: Gate>(
 
 /// Whether a reply fills a question. Where there is none, it doesn't.
 fn reply_fills<R: Threads + Sync, G: Gate>(
-    workers: &Workers<'_, R, G>,
-    alloc: Global,
+    check: &ReplyCheck<'_, R, G>,
+    scratch: &mut Scratch,
     question: &[u8],
     reply: &Option<Vec<u8>>,
-    most_bits: u32,
 ) -> Result<bool, Stop>
-    requires workers { IsNumberOfWorkers workers.now.count }
+    requires workers { IsNumberOfWorkers check.now.workers.now.count }
     requires question { length question.now ≤ most_bytes }
-    requires least { LEAST_BITS ≤ most_bits }
-    requires most { most_bits ≤ MOST_BITS }
+    requires least { LEAST_BITS ≤ check.now.most_bits }
+    requires most { check.now.most_bits ≤ MOST_BITS }
     ensures told { IfOk result (IsToldOf question.now (reply_bytes reply.now)) }
-    ensures not_told { IfErr result (IsNotJudged most_bits question.now (reply_bytes reply.now)) }
+    ensures not_told { IfErr result (IsNotJudged check.now.most_bits question.now (reply_bytes reply.now)) }
 {
     match reply {
-        Some(bytes) => fills(workers, alloc, question, bytes, most_bits),
+        Some(bytes) => fills(check, scratch, question, bytes),
         None => Ok(false),
     }
 }
@@ -99,23 +110,22 @@ fn reply_fills<R: Threads + Sync, G: Gate>(
 /// Puts a question to the filler of a place, from 0, where it may be asked, and says whether its reply fills the question.
 #[tactic(auto, using(crate::proofs::Putting::not_asked, crate::proofs::Putting::no_memory, crate::proofs::Putting::told_at, crate::proofs::Putting::not_told_at,))]
 fn put_to<R: Threads + Sync, G: Gate>(
-    workers: &Workers<'_, R, G>,
-    alloc: Global,
+    check: &ReplyCheck<'_, R, G>,
+    scratch: &mut Scratch,
     bench: &mut Bench,
     i: usize,
     question: &[u8],
-    most_bits: u32,
 ) -> Result<bool, Stop>
-    requires workers { IsNumberOfWorkers workers.now.count }
+    requires workers { IsNumberOfWorkers check.now.workers.now.count }
     requires question { length question.now ≤ most_bytes }
-    requires least { LEAST_BITS ≤ most_bits }
-    requires most { most_bits ≤ MOST_BITS }
+    requires least { LEAST_BITS ≤ check.now.most_bits }
+    requires most { check.now.most_bits ≤ MOST_BITS }
     requires place { i < length
         (seats (λ b. (⟦<dyn Filler as Filler>⟧ b.vtable).budget b.value) (λ b. (⟦<dyn Filler as Filler>⟧ b.vtable).book b.value) bench.old.fillers.items) }
     ensures told { IfOk result (IsToldAt question.now i
         (seats (λ b. (⟦<dyn Filler as Filler>⟧ b.vtable).budget b.value) (λ b. (⟦<dyn Filler as Filler>⟧ b.vtable).book b.value) bench.old.fillers.items)
         (seats (λ b. (⟦<dyn Filler as Filler>⟧ b.vtable).budget b.value) (λ b. (⟦<dyn Filler as Filler>⟧ b.vtable).book b.value) bench.new.fillers.items)) }
-    ensures not_told { IfErr result (IsNotToldAt most_bits question.now i
+    ensures not_told { IfErr result (IsNotToldAt check.now.most_bits question.now i
         (seats (λ b. (⟦<dyn Filler as Filler>⟧ b.vtable).budget b.value) (λ b. (⟦<dyn Filler as Filler>⟧ b.vtable).book b.value) bench.old.fillers.items)
         (seats (λ b. (⟦<dyn Filler as Filler>⟧ b.vtable).budget b.value) (λ b. (⟦<dyn Filler as Filler>⟧ b.vtable).book b.value) bench.new.fillers.items)) }
 {
@@ -125,32 +135,31 @@ fn put_to<R: Threads + Sync, G: Gate>(
     let Ok(reply) = bench.ask(i, question) else {
         return Err(Stop::Memory);
     };
-    reply_fills(workers, alloc, question, &reply, most_bits)
+    reply_fills(check, scratch, question, &reply)
 }
 
 /// Puts a question to the fillers on a bench in their order, to each of them that may be asked, until a reply fills it, and says whether
 /// one did. It may stop at a filler that is out of memory, or at a reply that could not be judged.
 #[tactic(auto, using(crate::proofs::Putting::as_many, crate::proofs::Putting::ends, crate::proofs::Putting::failed,))]
 pub(crate) fn put<R: Threads + Sync, G: Gate>(
-    workers: &Workers<'_, R, G>,
-    alloc: Global,
+    check: &ReplyCheck<'_, R, G>,
+    scratch: &mut Scratch,
     bench: &mut Bench,
     question: &[u8],
-    most_bits: u32,
 ) -> Result<bool, Stop>
-    requires workers { IsNumberOfWorkers workers.now.count }
+    requires workers { IsNumberOfWorkers check.now.workers.now.count }
     requires question { length question.now ≤ most_bytes }
-    requires least { LEAST_BITS ≤ most_bits }
-    requires most { most_bits ≤ MOST_BITS }
+    requires least { LEAST_BITS ≤ check.now.most_bits }
+    requires most { check.now.most_bits ≤ MOST_BITS }
     ensures put { IfOk result (IsPut question.now
         (seats (λ b. (⟦<dyn Filler as Filler>⟧ b.vtable).budget b.value) (λ b. (⟦<dyn Filler as Filler>⟧ b.vtable).book b.value) bench.old.fillers.items)
         (seats (λ b. (⟦<dyn Filler as Filler>⟧ b.vtable).budget b.value) (λ b. (⟦<dyn Filler as Filler>⟧ b.vtable).book b.value) bench.new.fillers.items)) }
-    ensures stops { IfErr result (StopsWithin most_bits question.now
+    ensures stops { IfErr result (StopsWithin check.now.most_bits question.now
         (seats (λ b. (⟦<dyn Filler as Filler>⟧ b.vtable).budget b.value) (λ b. (⟦<dyn Filler as Filler>⟧ b.vtable).book b.value) bench.old.fillers.items)
         (seats (λ b. (⟦<dyn Filler as Filler>⟧ b.vtable).budget b.value) (λ b. (⟦<dyn Filler as Filler>⟧ b.vtable).book b.value) bench.new.fillers.items)) }
 {
     'fillers: for i in 0..bench.count() {
-        match put_to(workers, alloc, bench, i, question, most_bits) {
+        match put_to(check, scratch, bench, i, question) {
             Ok(is_filled) => {
                 if is_filled {
                     return Ok(true);

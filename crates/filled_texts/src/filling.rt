@@ -8,8 +8,8 @@ ghost use Rattle.filled_texts.specs.Filled.{AreAskedInOrder, EndsSo};
 ghost use Rattle.filled_texts.specs.ToFill.{is_full, FillsFrom, MayBeFilled, WereRead};
 ghost use Rattle.judged_texts.specs.Reading.{most_bytes};
 
-use crate::asking::Stop;
-use crate::holes::{AskedHoles, Checked, ask_about_holes};
+use crate::asking::{ReplyCheck, Stop};
+use crate::holes::{AskedHoles, Checked, ask_with_scratch};
 use alethe_text::laws::proof_texts_have_one_reading;
 use file_ports::Gate;
 use fillers::Filler;
@@ -75,7 +75,6 @@ fn fill_read<R: Threads + Sync, G: Gate>(
         proof: &both.proof,
         symbols,
         unknown_are_holes: to_fill.texts.options.ignores_unknown_rules,
-        most_bits: to_fill.most_bits,
     };
     // A reply is checked by one worker.
     let one = Workers {
@@ -83,7 +82,12 @@ fn fill_read<R: Threads + Sync, G: Gate>(
         gate: workers.gate,
         count: 1,
     };
-    match ask_about_holes(&one, alloc, &checked, &mut terms, bench) {
+    let check = ReplyCheck {
+        workers: &one,
+        alloc,
+        most_bits: to_fill.most_bits,
+    };
+    match ask_with_scratch(&check, &checked, &mut terms, bench) {
         Ok(filled) => End::Asked(AskedHoles { holes, filled }),
         Err(stop) => End::Stopped(stop),
     }
@@ -146,9 +150,10 @@ fn fill_into<R: Threads + Sync, G: Gate>(
         return End::Stopped(Stop::Memory);
     };
     let Ok((mut pool, pass)) = Pool::new(alloc, bits) else {
+        drop(symbols);
         return End::Stopped(Stop::Memory);
     };
-    fill_with(
+    let end = fill_with(
         workers,
         alloc,
         to_fill,
@@ -156,7 +161,11 @@ fn fill_into<R: Threads + Sync, G: Gate>(
         &mut pool,
         pass,
         bench,
-    )
+    );
+    // What owns much is let go by a call: let go in parts, at the end of a scope, it is dear to prove.
+    drop(pool);
+    drop(symbols);
+    end
 }
 
 /// Whether a larger pool is to be tried. Then nobody was asked yet.

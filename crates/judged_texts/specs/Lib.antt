@@ -8,3 +8,4 @@ pub mod Pools
 pub mod Texts
 pub mod Naming
 pub mod Judging
+pub mod Tables

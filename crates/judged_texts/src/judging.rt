@@ -1,5 +1,5 @@
 //! The judgement of the two texts.
-ghost use Rattle.std.specs.Prelude.{◌≡◌, ◌<◌, ◌≤◌, ◌^◌, ℕ, List, [], length, IfErr, IfOk};
+ghost use Rattle.std.specs.Prelude.{◌≡◌, ◌<◌, ◌≤◌, ◌^◌, ℕ, List, [], length, IfErr, IfOk, OnOk};
 ghost use Rattle.pair_pool.specs.Views.{IsForMany, IsPassOf};
 ghost use Rattle.term_reader.specs.ProblemViews.{IsNewTable};
 ghost use Rattle.proof_store.specs.Meaning.{StandForItems};
@@ -15,6 +15,7 @@ ghost use Rattle.command_words.specs.declared.request.Options.{Options as Chosen
 ghost use Rattle.judged_texts.specs.Reading.{IsReadOf};
 ghost use Rattle.judged_texts.specs.Pools.{HoldsOnly};
 ghost use Rattle.judged_texts.specs.Judgement.{IsJudgement};
+ghost use Rattle.judged_texts.specs.Tables.{AreEmpty, HasForItself};
 ghost use Rattle.judged_texts.specs.Judging.{Corresponds, IsJudgedProof};
 ghost use Rattle.judged_texts.specs.Texts.{IsReadProof};
 ghost use Rattle.judged_texts.specs.Reading.{most_bytes};
@@ -23,6 +24,7 @@ use crate::judgement::Judgement;
 use crate::laws::proofs_have_scoped_terms;
 use crate::naming::named;
 use crate::pools::{LEAST_BITS, MOST_BITS, pool_bits, pool_full};
+use crate::tables::{Tables, new_tables};
 use crate::texts::{Both, Read, Texts, flags_of, read_for};
 use alethe_text::laws::proofs_are_short;
 use command_words::Options;
@@ -165,8 +167,8 @@ pub fn judge_read<R: Threads + Sync, G: Gate>(
     }
 }
 
-/// What the texts come to, with a new table of symbols and a new pool, and its first pass. The texts are read by one worker, which
-/// has the pool for itself until both are read.
+/// What the texts come to, with an empty table of symbols, and an empty pool and its pass, which is given back. The texts are read by one
+/// worker, which has the pool for itself until both are read.
 fn judge_with<R: Threads + Sync, G: Gate>(
     workers: &Workers<'_, R, G>,
     alloc: Global,
@@ -174,7 +176,7 @@ fn judge_with<R: Threads + Sync, G: Gate>(
     symbols: &mut Symbols,
     pool: &mut Pool,
     pass: Pass,
-) -> Result<Judgement, Memory>
+) -> Result<(Judgement, Pass), Memory>
     requires workers { IsNumberOfWorkers workers.now.count }
     requires problem { length texts.now.problem.now ≤ most_bytes }
     requires proof { length texts.now.proof.now ≤ most_bytes }
@@ -182,7 +184,10 @@ fn judge_with<R: Threads + Sync, G: Gate>(
     requires of_pool { IsPassOf pool.old pass }
     requires nothing { pass.view.placed ≡ [] }
     requires shares { pass.view.shares ≡ 65 }
-    ensures { (bits : ℕ) → pass.view.places ≡ 2 ^ bits → IfOk result (IsJudgement texts.now.problem.now texts.now.options texts.now.proof.now bits) }
+    ensures judged { (bits : ℕ) → pass.view.places ≡ 2 ^ bits →
+        IfOk result (λ made. IsJudgement texts.now.problem.now texts.now.options texts.now.proof.now bits made.0) }
+    ensures of_pool { IfOk result (λ made. IsPassOf pool.new made.1) }
+    ensures alone { OnOk result (workers.now.count ≤ 1 → pool.new ≡ pool.old) }
 {
     let (read, pass) = read_for(workers.count, alloc, texts, symbols, pool, pass)?;
     match read {
@@ -190,10 +195,43 @@ fn judge_with<R: Threads + Sync, G: Gate>(
             let mut terms = Terms::new(pool, pass);
             let judged = judge_read(workers, alloc, texts, &both, symbols, &mut terms);
             drop(both);
-            judged
+            match judged {
+                Ok(judgement) => Ok((judgement, terms.into_pass())),
+                Err(memory) => Err(memory),
+            }
         }
-        Read::Not(judgement) => Ok(judgement),
+        Read::Not(judgement) => Ok((judgement, pass)),
     }
+}
+
+/// What the texts come to, with empty tables, which are given back with what stands in them then.
+pub(crate) fn judge_on<R: Threads + Sync, G: Gate>(
+    workers: &Workers<'_, R, G>,
+    alloc: Global,
+    texts: &Texts<'_>,
+    tables: Tables,
+) -> Result<(Judgement, Tables), Memory>
+    requires workers { IsNumberOfWorkers workers.now.count }
+    requires problem { length texts.now.problem.now ≤ most_bytes }
+    requires proof { length texts.now.proof.now ≤ most_bytes }
+    requires empty { AreEmpty tables }
+    ensures judged { IfOk result (λ made. IsJudgement texts.now.problem.now texts.now.options texts.now.proof.now tables.pool.bits made.0) }
+    ensures alone { workers.now.count ≤ 1 → IfOk result (λ made. HasForItself made.1 tables.pool.bits) }
+{
+    let Tables {
+        mut symbols,
+        mut pool,
+        pass,
+    } = tables;
+    let (judgement, pass) = judge_with(workers, alloc, texts, &mut symbols, &mut pool, pass)?;
+    Ok((
+        judgement,
+        Tables {
+            symbols,
+            pool,
+            pass,
+        },
+    ))
 }
 
 /// What the texts come to, with a new pool with so many bits.
@@ -210,13 +248,43 @@ fn judge_into<R: Threads + Sync, G: Gate>(
     requires proof { length texts.now.proof.now ≤ most_bytes }
     ensures { IfOk result (IsJudgement texts.now.problem.now texts.now.options texts.now.proof.now bits) }
 {
-    let Ok(mut symbols) = Symbols::new(alloc) else {
-        return Err(Memory);
-    };
-    let Ok((mut pool, pass)) = Pool::new(alloc, bits) else {
-        return Err(Memory);
-    };
-    judge_with(workers, alloc, texts, &mut symbols, &mut pool, pass)
+    let tables = new_tables(alloc, bits)?;
+    let (judgement, _tables) = judge_on(workers, alloc, texts, tables)?;
+    Ok(judgement)
+}
+
+/// What the texts come to, with a new pool with so many bits. Where it is full, with larger ones, up to one with the most bits.
+pub(crate) fn judge_from<R: Threads + Sync, G: Gate>(
+    workers: &Workers<'_, R, G>,
+    alloc: Global,
+    texts: &Texts<'_>,
+    first_bits: u32,
+    most_bits: u32,
+) -> Result<Judgement, Memory>
+    requires workers { IsNumberOfWorkers workers.now.count }
+    requires problem { length texts.now.problem.now ≤ most_bytes }
+    requires proof { length texts.now.proof.now ≤ most_bytes }
+    requires least { LEAST_BITS ≤ first_bits }
+    requires within { first_bits ≤ most_bits }
+    requires most { most_bits ≤ MOST_BITS }
+    ensures { IfOk result (IsJudgement texts.now.problem.now texts.now.options texts.now.proof.now most_bits) }
+{
+    for bits in first_bits..most_bits {
+        match judge_into(workers, alloc, bits, texts)? {
+            Judgement::PoolFull => {}
+            judgement => return Ok(judgement),
+        }
+    }
+    judge_into(workers, alloc, most_bits, texts)
+}
+
+/// The number of bytes by which the size of two texts' first pool is chosen: a proof's count an eighth.
+pub(crate) fn bytes_of(texts: &Texts<'_>) -> usize
+    requires problem { length texts.now.problem.now ≤ most_bytes }
+    requires proof { length texts.now.proof.now ≤ most_bytes }
+    ensures { result ≤ 2 ^ 30 }
+{
+    texts.problem.len() + texts.proof.len() / 8
 }
 
 /// Judges the texts of a problem and of a proof, by the options of a check. The terms are read
@@ -245,11 +313,6 @@ pub fn judge<R: Threads + Sync, G: Gate>(
         proof,
         options,
     };
-    for bits in pool_bits(problem.len() + proof.len() / 8, most_bits)..most_bits {
-        match judge_into(workers, alloc, bits, &texts)? {
-            Judgement::PoolFull => {}
-            judgement => return Ok(judgement),
-        }
-    }
-    judge_into(workers, alloc, most_bits, &texts)
+    let first_bits = pool_bits(bytes_of(&texts), most_bits);
+    judge_from(workers, alloc, &texts, first_bits, most_bits)
 }

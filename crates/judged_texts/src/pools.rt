@@ -55,6 +55,7 @@ pub(crate) fn share_among(
     ensures of_pool { OnOk result (IsPassOf pool.new pass.new) }
     ensures view { OnOk result (pass.new.view ≡ pass.old.view) }
     ensures for_many { OnOk result (1 < workers → IsForMany pool.new) }
+    ensures alone { workers ≤ 1 → pool.new ≡ pool.old }
 {
     if workers > 1 {
         pool.share(alloc, pass)?;

@@ -163,6 +163,7 @@ pub fn read_for(
         (record { pool = pool.new; pass = made.1.view }) made.0) }
     ensures of_pool { IfOk result (λ made. IsPassOf pool.new made.1) }
     ensures for_many { OnOk result (1 < workers → IsForMany pool.new) }
+    ensures alone { OnOk result (workers ≤ 1 → pool.new ≡ pool.old) }
     ensures shares { IfOk result (λ made. made.1.view.shares ≡ 65) }
     ensures places { IfOk result (λ made. made.1.view.places ≡ pass.view.places) }
 {

@@ -13,10 +13,10 @@ returns g c =
           subst (λ x. IfOk x (IsTold q r)) (sym c.told_by.ensures)
           (tells c.texts_have_one_reading.ensures.script c.proof_texts_have_one_reading.ensures.proof c.statuses_are_unique.ensures.status
           c.statuses_are_unique.ensures.verdict c.texts_have_one_reading.ensures.not_both c.proof_texts_have_one_reading.ensures.not_both q r
-          c.args.most_bits c.requires.question short c.in-Ok.judgement c.in-Ok.ensures);
+          c.args.check.now.most_bits c.requires.question short c.in-Ok.judgement c.in-Ok.ensures);
       not_told =
-          subst (λ x. IfErr x (IsNotTold c.args.most_bits q r)) (sym c.told_by.ensures)
+          subst (λ x. IfErr x (IsNotTold c.args.check.now.most_bits q r)) (sym c.told_by.ensures)
           (stops c.texts_have_one_reading.ensures.script c.proof_texts_have_one_reading.ensures.proof c.statuses_are_unique.ensures.status
           c.statuses_are_unique.ensures.verdict c.texts_have_one_reading.ensures.not_both c.proof_texts_have_one_reading.ensures.not_both q r
-          c.args.most_bits c.requires.question short c.in-Ok.judgement c.in-Ok.ensures);
+          c.args.check.now.most_bits c.requires.question short c.in-Ok.judgement c.in-Ok.ensures);
     }

@@ -25,7 +25,7 @@ returns-in-Err-clause-stops g c = λ d proof statuses stand same are.
     let is : c.rule.result ≡ rule_at proof c.commands.index = c.rule.ensures ∙ c.commands_correspond.ensures.rule s c.args.terms.now r proof c.commands.index stand in
     let stands : StandForItems s c.commands.terms r proof = subst (λ v. StandForItems s v r proof) (sym c.commands.invariant.same) stand in
     stops_here d proof statuses are c.commands.index c.rule.result c.args.checked.now.unknown_are_holes c.leaves_hole.result same is c.leaves_hole.ensures less
-    _ _ c.commands.filled.items (c.commands.invariant.put d proof statuses stand same are) c.if-not-leaves_hole.false _ c.args.checked.now.most_bits
+    _ _ c.commands.filled.items (c.commands.invariant.put d proof statuses stand same are) c.if-not-leaves_hole.false _ c.args.check.now.most_bits
     c.in-Err.stop (c.in-Err.ensures.stops proof stands)
 
 pub returns-then-is_err-clause-stops : goal.returns-then-is_err-clause-stops
@@ -35,7 +35,7 @@ returns-then-is_err-clause-stops g c = λ d proof statuses stand same are.
     let less : c.commands.index < commands_in proof = subst (λ n. c.commands.index < n) (c.count-index-end.ensures.count ∙ c.commands_correspond.ensures.commands s c.args.terms.now r proof stand) c.commands-test.true in
     let is : c.rule.result ≡ rule_at proof c.commands.index = c.rule.ensures ∙ c.commands_correspond.ensures.rule s c.args.terms.now r proof c.commands.index stand in
     let stands : StandForItems s c.commands.terms r proof = subst (λ v. StandForItems s v r proof) (sym c.commands.invariant.same) stand in
-    out_of_memory c.args.checked.now.most_bits proof statuses (c.commands.index + 1) _ _ (c.commands.filled.items ++ c.in-Ok.is_filled ∷ [])
+    out_of_memory c.args.check.now.most_bits proof statuses (c.commands.index + 1) _ _ (c.commands.filled.items ++ c.in-Ok.is_filled ∷ [])
     (asked_next d proof statuses are c.commands.index c.rule.result c.args.checked.now.unknown_are_holes c.leaves_hole.result same is c.leaves_hole.ensures less
     _ _ c.commands.filled.items (c.commands.invariant.put d proof statuses stand same are) c.if-not-leaves_hole.false _ c.in-Ok.is_filled
     (c.in-Ok.ensures.put proof stands))

@@ -1,9 +1,9 @@
-use Rattle.std.proofs.Common.{◌≡◌, inl, inr, ℕ, true, false, List, [], ◌∷◌, Some, refl, sym, subst, arith}
+use Rattle.std.proofs.Common.{◌≡◌, inl, inr, true, false, [], ◌∷◌, Some, refl, sym, subst, arith}
 use Rattle.std.specs.Fmt.{digits}
 use Rattle.sexpr.specs.Characters.{is_word_byte, is_mark}
 use Rattle.rule_model.specs.Replacement.{free_variables, free_among, free_bound}
 use Rattle.hole_fillers.specs.Examples.{contradiction_text}
-use Rattle.filled_texts.specs.Asking.{ArePut, Fills}
+use Rattle.filled_texts.specs.Asking.{ArePut}
 use Rattle.filled_texts.specs.Examples.{with_hole, with_hole_statuses, unasked, asked_once, filling_reply, holey_reply}
 use Rattle.filled_texts.specs.Filled.{questions_from}
 use Rattle.filled_texts.proofs.laws.holes_are_asked_about.Goals as goal

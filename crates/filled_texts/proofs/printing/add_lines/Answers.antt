@@ -1,4 +1,4 @@
-use Rattle.std.proofs.Common.{sym, ◌∙◌, arith}
+use Rattle.std.proofs.Common.{arith}
 use Rattle.filled_texts.proofs.Lines.{none_more, one_more}
 use Rattle.filled_texts.proofs.printing.add_lines.Goals as goal
 
